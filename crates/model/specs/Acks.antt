@@ -1,0 +1,51 @@
+-- Document 01, "Ack": the running tally of one number, read off the acks that are recorded for it.
+use Prim.Native.Nat.{ℕ, _+_, _-_, _*_}
+use mathlib.Core.Bool.{Bool, true, false}
+use mathlib.Core.List.{List}
+use lib.Dec.{leb, ltb}
+use Rattle.model.specs.Basics.{count, any, every}
+use Rattle.model.specs.Transfers.{equal, conflict}
+use Rattle.model.specs.declared.Transfer.{Transfer}
+use Rattle.model.specs.declared.Slot.{Slot}
+use Rattle.model.specs.declared.Slot.the-variants.{Empty, Full}
+use Rattle.model.specs.declared.AckSlot.{AckSlot}
+
+-- the place holds a slip equal to this one
+abbrev pub holds : Transfer → Slot → Bool
+holds t Empty = false
+holds t (Full u) = equal u t
+
+abbrev pub isFull : Slot → Bool
+isFull Empty = false
+isFull (Full u) = true
+
+-- the count of acks equal to this slip
+abbrev pub acksFor : Transfer → List AckSlot → ℕ
+acksFor t acks = count (λ a. holds t (a .slot)) acks
+
+-- how many seats' acks are recorded
+abbrev pub acksRecorded : List AckSlot → ℕ
+acksRecorded acks = count (λ a. isFull (a .slot)) acks
+
+-- "If twice the count of acks equal to this slip exceeds n + 3f"
+abbrev pub enough : ℕ → ℕ → ℕ → Bool
+enough n f acks = ltb (n + 3 * f) (2 * acks)
+
+-- the two places hold slips that conflict
+abbrev pub slotsConflict : Slot → Slot → Bool
+slotsConflict Empty v = false
+slotsConflict (Full t) Empty = false
+slotsConflict (Full t) (Full u) = conflict t u
+
+-- "two of them conflict"
+abbrev pub twoConflict : List AckSlot → Bool
+twoConflict acks = any (λ a. any (λ b. slotsConflict (a .slot) (b .slot)) acks) acks
+
+-- the slip in this place, if any, has no more than c of the acks
+abbrev pub noMoreThan : ℕ → List AckSlot → Slot → Bool
+noMoreThan c acks Empty = true
+noMoreThan c acks (Full u) = leb (acksFor u acks) c
+
+-- "a slip that has the most acks": no slip has more
+unfoldable pub hasMost : List AckSlot → Transfer → Bool
+hasMost acks t = every (λ a. noMoreThan (acksFor t acks) acks (a .slot)) acks

@@ -1,0 +1,33 @@
+-- Sums, counts and searches over lists and over numbers, which the definitions share.
+use Prim.Native.Nat.{ℕ, zero, suc, _+_}
+use mathlib.Core.Bool.{Bool, true, false, cond, _&&_, _||_}
+use mathlib.Core.List.{List, [], _∷_}
+use mathlib.Core.Option.{Option, none, some}
+
+abbrev pub bit : Bool → ℕ
+bit true = 1
+bit false = 0
+
+-- the sum of a number of each element
+abbrev pub sumOf : {A : Type 0} → (A → ℕ) → List A → ℕ
+sumOf f [] = 0
+sumOf f (x ∷ xs) = f x + sumOf f xs
+
+-- how many elements pass the test
+abbrev pub count : {A : Type 0} → (A → Bool) → List A → ℕ
+count p xs = sumOf (λ x. bit (p x)) xs
+
+-- some element passes the test
+abbrev pub any : {A : Type 0} → (A → Bool) → List A → Bool
+any p [] = false
+any p (x ∷ xs) = p x || any p xs
+
+-- every element passes the test
+abbrev pub every : {A : Type 0} → (A → Bool) → List A → Bool
+every p [] = true
+every p (x ∷ xs) = p x && every p xs
+
+-- the lowest of the `left` numbers from `i` on that passes the test
+abbrev pub firstWhere : (ℕ → Bool) → ℕ → ℕ → Option ℕ
+firstWhere p zero i = none
+firstWhere p (suc left) i = cond (p i) (some i) (firstWhere p left (suc i))

@@ -1,0 +1,152 @@
+-- Document 01, "The bundle: contents, then bodies". A bundle is a list of bytes.
+use Prim.Native.Nat.{ℕ, zero, suc, _+_, _*_, _%_}
+use mathlib.Core.Bool.{Bool, not, cond, _&&_, _||_, Bool·beq}
+use mathlib.Core.List.{List, [], _∷_}
+use mathlib.Core.Option.{Option, none, some}
+use lib.Dec.{leb, ltb, eqb}
+use lib.ListN.{length, getD, take, drop}
+use Rattle.model.specs.Basics.{firstWhere}
+use Rattle.model.specs.declared.Account.{Account}
+use Rattle.model.specs.declared.Transfer.{Transfer}
+use Rattle.model.specs.declared.Opening.{Opening}
+use Rattle.model.specs.declared.Message.{Message}
+use Rattle.model.specs.declared.Message.the-variants.{Request, Circulated, Ack, Decision, Inquiry}
+use Rattle.model.specs.declared.Refusal.{Refusal}
+use Rattle.model.specs.declared.Refusal.the-variants.{BadHeader, BadContents, BadEnd, BadSum}
+use Rattle.model.specs.declared.ContentsEntry.{ContentsEntry}
+use Rattle.model.specs.declared.BundleReply.{BundleReply}
+use Rattle.model.specs.declared.BundleReply.the-variants.{Sound, BundleRefused}
+
+-- "Numbers are little-endian": of 2 and of 4 bytes, at a place
+abbrev pub number2 : List ℕ → ℕ → ℕ
+number2 bytes at = getD bytes at 0 + 256 * getD bytes (at + 1) 0
+
+abbrev pub number4 : List ℕ → ℕ → ℕ
+number4 bytes at = number2 bytes at + 65_536 * number2 bytes (at + 2)
+
+-- "First m in two bytes"
+abbrev pub entryCount : List ℕ → ℕ
+entryCount bytes = number2 bytes 0
+
+-- "then m entries of 8 bytes: kind (1), seat (1), start (2), sum (4)"
+abbrev pub contentsAt : List ℕ → ℕ → ContentsEntry
+contentsAt bytes i =
+    record {
+      kind = getD bytes (2 + 8 * i) 0;
+      seat = getD bytes (3 + 8 * i) 0;
+      start = number2 bytes (4 + 8 * i);
+      sum = number4 bytes (6 + 8 * i);
+    }
+
+-- "Body lengths for kinds 0 to 5 are 131, 10, 10, 10, 10 and 1 bytes."
+abbrev pub bodyLengths : List ℕ
+bodyLengths = 131 ∷ 10 ∷ 10 ∷ 10 ∷ 10 ∷ 1 ∷ []
+
+abbrev pub bodyLength : ℕ → ℕ
+bodyLength kind = getD bodyLengths kind 0
+
+-- where the body of entry i starts: "the first at 2 + 8m, each next where the one before it ends"
+abbrev pub startAt : List ℕ → ℕ → ℕ
+startAt bytes zero = 2 + 8 * entryCount bytes
+startAt bytes (suc i) = startAt bytes i + bodyLength (contentsAt bytes i .kind)
+
+-- "The sum begins at 0; each body byte replaces it by 31 × sum + byte modulo 4,294,967,296."
+abbrev pub sumFrom : ℕ → List ℕ → ℕ
+sumFrom s [] = s
+sumFrom s (b ∷ bs) = sumFrom ((31 * s + b) % 4_294_967_296) bs
+
+abbrev pub bodySum : List ℕ → ℕ
+bodySum body = sumFrom 0 body
+
+-- an entry with its body is a page; "What a page shows is that body's own bytes in the bundle."
+pub record Page : Type 0 where
+  pub kind : ℕ
+  pub seat : ℕ
+  pub body : List ℕ
+
+abbrev pub pageOf : List ℕ → ContentsEntry → Page
+pageOf bytes c = record { kind = c .kind; seat = c .seat; body = take (bodyLength (c .kind)) (drop (c .start) bytes) }
+
+abbrev pub pageAt : List ℕ → ℕ → Page
+pageAt bytes i = pageOf bytes (contentsAt bytes i)
+
+-- 13: fewer than 2 bytes, m outside 1 to 1,000, or fewer than 2 + 8m bytes
+abbrev pub badHeader : List ℕ → Bool
+badHeader bytes =
+    ltb (length bytes) 2 || ltb (entryCount bytes) 1 || ltb 1_000 (entryCount bytes)
+    || ltb (length bytes) (2 + 8 * entryCount bytes)
+
+-- 14: kind above 5, kind 0 misplaced (entry 0 has kind 0 and no other entry has), seat (0 unless the kind is 3) or start wrong
+abbrev pub wrongEntry : ℕ → ℕ → ContentsEntry → Bool
+wrongEntry i start c =
+    ltb 5 (c .kind) || not (Bool·beq (eqb (c .kind) 0) (eqb i 0)) || (not (eqb (c .kind) 3) && not (eqb (c .seat) 0))
+    || not (eqb (c .start) start)
+
+abbrev pub firstBadEntry : List ℕ → Option ℕ
+firstBadEntry bytes = firstWhere (λ i. wrongEntry i (startAt bytes i) (contentsAt bytes i)) (entryCount bytes) 0
+
+-- 15: the bundle does not end with its last body
+abbrev pub badEnd : List ℕ → Bool
+badEnd bytes = not (eqb (length bytes) (startAt bytes (entryCount bytes)))
+
+-- 16: a wrong sum
+abbrev pub firstBadSum : List ℕ → Option ℕ
+firstBadSum bytes = firstWhere (λ i. not (eqb (contentsAt bytes i .sum) (bodySum (pageAt bytes i .body)))) (entryCount bytes) 0
+
+-- a refusal that names the lowest entry at fault, or what the checks behind it say
+abbrev pub refusedAt : Refusal → Option ℕ → BundleReply → BundleReply
+refusedAt r none rest = rest
+refusedAt r (some i) rest = BundleRefused r i
+
+-- "Codes 13, 14, 15, 16 are tried in that order over the whole bundle, the lowest entry first". 13 and 15 name entry 0.
+unfoldable pub checkBundle : List ℕ → BundleReply
+checkBundle bytes =
+    cond
+    (badHeader bytes)
+    (BundleRefused BadHeader 0)
+    (refusedAt
+    BadContents
+    (firstBadEntry bytes)
+    (cond (badEnd bytes) (BundleRefused BadEnd 0) (refusedAt BadSum (firstBadSum bytes) (Sound (entryCount bytes)))))
+
+-- What a reading finds: a page and the next entry, or no more pages and the place where it stays.
+pub data Reading : Type 0 where
+  page : Page → ℕ → Reading
+  noMore : ℕ → Reading
+
+-- "A reading of a bundle goes on from the page last taken. After the last page it replies that there are no more, and stays there."
+abbrev pub readNext : List ℕ → ℕ → Reading
+readNext bytes i = cond (ltb i (entryCount bytes)) (page (pageAt bytes i) (i + 1)) (noMore i)
+
+-- "Kind 0 is the opening page: n, f, k (1 byte each), 32 balances (4 each)."
+abbrev pub balancesFrom : ℕ → ℕ → List ℕ → List ℕ
+balancesFrom zero at body = []
+balancesFrom (suc left) at body = number4 body at ∷ balancesFrom left (at + 4) body
+
+abbrev pub openingOf : List ℕ → Opening
+openingOf body =
+    record {
+      seats = getD body 0 0;
+      faults = getD body 1 0;
+      accounts = getD body 2 0;
+      balances = balancesFrom 32 3 body;
+    }
+
+-- "account (1), number (4), value (4), recipient (1)"
+abbrev pub transferOf : List ℕ → Transfer
+transferOf body =
+    record {
+      account = record { 0 = getD body 0 0 };
+      number = number4 body 1;
+      value = number4 body 5;
+      recipient = record { 0 = getD body 9 0 };
+    }
+
+-- "Kinds 1 to 4 are request, slip, ack, ruling". "Kind 5 is a balance question: account." Any other kind is no message.
+abbrev pub messageOf : Page → Option Message
+messageOf p =
+    cond (eqb (p .kind) 1) (some (Request (transferOf (p .body))))
+    (cond (eqb (p .kind) 2) (some (Circulated (transferOf (p .body))))
+    (cond (eqb (p .kind) 3) (some (Ack (record { 0 = p .seat }) (transferOf (p .body))))
+    (cond (eqb (p .kind) 4) (some (Decision (transferOf (p .body))))
+    (cond (eqb (p .kind) 5) (some (Inquiry (record { 0 = getD (p .body) 0 0 }))) none))))

@@ -1,0 +1,112 @@
+-- Document 01, "What each message does": for each kind of call the reply and the ledger after it.
+use Prim.Native.Nat.{ℕ, _-_}
+use mathlib.Core.Path.{_≡_}
+use mathlib.Core.Bool.{Bool, not, cond, _&&_}
+use mathlib.Core.List.{List, _++_}
+use mathlib.Core.Option.{Option, none, some}
+use lib.Dec.{leb, eqb}
+use lib.ListN.{length, getD, drop}
+use Rattle.model.specs.Basics.{bit, count}
+use Rattle.model.specs.Records.{freshEntry, entryOf, withEntry, withEntries, withAcked, withAck, withProposed}
+use Rattle.model.specs.Replies.{Choice, exactly, proposes, Outcome, Allows}
+use Rattle.model.specs.Refusals.{firstRefusal, requestRules, circulatedRules, ackRules, decisionRules, inquiryRules, listRules}
+use Rattle.model.specs.Acks.{acksFor, acksRecorded, enough, twoConflict}
+use Rattle.model.specs.Settling.{isWaiting, accept}
+use Rattle.model.specs.declared.Seat.{Seat}
+use Rattle.model.specs.declared.Account.{Account}
+use Rattle.model.specs.declared.Transfer.{Transfer}
+use Rattle.model.specs.declared.Entry.{Entry}
+use Rattle.model.specs.declared.Ledger.{Ledger}
+use Rattle.model.specs.declared.Settled.{Settled}
+use Rattle.model.specs.declared.Refusal.{Refusal}
+use Rattle.model.specs.declared.Message.{Message}
+use Rattle.model.specs.declared.Message.the-variants.{Request, Circulated, Ack, Decision, Inquiry}
+use Rattle.model.specs.declared.Reply.{Reply}
+use Rattle.model.specs.declared.Reply.the-variants.{Circulate, Acknowledge, Accept, Note, Balance, Refuse}
+use Rattle.model.specs.declared.ListReply.{ListReply}
+use Rattle.model.specs.declared.ListReply.the-variants.{Listed, ListRefused}
+
+-- this reply, and this ledger after it
+abbrev pub replies : Reply → Ledger → Outcome
+replies r l = record { choice = exactly r; next = l }
+
+-- "A refusal replies its code and changes nothing."
+abbrev pub unlessRefused : Option Refusal → Ledger → Outcome → Outcome
+unlessRefused none l o = o
+unlessRefused (some r) l o = replies (Refuse r) l
+
+-- Request: "reply C (circulate it). The book stays the same."
+unfoldable pub request : Ledger → Transfer → Outcome
+request l t = unlessRefused (firstRefusal (requestRules l (entryOf l (t .account)) t)) l (replies Circulate l)
+
+-- Slip: "reply A (ack it). This seat has now acked that number."
+unfoldable pub circulated : Ledger → Transfer → Outcome
+circulated l t =
+    unlessRefused
+    (firstRefusal (circulatedRules l (entryOf l (t .account)) t))
+    l
+    (replies Acknowledge (withEntry l (t .account) (withAcked (entryOf l (t .account)))))
+
+-- "K carries how many slips this call booked"
+abbrev pub accepted : Ledger → Settled → Outcome
+accepted l s = replies (Accept (s .applied)) (withEntries l (s .entries))
+
+-- "at least n - f seats' acks are recorded, two of them conflict, and nothing was put forward for this number"
+abbrev pub mustPropose : Ledger → Entry → Bool
+mustPropose l e = leb (l .seats - l .faults) (acksRecorded (e .acks)) && twoConflict (e .acks) && not (e .proposed)
+
+-- K, P or N: what follows from the account's entry in which the ack is recorded
+abbrev pub tallied : Ledger → Entry → Transfer → Outcome
+tallied l e t =
+    cond
+    (enough (l .seats) (l .faults) (acksFor t (e .acks)))
+    (accepted l (accept (l .entries) e t))
+    (cond
+    (mustPropose l e)
+    (record { choice = proposes (e .acks); next = withEntry l (t .account) (withProposed e) })
+    (replies Note (withEntry l (t .account) e)))
+
+-- the account's entry with the ack recorded: what K and P rest on
+abbrev pub entryWithAck : Ledger → Seat → Transfer → Entry
+entryWithAck l s t = withAck (entryOf l (t .account)) s t
+
+-- Ack: "it is recorded", then the tally decides
+unfoldable pub ack : Ledger → Seat → Transfer → Outcome
+ack l s t =
+    unlessRefused (firstRefusal (ackRules l (entryOf l (t .account)) s t)) l (tallied l (entryWithAck l s t) t)
+
+-- Ruling: "its slip is accepted: reply K."
+unfoldable pub decision : Ledger → Transfer → Outcome
+decision l t =
+    unlessRefused
+    (firstRefusal (decisionRules l (entryOf l (t .account)) t))
+    l
+    (accepted l (accept (l .entries) (entryOf l (t .account)) t))
+
+-- Balance question: "reply B and the balance."
+unfoldable pub inquiry : Ledger → Account → Outcome
+inquiry l a = unlessRefused (firstRefusal (inquiryRules l a)) l (replies (Balance (entryOf l a .balance)) l)
+
+-- the outcome of any message
+unfoldable pub step : Ledger → Message → Outcome
+step l (Request t) = request l t
+step l (Circulated t) = circulated l t
+step l (Ack s t) = ack l s t
+step l (Decision t) = decision l t
+step l (Inquiry a) = inquiry l a
+
+-- Waiting list: the accounts with a waiting slip, each once. Their order is left free.
+abbrev pub WaitingAccounts : Ledger → List ℕ → Type 0
+WaitingAccounts l accounts = (a : ℕ) → count (eqb a) accounts ≡ bit (isWaiting (getD (l .entries) a (freshEntry 0)))
+
+-- what the list replies and leaves in the buffer, given what the buffer held; the ledger stays the same
+abbrev pub ListsUnlessRefused : Option Refusal → Ledger → List ℕ → ListReply → List ℕ → Type 0
+ListsUnlessRefused none l before reply after =
+    (accounts : List ℕ)
+    × WaitingAccounts l accounts
+    × (reply ≡ Listed (length accounts))
+    × (after ≡ accounts ++ drop (length accounts) before)
+ListsUnlessRefused (some r) l before reply after = (reply ≡ ListRefused r) × (after ≡ before)
+
+abbrev pub Lists : Ledger → List ℕ → ListReply → List ℕ → Type 0
+Lists l before reply after = ListsUnlessRefused (firstRefusal (listRules before)) l before reply after

@@ -1,0 +1,96 @@
+-- The ledger and an account's entry: how they are made, read and changed. No other file builds one of the two records.
+use Prim.Native.Nat.{ℕ}
+use mathlib.Core.Bool.{true, false}
+use mathlib.Core.List.{List, map}
+use lib.ListN.{getD, set, replicate}
+use Rattle.model.specs.Basics.{sumOf}
+use Rattle.model.specs.declared.Seat.{Seat}
+use Rattle.model.specs.declared.Account.{Account}
+use Rattle.model.specs.declared.Transfer.{Transfer}
+use Rattle.model.specs.declared.Slot.{Slot}
+use Rattle.model.specs.declared.Slot.the-variants.{Empty, Full}
+use Rattle.model.specs.declared.AckSlot.{AckSlot}
+use Rattle.model.specs.declared.Entry.{Entry}
+use Rattle.model.specs.declared.Ledger.{Ledger}
+use Rattle.model.specs.declared.Opening.{Opening}
+
+-- no seat's ack is recorded
+abbrev pub noAcks : List AckSlot
+noAcks = replicate 16 (record { slot = Empty })
+
+-- an account at opening: its balance, current 0, nothing acked, recorded, put forward or waiting
+abbrev pub freshEntry : ℕ → Entry
+freshEntry b = record { balance = b; current = 0; acked = false; acks = noAcks; proposed = false; pending = Empty }
+
+-- the account's entry with another balance
+abbrev pub withBalance : Entry → ℕ → Entry
+withBalance e b =
+    record { balance = b; current = e .current; acked = e .acked; acks = e .acks; proposed = e .proposed; pending = e .pending }
+
+-- .. with the mark that this seat has acked the next number
+abbrev pub withAcked : Entry → Entry
+withAcked e =
+    record { balance = e .balance; current = e .current; acked = true; acks = e .acks; proposed = e .proposed; pending = e .pending }
+
+-- .. with the seat's ack recorded
+abbrev pub withAck : Entry → Seat → Transfer → Entry
+withAck e s t =
+    record {
+      balance = e .balance;
+      current = e .current;
+      acked = e .acked;
+      acks = set (e .acks) (s .0) (record { slot = Full t });
+      proposed = e .proposed;
+      pending = e .pending;
+    }
+
+-- .. with the mark that a slip was put forward for the next number
+abbrev pub withProposed : Entry → Entry
+withProposed e =
+    record { balance = e .balance; current = e .current; acked = e .acked; acks = e .acks; proposed = true; pending = e .pending }
+
+-- .. with an accepted slip that waits
+abbrev pub withPending : Entry → Transfer → Entry
+withPending e t =
+    record { balance = e .balance; current = e .current; acked = e .acked; acks = e .acks; proposed = e .proposed; pending = Full t }
+
+-- .. with current at a number that was booked, and the account's acks and marks cleared
+abbrev pub withBooked : Entry → ℕ → Entry
+withBooked e number =
+    record { balance = e .balance; current = number; acked = false; acks = noAcks; proposed = false; pending = Empty }
+
+-- the entry of an account. An account behind the last entry has a fresh one with balance 0
+abbrev pub entryAt : List Entry → Account → Entry
+entryAt es a = getD es (a .0) (freshEntry 0)
+
+-- the entries with another one for an account. Behind the last entry nothing is stored
+abbrev pub setEntry : List Entry → Account → Entry → List Entry
+setEntry es a e = set es (a .0) e
+
+-- the sum of all balances
+abbrev pub sumBalances : List Entry → ℕ
+sumBalances es = sumOf (λ e. e .balance) es
+
+-- a ledger just opened from a page
+abbrev pub freshLedger : Opening → Ledger
+freshLedger o =
+    record {
+      seats = o .seats;
+      faults = o .faults;
+      accounts = o .accounts;
+      total = sumOf (λ b. b) (o .balances);
+      entries = map freshEntry (o .balances);
+    }
+
+-- the ledger that a refused opening yields: no seats and no accounts
+abbrev pub noLedger : Ledger
+noLedger = record { seats = 0; faults = 0; accounts = 0; total = 0; entries = replicate 32 (freshEntry 0) }
+
+abbrev pub withEntries : Ledger → List Entry → Ledger
+withEntries l es = record { seats = l .seats; faults = l .faults; accounts = l .accounts; total = l .total; entries = es }
+
+abbrev pub entryOf : Ledger → Account → Entry
+entryOf l a = entryAt (l .entries) a
+
+abbrev pub withEntry : Ledger → Account → Entry → Ledger
+withEntry l a e = withEntries l (setEntry (l .entries) a e)

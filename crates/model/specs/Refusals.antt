@@ -1,0 +1,108 @@
+-- Document 01, "Refusal codes": the tests, and for each kind of call their order. "Codes rise, save that 12 comes before 11."
+use Prim.Native.Nat.{ℕ, _+_}
+use mathlib.Core.Bool.{Bool, false, cond, _||_}
+use mathlib.Core.List.{List, [], _∷_, _++_}
+use mathlib.Core.Option.{Option, none, some}
+use lib.Dec.{leb, ltb, eqb}
+use lib.ListN.{length, getD}
+use Rattle.model.specs.Records.{entryOf}
+use Rattle.model.specs.Transfers.{sameNumber, equal, conflict}
+use Rattle.model.specs.declared.Seat.{Seat}
+use Rattle.model.specs.declared.Account.{Account}
+use Rattle.model.specs.declared.Transfer.{Transfer}
+use Rattle.model.specs.declared.Slot.{Slot}
+use Rattle.model.specs.declared.Slot.the-variants.{Empty, Full}
+use Rattle.model.specs.declared.Entry.{Entry}
+use Rattle.model.specs.declared.Ledger.{Ledger}
+use Rattle.model.specs.declared.Refusal.{Refusal}
+use Rattle.model.specs.declared.Refusal.the-variants.{UnknownSeat, OutOfRange, PastNumber, FutureNumber, AlreadyAccepted, AckRepeated, AckConflicting, InsufficientFunds, AlreadyAcked, ShortBuffer}
+
+-- a test, and the refusal if it holds
+abbrev pub Rule : Type 0
+Rule = Bool × Refusal
+
+-- the first rule whose test holds
+abbrev pub firstRefusal : List Rule → Option Refusal
+firstRefusal [] = none
+firstRefusal (r ∷ rs) = cond (r .0) (some (r .1)) (firstRefusal rs)
+
+-- 4: an ack's seat is n or more
+abbrev pub unknownSeat : Ledger → Seat → Bool
+unknownSeat l s = leb (l .seats) (s .0)
+
+-- 5, for a balance question: account is k or more
+abbrev pub unknownAccount : Ledger → Account → Bool
+unknownAccount l a = leb (l .accounts) (a .0)
+
+-- 5: account or recipient is k or more, number 0, value 0, or value above the opening sum
+abbrev pub outOfRange : Ledger → Transfer → Bool
+outOfRange l t =
+    unknownAccount l (t .account) || unknownAccount l (t .recipient) || eqb (t .number) 0 || eqb (t .value) 0
+    || ltb (l .total) (t .value)
+
+-- 6: number at or below current
+abbrev pub pastNumber : Entry → Transfer → Bool
+pastNumber e t = leb (t .number) (e .current)
+
+-- 7: number above current + 1
+abbrev pub futureNumber : Entry → Transfer → Bool
+futureNumber e t = ltb (e .current + 1) (t .number)
+
+-- 8: a slip with this account and number is accepted and waits
+abbrev pub waitsAlready : Slot → Transfer → Bool
+waitsAlready Empty t = false
+waitsAlready (Full p) t = sameNumber p t
+
+-- 9: an ack from the ack's seat is recorded for this number and its slip is equal
+abbrev pub ackedEqual : Slot → Transfer → Bool
+ackedEqual Empty t = false
+ackedEqual (Full u) t = equal u t
+
+-- 10: an ack from the ack's seat is recorded for this number and its slip conflicts
+abbrev pub ackedConflicting : Slot → Transfer → Bool
+ackedConflicting Empty t = false
+ackedConflicting (Full u) t = conflict u t
+
+-- the ack that is recorded from a seat
+abbrev pub ackFrom : Entry → Seat → Slot
+ackFrom e s = getD (e .acks) (s .0) (record { slot = Empty }) .slot
+
+-- 11: request or slip with a value above the balance
+abbrev pub aboveBalance : Entry → Transfer → Bool
+aboveBalance e t = ltb (e .balance) (t .value)
+
+-- 5 to 8: what every slip meets, whichever call brings it
+abbrev pub transferRules : Ledger → Entry → Transfer → List Rule
+transferRules l e t =
+    (outOfRange l t, OutOfRange)
+    ∷ (pastNumber e t, PastNumber)
+    ∷ (futureNumber e t, FutureNumber)
+    ∷ (waitsAlready (e .pending) t, AlreadyAccepted)
+    ∷ []
+
+-- requests: 5 6 7 8 11
+abbrev pub requestRules : Ledger → Entry → Transfer → List Rule
+requestRules l e t = transferRules l e t ++ ((aboveBalance e t, InsufficientFunds) ∷ [])
+
+-- slips: 5 6 7 8 12 11. 12: slip for a number that this seat has acked
+abbrev pub circulatedRules : Ledger → Entry → Transfer → List Rule
+circulatedRules l e t = transferRules l e t ++ ((e .acked, AlreadyAcked) ∷ (aboveBalance e t, InsufficientFunds) ∷ [])
+
+-- acks: 4 to 10
+abbrev pub ackRules : Ledger → Entry → Seat → Transfer → List Rule
+ackRules l e s t =
+    (unknownSeat l s, UnknownSeat)
+    ∷ transferRules l e t
+    ++ ((ackedEqual (ackFrom e s) t, AckRepeated) ∷ (ackedConflicting (ackFrom e s) t, AckConflicting) ∷ [])
+
+-- rulings: 5 to 8 only
+abbrev pub decisionRules : Ledger → Entry → Transfer → List Rule
+decisionRules l e t = transferRules l e t
+
+-- balance questions: 5
+abbrev pub inquiryRules : Ledger → Account → List Rule
+inquiryRules l a = (unknownAccount l a, OutOfRange) ∷ []
+
+-- the waiting list: 17, a buffer under 32 bytes
+abbrev pub listRules : List ℕ → List Rule
+listRules buffer = (ltb (length buffer) 32, ShortBuffer) ∷ []

@@ -1,0 +1,98 @@
+-- Document 01's letter, number and values of each answer; and which answers a call allows.
+use Prim.Native.Nat.{ℕ}
+use mathlib.Core.Path.{_≡_}
+use mathlib.Core.List.{List, [], _∷_}
+use lib.Dec.{T}
+use Rattle.model.specs.Acks.{hasMost}
+use Rattle.model.specs.declared.Transfer.{Transfer}
+use Rattle.model.specs.declared.AckSlot.{AckSlot}
+use Rattle.model.specs.declared.Ledger.{Ledger}
+use Rattle.model.specs.declared.Answer.{Answer}
+use Rattle.model.specs.declared.Refusal.{Refusal}
+use Rattle.model.specs.declared.Refusal.the-variants.{BadGroup, BadAccounts, SumTooLarge, UnknownSeat, OutOfRange, PastNumber, FutureNumber, AlreadyAccepted, AckRepeated, AckConflicting, InsufficientFunds, AlreadyAcked, BadHeader, BadContents, BadEnd, BadSum, ShortBuffer}
+use Rattle.model.specs.declared.Reply.{Reply}
+use Rattle.model.specs.declared.Reply.the-variants.{Circulate, Acknowledge, Accept, Propose, Note, Balance, Refuse}
+use Rattle.model.specs.declared.OpenReply.{OpenReply}
+use Rattle.model.specs.declared.OpenReply.the-variants.{Opened, OpenRefused}
+use Rattle.model.specs.declared.ListReply.{ListReply}
+use Rattle.model.specs.declared.ListReply.the-variants.{Listed, ListRefused}
+use Rattle.model.specs.declared.BundleReply.{BundleReply}
+use Rattle.model.specs.declared.BundleReply.the-variants.{Sound, BundleRefused}
+
+-- the refusal codes
+abbrev pub codeOf : Refusal → ℕ
+codeOf BadGroup = 1
+codeOf BadAccounts = 2
+codeOf SumTooLarge = 3
+codeOf UnknownSeat = 4
+codeOf OutOfRange = 5
+codeOf PastNumber = 6
+codeOf FutureNumber = 7
+codeOf AlreadyAccepted = 8
+codeOf AckRepeated = 9
+codeOf AckConflicting = 10
+codeOf InsufficientFunds = 11
+codeOf AlreadyAcked = 12
+codeOf BadHeader = 13
+codeOf BadContents = 14
+codeOf BadEnd = 15
+codeOf BadSum = 16
+codeOf ShortBuffer = 17
+
+-- the letter of a reply, in ASCII: C, A, K, P, N, B, R
+abbrev pub letterOf : Reply → ℕ
+letterOf Circulate = 67
+letterOf Acknowledge = 65
+letterOf (Accept c) = 75
+letterOf (Propose t) = 80
+letterOf Note = 78
+letterOf (Balance b) = 66
+letterOf (Refuse r) = 82
+
+-- a slip's account, number, value, recipient
+abbrev pub valuesOfTransfer : Transfer → List ℕ
+valuesOfTransfer t = t .account .0 ∷ t .number ∷ t .value ∷ t .recipient .0 ∷ []
+
+-- what a reply carries: K the count, P the slip, B the balance, R the code; A, C and N nothing
+abbrev pub valuesOf : Reply → List ℕ
+valuesOf Circulate = []
+valuesOf Acknowledge = []
+valuesOf (Accept c) = c ∷ []
+valuesOf (Propose t) = valuesOfTransfer t
+valuesOf Note = []
+valuesOf (Balance b) = b ∷ []
+valuesOf (Refuse r) = codeOf r ∷ []
+
+-- an opening: nothing, or the code
+abbrev pub valuesOfOpen : OpenReply → List ℕ
+valuesOfOpen Opened = []
+valuesOfOpen (OpenRefused r) = codeOf r ∷ []
+
+-- the waiting list: how many, or the code
+abbrev pub valuesOfList : ListReply → List ℕ
+valuesOfList (Listed c) = c ∷ []
+valuesOfList (ListRefused r) = codeOf r ∷ []
+
+-- the check of a bundle: m, or the code and the entry
+abbrev pub valuesOfBundle : BundleReply → List ℕ
+valuesOfBundle (Sound m) = m ∷ []
+valuesOfBundle (BundleRefused r i) = codeOf r ∷ i ∷ []
+
+-- What a call may reply: one reply, or P with a slip that has the most of these acks.
+pub data Choice : Type 0 where
+  exactly : Reply → Choice
+  proposes : List AckSlot → Choice
+
+-- What a call does: what it may reply, and the ledger after it.
+pub record Outcome : Type 0 where
+  pub choice : Choice
+  pub next : Ledger
+
+-- The one answer of a message that is left free: on a tie P carries any of the slips with the most acks.
+abbrev pub Allows : Choice → Reply → Type 0
+Allows (exactly q) r = r ≡ q
+Allows (proposes acks) r = (u : Transfer) × (r ≡ Propose u) × T (hasMost acks u)
+
+-- a reply and a ledger are those of the outcome
+abbrev pub Meets : Outcome → Answer → Type 0
+Meets o r = Allows (o .choice) (r .reply) × (r .ledger ≡ o .next)

@@ -1,0 +1,74 @@
+-- Document 01: an accepted slip waits, then settling begins; and what booking does.
+use Prim.Native.Nat.{ℕ, zero, suc, _+_, _-_, _%_}
+use mathlib.Core.Bool.{Bool, false}
+use mathlib.Core.List.{List}
+use mathlib.Core.Option.{Option, none, some}
+use lib.Dec.{leb}
+use lib.ListN.{length, getD}
+use Rattle.model.specs.Basics.{count, firstWhere}
+use Rattle.model.specs.Records.{freshEntry, entryAt, setEntry, withBalance, withBooked, withPending}
+use Rattle.model.specs.Acks.{isFull}
+use Rattle.model.specs.declared.Account.{Account}
+use Rattle.model.specs.declared.Transfer.{Transfer}
+use Rattle.model.specs.declared.Slot.{Slot}
+use Rattle.model.specs.declared.Slot.the-variants.{Empty, Full}
+use Rattle.model.specs.declared.Entry.{Entry}
+use Rattle.model.specs.declared.Settled.{Settled}
+
+-- an accepted slip of the account waits
+abbrev pub isWaiting : Entry → Bool
+isWaiting e = isFull (e .pending)
+
+-- the waiting slip in this place has a value that is at most this balance
+abbrev pub affords : ℕ → Slot → Bool
+affords balance Empty = false
+affords balance (Full t) = leb (t .value) balance
+
+-- "some waiting slip's value is at most its payer's balance": its payer is the account that holds it
+abbrev pub affordable : Entry → Bool
+affordable e = affords (e .balance) (e .pending)
+
+-- the lowest account with such a slip
+unfoldable pub lowestAffordable : List Entry → Option ℕ
+lowestAffordable es = firstWhere (λ a. affordable (getD es a (freshEntry 0))) (length es) 0
+
+-- how many slips wait
+abbrev pub waiting : List Entry → ℕ
+waiting es = count isWaiting es
+
+-- "gives it to the recipient". Modulo 2^32, which is the plain sum wherever the balances' sum is below that
+abbrev pub credit : List Entry → Account → ℕ → List Entry
+credit es a v = setEntry es a (withBalance (entryAt es a) ((entryAt es a .balance + v) % 4_294_967_296))
+
+-- "takes the value from the payer", "sets current to the slip's number, and clears the account's acks and marks"
+abbrev pub debited : Entry → Transfer → Entry
+debited e t = withBooked (withBalance e (e .balance - t .value)) (t .number)
+
+-- booking the slip of an account's place: payer first, then recipient, who may be the payer
+abbrev pub applySlot : List Entry → Account → Slot → List Entry
+applySlot es a Empty = es
+applySlot es a (Full t) = credit (setEntry es a (debited (entryAt es a) t)) (t .recipient) (t .value)
+
+-- booking the slip that waits at an account
+unfoldable pub apply : List Entry → Account → List Entry
+apply es a = applySlot es a (entryAt es a .pending)
+
+abbrev pub oneMore : Settled → Settled
+oneMore s = record { applied = suc (s .applied); entries = s .entries }
+
+-- "While some waiting slip's value is at most its payer's balance, the one with the lowest account is booked."
+-- "Settling calls itself again on the waiting slips that are left, one fewer each time": the number is how many wait.
+unfoldable pub settleAtMost : ℕ → List Entry → Settled
+settleAtMost zero es = record { applied = 0; entries = es }
+settleAtMost (suc n) es =
+    elim (lowestAffordable es) [
+      | none ↦ record { applied = 0; entries = es }
+      | some a ↦ oneMore (settleAtMost n (apply es (record { 0 = a })))
+    ]
+
+unfoldable pub settle : List Entry → Settled
+settle es = settleAtMost (waiting es) es
+
+-- "An accepted slip waits, then settling begins." The account's entry is handed in as the call has it.
+unfoldable pub accept : List Entry → Entry → Transfer → Settled
+accept es e t = settle (setEntry es (t .account) (withPending e t))

@@ -6,12 +6,14 @@ use mathlib.Core.Option.{Option, none, some}
 use lib.Dec.{T, eqb}
 use lib.ListN.{length, getD, take, drop, set, replicate}
 use Rattle.model.specs.Basics.{every}
+use Rattle.model.specs.Records.{seatOf, accountOf, noAcks}
 use Rattle.model.specs.Transfers.{equal, conflict}
 use Rattle.model.specs.Replies.{letterOf, valuesOf, valuesOfTransfer, valuesOfOpen, valuesOfBundle, Choice, exactly, proposes}
+use Rattle.model.specs.Refusals.{rulesOf}
 use Rattle.model.specs.Openings.{openLedger}
 use Rattle.model.specs.Acks.{enough, hasMost}
 use Rattle.model.specs.Settling.{lowestAffordable, apply, settleAtMost, settle, accept}
-use Rattle.model.specs.Calls.{request, circulated, ack, decision, inquiry, step}
+use Rattle.model.specs.Calls.{effect, step}
 use Rattle.model.specs.Bundles.{bodySum, checkBundle, pageAt, messageOf}
 use Rattle.model.specs.declared.Account.{Account}
 use Rattle.model.specs.declared.Transfer.{Transfer}
@@ -25,10 +27,10 @@ use Rattle.model.specs.declared.Message.the-variants.{Request, Circulate
 
 -- a slip: account, number, value, recipient
 abbrev slip : ℕ → ℕ → ℕ → ℕ → Transfer
-slip a m v r = record { account = record { 0 = a }; number = m; value = v; recipient = record { 0 = r } }
+slip a m v r = record { account = accountOf a; number = m; value = v; recipient = accountOf r }
 
 abbrev ackFrom : ℕ → Transfer → Message
-ackFrom s t = Ack (record { 0 = s }) t
+ackFrom s t = Ack (seatOf s) t
 
 -- an opening page with n, f and the balances of its accounts
 abbrev pageWith : ℕ → ℕ → List ℕ → Opening
@@ -196,5 +198,5 @@ format =
     ∷ []
 
 facts : T (every rowHolds (marked ++ further ++ format))
-unfolding rowHolds numbersOf allAnswered answered onlyMost same marked further format equal conflict hasMost openLedger lowestAffordable apply settleAtMost settle accept request circulated ack decision inquiry step checkBundle
+unfolding noAcks rowHolds numbersOf allAnswered answered onlyMost same marked further format equal conflict hasMost openLedger lowestAffordable apply settleAtMost settle accept rulesOf effect step checkBundle
 facts = tt

@@ -1,2 +1,9 @@
 -- What is proved of the definitions: the known pages, and the laws that other crates use.
 pub mod KnownPages
+pub mod Sums
+pub mod Equality
+pub mod Access
+pub mod Tallies
+pub mod Booking
+pub mod Settles
+pub mod Refusing

@@ -6,6 +6,7 @@ use mathlib.Core.Option.{Option, none, some}
 use lib.Dec.{leb, ltb, eqb}
 use lib.ListN.{length, getD, take, drop}
 use Rattle.model.specs.Basics.{firstWhere}
+use Rattle.model.specs.Records.{seatOf, accountOf}
 use Rattle.model.specs.declared.Account.{Account}
 use Rattle.model.specs.declared.Transfer.{Transfer}
 use Rattle.model.specs.declared.Opening.{Opening}
@@ -136,10 +137,10 @@ openingOf body =
 abbrev pub transferOf : List ℕ → Transfer
 transferOf body =
     record {
-      account = record { 0 = getD body 0 0 };
+      account = accountOf (getD body 0 0);
       number = number4 body 1;
       value = number4 body 5;
-      recipient = record { 0 = getD body 9 0 };
+      recipient = accountOf (getD body 9 0);
     }
 
 -- "Kinds 1 to 4 are request, slip, ack, ruling". "Kind 5 is a balance question: account." Any other kind is no message.
@@ -147,6 +148,6 @@ abbrev pub messageOf : Page → Option Message
 messageOf p =
     cond (eqb (p .kind) 1) (some (Request (transferOf (p .body))))
     (cond (eqb (p .kind) 2) (some (Circulated (transferOf (p .body))))
-    (cond (eqb (p .kind) 3) (some (Ack (record { 0 = p .seat }) (transferOf (p .body))))
+    (cond (eqb (p .kind) 3) (some (Ack (seatOf (p .seat)) (transferOf (p .body))))
     (cond (eqb (p .kind) 4) (some (Decision (transferOf (p .body))))
-    (cond (eqb (p .kind) 5) (some (Inquiry (record { 0 = getD (p .body) 0 0 }))) none))))
+    (cond (eqb (p .kind) 5) (some (Inquiry (accountOf (getD (p .body) 0 0)))) none))))

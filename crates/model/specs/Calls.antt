@@ -9,7 +9,7 @@ use lib.ListN.{length, getD, drop}
 use Rattle.model.specs.Basics.{bit, count}
 use Rattle.model.specs.Records.{freshEntry, entryOf, withEntry, withEntries, withAcked, withAck, withProposed}
 use Rattle.model.specs.Replies.{Choice, exactly, proposes, Outcome, Allows}
-use Rattle.model.specs.Refusals.{firstRefusal, requestRules, circulatedRules, ackRules, decisionRules, inquiryRules, listRules}
+use Rattle.model.specs.Refusals.{firstRefusal, rulesOf, listRules}
 use Rattle.model.specs.Acks.{acksFor, acksRecorded, enough, twoConflict}
 use Rattle.model.specs.Settling.{isWaiting, accept}
 use Rattle.model.specs.declared.Seat.{Seat}
@@ -30,23 +30,6 @@ use Rattle.model.specs.declared.ListReply.the-variants.{Listed, ListRefu
 abbrev pub replies : Reply → Ledger → Outcome
 replies r l = record { choice = exactly r; next = l }
 
--- "A refusal replies its code and changes nothing."
-abbrev pub unlessRefused : Option Refusal → Ledger → Outcome → Outcome
-unlessRefused none l o = o
-unlessRefused (some r) l o = replies (Refuse r) l
-
--- Request: "reply C (circulate it). The book stays the same."
-unfoldable pub request : Ledger → Transfer → Outcome
-request l t = unlessRefused (firstRefusal (requestRules l (entryOf l (t .account)) t)) l (replies Circulate l)
-
--- Slip: "reply A (ack it). This seat has now acked that number."
-unfoldable pub circulated : Ledger → Transfer → Outcome
-circulated l t =
-    unlessRefused
-    (firstRefusal (circulatedRules l (entryOf l (t .account)) t))
-    l
-    (replies Acknowledge (withEntry l (t .account) (withAcked (entryOf l (t .account)))))
-
 -- "K carries how many slips this call booked"
 abbrev pub accepted : Ledger → Settled → Outcome
 accepted l s = replies (Accept (s .applied)) (withEntries l (s .entries))
@@ -55,7 +38,12 @@ accepted l s = replies (Accept (s .applied)) (withEntries l (s .entries))
 abbrev pub mustPropose : Ledger → Entry → Bool
 mustPropose l e = leb (l .seats - l .faults) (acksRecorded (e .acks)) && twoConflict (e .acks) && not (e .proposed)
 
--- K, P or N: what follows from the account's entry in which the ack is recorded
+-- the account's entry with the ack recorded: what K and P rest on
+abbrev pub entryWithAck : Ledger → Seat → Transfer → Entry
+entryWithAck l s t = withAck (entryOf l (t .account)) s t
+
+-- "If twice the count of acks equal to this slip exceeds n + 3f, the slip is accepted: reply K. Otherwise, if .. reply P ..
+-- Otherwise reply N": what follows from the account's entry in which the ack is recorded
 abbrev pub tallied : Ledger → Entry → Transfer → Outcome
 tallied l e t =
     cond
@@ -66,34 +54,27 @@ tallied l e t =
     (record { choice = proposes (e .acks); next = withEntry l (t .account) (withProposed e) })
     (replies Note (withEntry l (t .account) e)))
 
--- the account's entry with the ack recorded: what K and P rest on
-abbrev pub entryWithAck : Ledger → Seat → Transfer → Entry
-entryWithAck l s t = withAck (entryOf l (t .account)) s t
-
+-- What a message does that is not refused.
+unfoldable pub effect : Ledger → Message → Outcome
+-- Request: "reply C (circulate it). The book stays the same."
+effect l (Request t) = replies Circulate l
+-- Slip: "reply A (ack it). This seat has now acked that number."
+effect l (Circulated t) = replies Acknowledge (withEntry l (t .account) (withAcked (entryOf l (t .account))))
 -- Ack: "it is recorded", then the tally decides
-unfoldable pub ack : Ledger → Seat → Transfer → Outcome
-ack l s t =
-    unlessRefused (firstRefusal (ackRules l (entryOf l (t .account)) s t)) l (tallied l (entryWithAck l s t) t)
-
+effect l (Ack s t) = tallied l (entryWithAck l s t) t
 -- Ruling: "its slip is accepted: reply K."
-unfoldable pub decision : Ledger → Transfer → Outcome
-decision l t =
-    unlessRefused
-    (firstRefusal (decisionRules l (entryOf l (t .account)) t))
-    l
-    (accepted l (accept (l .entries) (entryOf l (t .account)) t))
-
+effect l (Decision t) = accepted l (accept (l .entries) (entryOf l (t .account)) t)
 -- Balance question: "reply B and the balance."
-unfoldable pub inquiry : Ledger → Account → Outcome
-inquiry l a = unlessRefused (firstRefusal (inquiryRules l a)) l (replies (Balance (entryOf l a .balance)) l)
+effect l (Inquiry a) = replies (Balance (entryOf l a .balance)) l
 
--- the outcome of any message
+-- "A refusal replies its code and changes nothing."
+abbrev pub unlessRefused : Option Refusal → Ledger → Outcome → Outcome
+unlessRefused none l o = o
+unlessRefused (some r) l o = replies (Refuse r) l
+
+-- The outcome of a message, for every ledger and every message.
 unfoldable pub step : Ledger → Message → Outcome
-step l (Request t) = request l t
-step l (Circulated t) = circulated l t
-step l (Ack s t) = ack l s t
-step l (Decision t) = decision l t
-step l (Inquiry a) = inquiry l a
+step l m = unlessRefused (firstRefusal (rulesOf l m)) l (effect l m)
 
 -- Waiting list: the accounts with a waiting slip, each once. Their order is left free.
 abbrev pub WaitingAccounts : Ledger → List ℕ → Type 0

@@ -14,8 +14,15 @@ use Rattle.model.specs.declared.Entry.{Entry}
 use Rattle.model.specs.declared.Ledger.{Ledger}
 use Rattle.model.specs.declared.Opening.{Opening}
 
+-- the seat and the account with a number
+abbrev pub seatOf : ℕ → Seat
+seatOf n = record { 0 = n }
+
+abbrev pub accountOf : ℕ → Account
+accountOf n = record { 0 = n }
+
 -- no seat's ack is recorded
-abbrev pub noAcks : List AckSlot
+unfoldable pub noAcks : List AckSlot
 noAcks = replicate 16 (record { slot = Empty })
 
 -- an account at opening: its balance, current 0, nothing acked, recorded, put forward or waiting

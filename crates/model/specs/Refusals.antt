@@ -14,6 +14,8 @@ use Rattle.model.specs.declared.Slot.{Slot}
 use Rattle.model.specs.declared.Slot.the-variants.{Empty, Full}
 use Rattle.model.specs.declared.Entry.{Entry}
 use Rattle.model.specs.declared.Ledger.{Ledger}
+use Rattle.model.specs.declared.Message.{Message}
+use Rattle.model.specs.declared.Message.the-variants.{Request, Circulated, Ack, Decision, Inquiry}
 use Rattle.model.specs.declared.Refusal.{Refusal}
 use Rattle.model.specs.declared.Refusal.the-variants.{UnknownSeat, OutOfRange, PastNumber, FutureNumber, AlreadyAccepted, AckRepeated, AckConflicting, InsufficientFunds, AlreadyAcked, ShortBuffer}
 
@@ -102,6 +104,14 @@ decisionRules l e t = transferRules l e t
 -- balance questions: 5
 abbrev pub inquiryRules : Ledger → Account → List Rule
 inquiryRules l a = (unknownAccount l a, OutOfRange) ∷ []
+
+-- the rules of any message, in their order
+unfoldable pub rulesOf : Ledger → Message → List Rule
+rulesOf l (Request t) = requestRules l (entryOf l (t .account)) t
+rulesOf l (Circulated t) = circulatedRules l (entryOf l (t .account)) t
+rulesOf l (Ack s t) = ackRules l (entryOf l (t .account)) s t
+rulesOf l (Decision t) = decisionRules l (entryOf l (t .account)) t
+rulesOf l (Inquiry a) = inquiryRules l a
 
 -- the waiting list: 17, a buffer under 32 bytes
 abbrev pub listRules : List ℕ → List Rule

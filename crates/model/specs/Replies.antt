@@ -2,7 +2,7 @@
 use Prim.Native.Nat.{ℕ}
 use mathlib.Core.Path.{_≡_}
 use mathlib.Core.List.{List, [], _∷_}
-use lib.Dec.{T}
+use mathlib.Core.Bool.{true}
 use Rattle.model.specs.Acks.{hasMost}
 use Rattle.model.specs.declared.Transfer.{Transfer}
 use Rattle.model.specs.declared.AckSlot.{AckSlot}
@@ -91,7 +91,7 @@ pub record Outcome : Type 0 where
 -- The one answer of a message that is left free: on a tie P carries any of the slips with the most acks.
 abbrev pub Allows : Choice → Reply → Type 0
 Allows (exactly q) r = r ≡ q
-Allows (proposes acks) r = (u : Transfer) × (r ≡ Propose u) × T (hasMost acks u)
+Allows (proposes acks) r = (u : Transfer) × (r ≡ Propose u) × (hasMost acks u ≡ true)
 
 -- a reply and a ledger are those of the outcome
 abbrev pub Meets : Outcome → Answer → Type 0

@@ -6,7 +6,7 @@ use mathlib.Core.Option.{Option, none, some}
 use lib.Dec.{leb}
 use lib.ListN.{length, getD}
 use Rattle.model.specs.Basics.{count, firstWhere}
-use Rattle.model.specs.Records.{freshEntry, entryAt, setEntry, withBalance, withBooked, withPending}
+use Rattle.model.specs.Records.{accountOf, freshEntry, entryAt, setEntry, withBalance, withBooked, withPending}
 use Rattle.model.specs.Acks.{isFull}
 use Rattle.model.specs.declared.Account.{Account}
 use Rattle.model.specs.declared.Transfer.{Transfer}
@@ -36,9 +36,12 @@ lowestAffordable es = firstWhere (λ a. affordable (getD es a (freshEntry 0))) (
 abbrev pub waiting : List Entry → ℕ
 waiting es = count isWaiting es
 
--- "gives it to the recipient". Modulo 2^32, which is the plain sum wherever the balances' sum is below that
+-- "gives it to the recipient". Modulo 2^32, which is the plain sum wherever all balances together are below that
+abbrev pub credited : Entry → ℕ → Entry
+credited e v = withBalance e ((e .balance + v) % 4_294_967_296)
+
 abbrev pub credit : List Entry → Account → ℕ → List Entry
-credit es a v = setEntry es a (withBalance (entryAt es a) ((entryAt es a .balance + v) % 4_294_967_296))
+credit es a v = setEntry es a (credited (entryAt es a) v)
 
 -- "takes the value from the payer", "sets current to the slip's number, and clears the account's acks and marks"
 abbrev pub debited : Entry → Transfer → Entry
@@ -63,7 +66,7 @@ settleAtMost zero es = record { applied = 0; entries = es }
 settleAtMost (suc n) es =
     elim (lowestAffordable es) [
       | none ↦ record { applied = 0; entries = es }
-      | some a ↦ oneMore (settleAtMost n (apply es (record { 0 = a })))
+      | some a ↦ oneMore (settleAtMost n (apply es (accountOf a)))
     ]
 
 unfoldable pub settle : List Entry → Settled

@@ -1,0 +1,91 @@
+-- Getter and setter laws of an account's entry, of the list of entries and of the ledger.
+use Prim.Native.Nat.{ℕ, _<_}
+use mathlib.Core.Path.{_≡_, refl}
+use mathlib.Core.Logic.{_≢_}
+use mathlib.Core.Bool.{Bool, true, false}
+use mathlib.Core.List.{List}
+use lib.ListN.{length, set, length-set}
+use lib.Seq.{getD-set-same, getD-set-other, set-getD, set-set}
+use Rattle.model.specs.Records.{noAcks, freshEntry, withBalance, withAcked, withAck, withProposed, withPending, withBooked, entryAt, setEntry, withEntries, entryOf, withEntry}
+use Rattle.model.specs.declared.Seat.{Seat}
+use Rattle.model.specs.declared.Account.{Account}
+use Rattle.model.specs.declared.Transfer.{Transfer}
+use Rattle.model.specs.declared.Slot.{Slot}
+use Rattle.model.specs.declared.Slot.the-variants.{Empty, Full}
+use Rattle.model.specs.declared.AckSlot.{AckSlot}
+use Rattle.model.specs.declared.Entry.{Entry}
+use Rattle.model.specs.declared.Ledger.{Ledger}
+
+-- an entry's fields, all of them
+pub record Fields (e : Entry) (balance current : ℕ) (acked : Bool) (acks : List AckSlot) (proposed : Bool) (pending : Slot) : Type 0 where
+  pub balance-is : e .balance ≡ balance
+  pub current-is : e .current ≡ current
+  pub acked-is : e .acked ≡ acked
+  pub acks-are : e .acks ≡ acks
+  pub proposed-is : e .proposed ≡ proposed
+  pub pending-is : e .pending ≡ pending
+
+pub fields-of : (e : Entry) → Fields e (e .balance) (e .current) (e .acked) (e .acks) (e .proposed) (e .pending)
+fields-of e =
+    record { balance-is = refl; current-is = refl; acked-is = refl; acks-are = refl; proposed-is = refl; pending-is = refl }
+
+-- each setter sets what its name says, and nothing else
+pub fresh-fields : (b : ℕ) → Fields (freshEntry b) b 0 false noAcks false Empty
+fresh-fields b = fields-of (freshEntry b)
+
+module _ (e : Entry) where
+  pub balance-fields : (b : ℕ) → Fields (withBalance e b) b (e .current) (e .acked) (e .acks) (e .proposed) (e .pending)
+  balance-fields b = fields-of (withBalance e b)
+
+  pub acked-fields : Fields (withAcked e) (e .balance) (e .current) true (e .acks) (e .proposed) (e .pending)
+  acked-fields = fields-of (withAcked e)
+
+  pub ack-fields : (s : Seat) (t : Transfer)
+      → Fields (withAck e s t) (e .balance) (e .current) (e .acked) (set (e .acks) (s .0) (record { slot = Full t })) (e .proposed) (e .pending)
+  ack-fields s t = fields-of (withAck e s t)
+
+  pub proposed-fields : Fields (withProposed e) (e .balance) (e .current) (e .acked) (e .acks) true (e .pending)
+  proposed-fields = fields-of (withProposed e)
+
+  pub pending-fields : (t : Transfer) → Fields (withPending e t) (e .balance) (e .current) (e .acked) (e .acks) (e .proposed) (Full t)
+  pending-fields t = fields-of (withPending e t)
+
+  pub booked-fields : (m : ℕ) → Fields (withBooked e m) (e .balance) m false noAcks false Empty
+  booked-fields m = fields-of (withBooked e m)
+
+module _ (es : List Entry) (a : Account) where
+  -- what is stored for an account is read back
+  pub entry-set-same : (e : Entry) → a .0 < length es → entryAt (setEntry es a e) a ≡ e
+  entry-set-same e h = getD-set-same es (a .0) e (freshEntry 0) h
+
+  -- the other accounts' entries stay
+  pub entry-set-other : (e : Entry) (b : Account) → b .0 ≢ a .0 → entryAt (setEntry es a e) b ≡ entryAt es b
+  entry-set-other e b h = getD-set-other es (a .0) (b .0) e (freshEntry 0) h
+
+  -- the later of two stores stands
+  pub set-entry-twice : (e e′ : Entry) → setEntry (setEntry es a e) a e′ ≡ setEntry es a e′
+  set-entry-twice e e′ = set-set es (a .0) e e′
+
+  -- storing what is there changes nothing
+  pub set-entry-read : setEntry es a (entryAt es a) ≡ es
+  set-entry-read = set-getD es (a .0) (freshEntry 0)
+
+  pub set-entry-length : (e : Entry) → length (setEntry es a e) ≡ length es
+  set-entry-length e = length-set es (a .0) e
+
+-- a ledger with other entries is the same ledger otherwise
+pub record SameGroup (l m : Ledger) : Type 0 where
+  pub seats-same : l .seats ≡ m .seats
+  pub faults-same : l .faults ≡ m .faults
+  pub accounts-same : l .accounts ≡ m .accounts
+  pub total-same : l .total ≡ m .total
+
+module _ (l : Ledger) where
+  pub with-entries : (es : List Entry) → (withEntries l es .entries ≡ es) × SameGroup (withEntries l es) l
+  with-entries es = (refl, record { seats-same = refl; faults-same = refl; accounts-same = refl; total-same = refl })
+
+  pub with-entry-same : (a : Account) (e : Entry) → a .0 < length (l .entries) → entryOf (withEntry l a e) a ≡ e
+  with-entry-same a e h = entry-set-same (l .entries) a e h
+
+  pub with-entry-other : (a b : Account) (e : Entry) → b .0 ≢ a .0 → entryOf (withEntry l a e) b ≡ entryOf l b
+  with-entry-other a b e h = entry-set-other (l .entries) a e b h

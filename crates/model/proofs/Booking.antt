@@ -1,0 +1,114 @@
+-- Laws of booking: what it clears, that one fewer slip waits after it, and that it keeps the sum of balances.
+use Prim.Native.Nat.{ℕ, suc, _+_, _-_, _%_, _≤_, _<_}
+use native.Mathlib.Nat.{mod-eq-of-lt}
+use native.Mathlib.Decide.{ℕ-discrete, decLt}
+use native.Mathlib.Omega.{arith}
+use mathlib.Core.Path.{_≡_, refl, ap, sym, _∙_}
+use mathlib.Core.Logic.{_≢_}
+use mathlib.Core.Bool.{Bool, true, false}
+use mathlib.Core.List.{List}
+use lib.ListN.{length, getD, set, length-set}
+use lib.Seq.{set-out}
+use Rattle.model.specs.Basics.{bit}
+use Rattle.model.specs.Records.{noAcks, freshEntry, withBalance, entryAt, setEntry, sumBalances}
+use Rattle.model.specs.Settling.{isWaiting, affords, affordable, lowestAffordable, waiting, credited, credit, debited, applySlot, apply}
+use Rattle.model.specs.declared.Account.{Account}
+use Rattle.model.specs.declared.Transfer.{Transfer}
+use Rattle.model.specs.declared.Slot.{Slot}
+use Rattle.model.specs.declared.Slot.the-variants.{Empty, Full}
+use Rattle.model.specs.declared.Entry.{Entry}
+use Rattle.model.proofs.Sums.{sum-set, sum-set-same, sum-at-least, impossible}
+use Rattle.model.proofs.Access.{entry-set-same, entry-set-other}
+
+-- the second entry is the first with another balance
+abbrev pub SameButBalance : Entry → Entry → Type 0
+SameButBalance e e′ = e′ ≡ withBalance e (e′ .balance)
+
+same-but-balance : (e e′ : Entry) (b : ℕ) → e′ ≡ withBalance e b → SameButBalance e e′
+same-but-balance e e′ b same = rw same
+
+-- crediting changes nothing but one balance
+credit-keeps : (es : List Entry) (r b : Account) (v : ℕ) → SameButBalance (entryAt es b) (entryAt (credit es r v) b)
+credit-keeps es r b v = go (ℕ-discrete (b .0) (r .0)) (decLt (r .0) (length es))
+  where
+    e : Entry
+    e = credited (entryAt es r) v
+
+    keeps : (x : ℕ) → entryAt (credit es r v) b ≡ withBalance (entryAt es b) x → SameButBalance (entryAt es b) (entryAt (credit es r v) b)
+    keeps x same = same-but-balance (entryAt es b) (entryAt (credit es r v) b) x same
+
+    go : Dec (b .0 ≡ r .0) → Dec (r .0 < length es) → SameButBalance (entryAt es b) (entryAt (credit es r v) b)
+    go (no other) d = keeps (entryAt es b .balance) (entry-set-other es r e b other)
+    go (yes same) (yes inside) = keeps (e .balance) (rw same (entry-set-same es r e inside))
+    go (yes same) (no outside) =
+        keeps (entryAt es b .balance) (ap (λ (xs : List Entry). entryAt xs b) (set-out es (r .0) e (omega arith)))
+
+-- crediting raises the sum of balances by the value, where the sum fits
+credit-sum : (es : List Entry) (r : Account) (v : ℕ) → r .0 < length es → sumBalances es + v < 4_294_967_296
+    → sumBalances (credit es r v) ≡ sumBalances es + v
+credit-sum es r v there fits =
+    let most = sum-at-least (λ e. e .balance) es (r .0) (freshEntry 0) there in
+    let plain : (entryAt es r .balance + v) % 4_294_967_296 ≡ entryAt es r .balance + v = mod-eq-of-lt (omega arith) in
+    let more = sum-set (λ e. e .balance) es (r .0) (credited (entryAt es r) v) (freshEntry 0) there in
+    omega arith
+
+-- an entry in which the slip t was just booked
+pub record Cleared (t : Transfer) (e : Entry) : Type 0 where
+  pub current-is : e .current ≡ t .number
+  pub not-acked : e .acked ≡ false
+  pub no-acks : e .acks ≡ noAcks
+  pub not-proposed : e .proposed ≡ false
+  pub none-pending : e .pending ≡ Empty
+
+cleared : (e e′ : Entry) (t : Transfer) → SameButBalance (debited e t) e′ → Cleared t e′
+cleared e e′ t same =
+    rw same (record { current-is = refl; not-acked = refl; no-acks = refl; not-proposed = refl; none-pending = refl })
+
+module _ (es : List Entry) (a : Account) (t : Transfer) (waits : entryAt es a .pending ≡ Full t) where
+  -- the payer's entry, and the entries with it
+  paid : Entry
+  paid = debited (entryAt es a) t
+
+  taken : List Entry
+  taken = setEntry es a paid
+
+  -- booking is: debit the payer, then credit the recipient
+  apply-is : apply es a ≡ credit taken (t .recipient) (t .value)
+  unfolding apply taken paid
+  apply-is = ap (applySlot es a) waits
+
+  -- what booking clears, and the number that it sets
+  pub apply-clears : a .0 < length es → Cleared t (entryAt (apply es a) a)
+  unfolding taken paid
+  apply-clears inside =
+      rw apply-is
+      (cleared (entryAt es a) _ t (rw (entry-set-same es a paid inside) at (credit-keeps taken (t .recipient) a (t .value))))
+
+  -- booking changes nothing but the balance in any other account
+  pub apply-others : (b : Account) → b .0 ≢ a .0 → SameButBalance (entryAt es b) (entryAt (apply es a) b)
+  unfolding taken paid
+  apply-others b other =
+      rw apply-is (rw (entry-set-other es a paid b other) at (credit-keeps taken (t .recipient) b (t .value)))
+
+  pub apply-length : length (apply es a) ≡ length es
+  unfolding taken
+  apply-length = rw apply-is (simp length-set)
+
+  -- one fewer slip waits
+  pub apply-waiting : a .0 < length es → waiting es ≡ suc (waiting (apply es a))
+  unfolding taken paid
+  apply-waiting inside =
+      let waited : bit (isWaiting (entryAt es a)) ≡ 1 = rw waits in
+      let fewer = sum-set (λ e. bit (isWaiting e)) es (a .0) paid (freshEntry 0) inside in
+      let same = sum-set-same (λ e. bit (isWaiting e)) taken (t .recipient .0) (credited (entryAt taken (t .recipient)) (t .value)) (freshEntry 0) refl in
+      rw apply-is (omega arith)
+
+  -- the sum of balances stays: the payer has the value, all balances together fit, and there is such a recipient
+  pub apply-sum : a .0 < length es → t .value ≤ entryAt es a .balance → t .recipient .0 < length es → sumBalances es < 4_294_967_296
+      → sumBalances (apply es a) ≡ sumBalances es
+  unfolding taken paid
+  apply-sum inside funds there fits =
+      let less = sum-set (λ e. e .balance) es (a .0) paid (freshEntry 0) inside in
+      let long : t .recipient .0 < length taken = rw length-set there in
+      let more = credit-sum taken (t .recipient) (t .value) long (omega arith) in
+      rw apply-is (omega arith)

@@ -1,0 +1,59 @@
+-- Laws of equality and conflict of transfers: the computed tests say what they should.
+use Prim.Native.Nat.{ℕ}
+use mathlib.Core.Path.{_≡_, refl, ap}
+use mathlib.Core.Bool.{Bool, true, false, not, _&&_}
+use lib.Dec.{eqb}
+use borrow.Author.Tests.{eqb-true, eq-eqb}
+use Rattle.model.specs.Transfers.{sameNumber, equal, conflict}
+use Rattle.model.specs.declared.Account.{Account}
+use Rattle.model.specs.declared.Transfer.{Transfer}
+use Rattle.model.proofs.Sums.{impossible}
+
+-- both parts of a test that passes
+pub both : (a b : Bool) → (a && b) ≡ true → (a ≡ true) × (b ≡ true)
+both true b e = (refl, e)
+both false b e = impossible (cc)
+
+same-account : (a b : Account) → eqb (a .0) (b .0) ≡ true → a ≡ b
+same-account a b e = let n : a .0 ≡ b .0 = eqb-true _ _ e in ap (λ (m : ℕ). let c : Account = record { 0 = m } in c) n
+
+-- slips that pass the test are equal
+pub equal-sound : (t u : Transfer) → equal t u ≡ true → t ≡ u
+unfolding equal
+equal-sound t u e =
+    let four = both (sameNumber t u && eqb (t .value) (u .value)) (eqb (t .recipient .0) (u .recipient .0)) e in
+    let three = both (sameNumber t u) (eqb (t .value) (u .value)) (four .0) in
+    let two = both (eqb (t .account .0) (u .account .0)) (eqb (t .number) (u .number)) (three .0) in
+    let account = same-account (t .account) (u .account) (two .0) in
+    let number = eqb-true (t .number) (u .number) (two .1) in
+    let value = eqb-true (t .value) (u .value) (three .1) in
+    let recipient = same-account (t .recipient) (u .recipient) (four .1) in
+    λ i. record { account = account i; number = number i; value = value i; recipient = recipient i }
+
+-- a slip is equal to itself
+pub equal-refl : (t : Transfer) → equal t t ≡ true
+unfolding equal
+equal-refl t =
+    rw (
+      eq-eqb (t .account .0) (t .account .0) refl,
+      eq-eqb (t .number) (t .number) refl,
+      eq-eqb (t .value) (t .value) refl,
+      eq-eqb (t .recipient .0) (t .recipient .0) refl,
+    )
+
+-- slips that conflict have one account and one number, and are not equal
+pub record Conflict (t u : Transfer) : Type 0 where
+  pub account : t .account ≡ u .account
+  pub number : t .number ≡ u .number
+  pub differ : t ≡ u → ⊥
+
+pub conflict-sound : (t u : Transfer) → conflict t u ≡ true → Conflict t u
+unfolding conflict
+conflict-sound t u e =
+    let parts = both (sameNumber t u) (not (equal t u)) e in
+    let two = both (eqb (t .account .0) (u .account .0)) (eqb (t .number) (u .number)) (parts .0) in
+    record {
+      account = same-account (t .account) (u .account) (two .0);
+      number = eqb-true (t .number) (u .number) (two .1);
+      differ = λ same. impossible (cc (parts .1, equal-refl u, same));
+    }

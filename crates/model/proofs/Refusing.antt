@@ -1,0 +1,90 @@
+-- A refusal changes nothing, for every ledger and every call; and a call is refused exactly by the first rule that holds.
+use Prim.Native.Nat.{ℕ}
+use mathlib.Core.Path.{_≡_, refl}
+use mathlib.Core.Bool.{Bool, true, false, cond}
+use mathlib.Core.List.{List}
+use mathlib.Core.Option.{Option, none, some}
+use Rattle.model.specs.Records.{freshLedger, noLedger, entryOf, withProposed, withEntry}
+use Rattle.model.specs.Replies.{Choice, exactly, proposes, Outcome, Allows}
+use Rattle.model.specs.Refusals.{firstRefusal, rulesOf, listRules}
+use Rattle.model.specs.Openings.{openRules, openAnswer, openLedger}
+use Rattle.model.specs.Acks.{acksFor, enough}
+use Rattle.model.specs.Settling.{accept}
+use Rattle.model.specs.Calls.{replies, unlessRefused, accepted, mustPropose, tallied, entryWithAck, effect, step, Lists, ListsUnlessRefused}
+use Rattle.model.specs.declared.Transfer.{Transfer}
+use Rattle.model.specs.declared.Entry.{Entry}
+use Rattle.model.specs.declared.Ledger.{Ledger}
+use Rattle.model.specs.declared.Opening.{Opening}
+use Rattle.model.specs.declared.Refusal.{Refusal}
+use Rattle.model.specs.declared.Message.{Message}
+use Rattle.model.specs.declared.Message.the-variants.{Request, Circulated, Ack, Decision, Inquiry}
+use Rattle.model.specs.declared.Reply.{Reply}
+use Rattle.model.specs.declared.Reply.the-variants.{Circulate, Acknowledge, Accept, Propose, Note, Balance, Refuse}
+use Rattle.model.specs.declared.OpenReply.the-variants.{Opened, OpenRefused}
+use Rattle.model.specs.declared.ListReply.{ListReply}
+use Rattle.model.specs.declared.ListReply.the-variants.{Listed, ListRefused}
+use Rattle.model.proofs.Sums.{impossible}
+
+-- no refusal is among the replies
+abbrev NeverRefuses : Choice → Type 0
+NeverRefuses c = (r : Refusal) → Allows c (Refuse r) → ⊥
+
+tallied-never : (l : Ledger) (e : Entry) (t : Transfer) → NeverRefuses (tallied l e t .choice)
+tallied-never l e t = go (enough (l .seats) (l .faults) (acksFor t (e .acks))) (mustPropose l e)
+  where
+    go : (full conflicting : Bool)
+        → NeverRefuses
+        (cond full (accepted l (accept (l .entries) e t))
+        (cond conflicting (record { choice = proposes (e .acks); next = withEntry l (t .account) (withProposed e) })
+        (replies Note (withEntry l (t .account) e))) .choice)
+    go true c r h = impossible (cc)
+    go false true r h = impossible (cc (h .1))
+    go false false r h = impossible (cc)
+
+effect-never : (l : Ledger) (m : Message) → NeverRefuses (effect l m .choice)
+unfolding effect
+effect-never l (Request t) r h = impossible (cc)
+effect-never l (Circulated t) r h = impossible (cc)
+effect-never l (Ack s t) r h = tallied-never l (entryWithAck l s t) t r h
+effect-never l (Decision t) r h = impossible (cc)
+effect-never l (Inquiry a) r h = impossible (cc)
+
+-- a reply R names the first rule that holds
+pub refused-by : (l : Ledger) (m : Message) (r : Refusal) → Allows (step l m .choice) (Refuse r) → firstRefusal (rulesOf l m) ≡ some r
+unfolding step
+refused-by l m r h = go (firstRefusal (rulesOf l m)) h
+  where
+    go : (o : Option Refusal) → Allows (unlessRefused o l (effect l m) .choice) (Refuse r) → o ≡ some r
+    go none h = absurd (effect-never l m r h)
+    go (some q) h = cc
+
+-- a message that a rule refuses replies its code and changes nothing
+pub refuses : (l : Ledger) (m : Message) (r : Refusal) → firstRefusal (rulesOf l m) ≡ some r → step l m ≡ replies (Refuse r) l
+unfolding step
+refuses l m r e = rw e
+
+-- a refusal changes nothing
+pub refusal-keeps : (l : Ledger) (m : Message) (r : Refusal) → Allows (step l m .choice) (Refuse r) → step l m .next ≡ l
+refusal-keeps l m r h = rw (refuses l m r (refused-by l m r h))
+
+-- a message that no rule refuses has its effect
+pub not-refused : (l : Ledger) (m : Message) → firstRefusal (rulesOf l m) ≡ none → step l m ≡ effect l m
+unfolding step
+not-refused l m e = rw e
+
+-- a refused opening yields the ledger with no seats and no accounts
+pub open-refused : (o : Opening) (r : Refusal) → openLedger o .reply ≡ OpenRefused r → openLedger o .ledger ≡ noLedger
+unfolding openLedger
+open-refused o r h = go (firstRefusal (openRules o)) h
+  where
+    go : (q : Option Refusal) → openAnswer q (freshLedger o) .reply ≡ OpenRefused r → openAnswer q (freshLedger o) .ledger ≡ noLedger
+    go none h = impossible (cc)
+    go (some q) h = refl
+
+-- a refused waiting list leaves the buffer as it was
+pub list-refused : (l : Ledger) (before after : List ℕ) (r : Refusal) → Lists l before (ListRefused r) after → after ≡ before
+list-refused l before after r h = go (firstRefusal (listRules before)) h
+  where
+    go : (q : Option Refusal) → ListsUnlessRefused q l before (ListRefused r) after → after ≡ before
+    go none h = impossible (cc (h .2))
+    go (some q) h = h .1

@@ -1,0 +1,77 @@
+-- Laws of sums, counts and searches.
+use Prim.Native.Nat.{ℕ, zero, suc, _+_, _≤_, _<_}
+use native.Mathlib.Nat.{le-of-suc-le-suc, not-suc-le-zero}
+use native.Mathlib.Decide.{ℕ-discrete}
+use native.Mathlib.Omega.{arith}
+use mathlib.Core.Path.{_≡_, refl, ap}
+use mathlib.Core.Bool.{Bool, true, false, _&&_, _||_}
+use mathlib.Core.List.{List, [], _∷_}
+use mathlib.Core.Option.{Option, none, some}
+use lib.ListN.{length, getD, set}
+use Rattle.model.specs.Basics.{bit, sumOf, any, every, firstWhere}
+
+module _ {A : Type 0} (f : A → ℕ) where
+  -- one element is replaced: the sum changes by the difference of the two
+  pub sum-set : (xs : List A) (i : ℕ) (x d : A) → i < length xs → sumOf f (set xs i x) + f (getD xs i d) ≡ sumOf f xs + f x
+  sum-set [] i x d h = absurd (not-suc-le-zero h)
+  sum-set (y ∷ ys) zero x d h = omega arith
+  sum-set (y ∷ ys) (suc i) x d h = omega (arith, sum-set ys i x d (le-of-suc-le-suc h))
+
+  -- one element is replaced by one with the same number: the sum stays, also behind the last element
+  pub sum-set-same : (xs : List A) (i : ℕ) (x d : A) → f x ≡ f (getD xs i d) → sumOf f (set xs i x) ≡ sumOf f xs
+  sum-set-same [] i x d e = refl
+  sum-set-same (y ∷ ys) zero x d e = ap (λ (n : ℕ). n + sumOf f ys) e
+  sum-set-same (y ∷ ys) (suc i) x d e = ap (λ (n : ℕ). f y + n) (sum-set-same ys i x d e)
+
+  -- no element's number is above the sum
+  pub sum-at-least : (xs : List A) (i : ℕ) (d : A) → i < length xs → f (getD xs i d) ≤ sumOf f xs
+  sum-at-least [] i d h = absurd (not-suc-le-zero h)
+  sum-at-least (y ∷ ys) zero d h = omega arith
+  sum-at-least (y ∷ ys) (suc i) d h = omega (arith, sum-at-least ys i d (le-of-suc-le-suc h))
+
+-- What a search that found j says: j passes the test, is one of the `left` numbers from i on, and is the lowest that passes.
+pub record Found (p : ℕ → Bool) (left i j : ℕ) : Type 0 where
+  pub passes : p j ≡ true
+  pub above : i ≤ j
+  pub below : j < i + left
+  pub lowest : (k : ℕ) → i ≤ k → k < j → p k ≡ false
+
+-- What a search that found nothing says: none of the `left` numbers from i on passes the test.
+abbrev pub NotFound : (ℕ → Bool) → ℕ → ℕ → Type 0
+NotFound p left i = (k : ℕ) → i ≤ k → k < i + left → p k ≡ false
+
+-- from two numbers that differ, anything
+pub impossible : {A : Type 0} → _≡_ {A = ℕ} 0 1 → A
+impossible e = absurd (omega arith)
+
+module _ (p : ℕ → Bool) where
+  pub first-found : (left i j : ℕ) → firstWhere p left i ≡ some j → Found p left i j
+  first-found zero i j e = impossible (cc)
+  first-found (suc left) i j e = go (p i) refl (first-found left (suc i) j)
+    where
+      go : (b : Bool) → p i ≡ b → (firstWhere p left (suc i) ≡ some j → Found p left (suc i) j) → Found p (suc left) i j
+      go true h rest =
+          let here : some i ≡ some j = rw h at e in
+          let same : i ≡ j = cc in
+          record { passes = rw (← same) h; above = omega arith; below = omega arith; lowest = λ k from to. absurd (omega arith) }
+      go false h rest =
+          let found = rest (rw h at e) in
+          record {
+            passes = found .passes;
+            above = omega arith;
+            below = omega arith;
+            lowest = λ k from to. before k (found .lowest k) from to (ℕ-discrete i k);
+          }
+        where
+          before : (k : ℕ) → (suc i ≤ k → k < j → p k ≡ false) → i ≤ k → k < j → Dec (i ≡ k) → p k ≡ false
+          before k lower from to (yes at) = rw (← at) h
+          before k lower from to (no other) = lower (omega arith) to
+
+  pub first-none : (left i : ℕ) → firstWhere p left i ≡ none → NotFound p left i
+  first-none zero i e k from to = absurd (omega arith)
+  first-none (suc left) i e k from to = go (p i) refl (first-none left (suc i)) (ℕ-discrete i k)
+    where
+      go : (b : Bool) → p i ≡ b → (firstWhere p left (suc i) ≡ none → NotFound p left (suc i)) → Dec (i ≡ k) → p k ≡ false
+      go true h rest at = let found : some i ≡ none = rw h at e in impossible (cc)
+      go false h rest (yes at) = rw (← at) h
+      go false h rest (no other) = rest (rw h at e) k (omega arith) (omega arith)

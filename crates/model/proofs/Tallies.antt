@@ -1,0 +1,65 @@
+-- Laws of the tally: what the test for "a slip that has the most acks" says.
+use Prim.Native.Nat.{ℕ, _+_, _≤_}
+use native.Mathlib.Omega.{arith}
+use mathlib.Core.Path.{_≡_, refl, ap, sym}
+use mathlib.Core.Logic.{_⊎_, inl, inr}
+use mathlib.Core.Bool.{Bool, true, false, _&&_}
+use mathlib.Core.List.{List, [], _∷_}
+use lib.Dec.{leb}
+use borrow.Author.Tests.{leb-true, le-leb}
+use Rattle.model.specs.Basics.{bit, every}
+use Rattle.model.specs.Transfers.{equal}
+use Rattle.model.specs.Acks.{holds, acksFor, noMoreThan, hasMost}
+use Rattle.model.specs.declared.Transfer.{Transfer}
+use Rattle.model.specs.declared.Slot.{Slot}
+use Rattle.model.specs.declared.Slot.the-variants.{Empty, Full}
+use Rattle.model.specs.declared.AckSlot.{AckSlot}
+use Rattle.model.proofs.Equality.{both, equal-sound}
+
+-- no slip has more of the acks
+abbrev pub MostAcked : List AckSlot → Transfer → Type 0
+MostAcked acks t = (v : Transfer) → acksFor v acks ≤ acksFor t acks
+
+one-place : (c : ℕ) (acks : List AckSlot) (s : Slot) (v : Transfer)
+    → noMoreThan c acks s ≡ true → (bit (holds v s) ≡ 0) ⊎ (acksFor v acks ≤ c)
+one-place c acks Empty v e = inl refl
+one-place c acks (Full u) v e = go (equal u v) refl
+  where
+    go : (b : Bool) → equal u v ≡ b → (bit (equal u v) ≡ 0) ⊎ (acksFor v acks ≤ c)
+    go true h = inr (rw (equal-sound u v h) at (leb-true (acksFor u acks) c e))
+    go false h = inl (ap bit h)
+
+-- a slip of which none stands in these places, or of which there are at most c
+each-place : (c : ℕ) (acks places : List AckSlot) (v : Transfer)
+    → every (λ a. noMoreThan c acks (a .slot)) places ≡ true → (acksFor v places ≡ 0) ⊎ (acksFor v acks ≤ c)
+each-place c acks [] v e = inl refl
+each-place c acks (a ∷ rest) v e =
+    let parts = both (noMoreThan c acks (a .slot)) (every (λ b. noMoreThan c acks (b .slot)) rest) e in
+    join (one-place c acks (a .slot) v (parts .0)) (each-place c acks rest v (parts .1))
+  where
+    join : (bit (holds v (a .slot)) ≡ 0) ⊎ (acksFor v acks ≤ c) → (acksFor v rest ≡ 0) ⊎ (acksFor v acks ≤ c)
+        → (acksFor v (a ∷ rest) ≡ 0) ⊎ (acksFor v acks ≤ c)
+    join (inr h) r = inr h
+    join (inl z) (inr h) = inr h
+    join (inl z) (inl y) = inl (omega arith)
+
+pub most-sound : (acks : List AckSlot) (t : Transfer) → hasMost acks t ≡ true → MostAcked acks t
+unfolding hasMost
+most-sound acks t e v = go (each-place (acksFor t acks) acks acks v e)
+  where
+    go : (acksFor v acks ≡ 0) ⊎ (acksFor v acks ≤ acksFor t acks) → acksFor v acks ≤ acksFor t acks
+    go (inl z) = omega arith
+    go (inr h) = h
+
+every-place : (c : ℕ) (acks places : List AckSlot) → ((v : Transfer) → acksFor v acks ≤ c)
+    → every (λ a. noMoreThan c acks (a .slot)) places ≡ true
+every-place c acks [] h = refl
+every-place c acks (a ∷ rest) h = rw (here (a .slot)) (every-place c acks rest h)
+  where
+    here : (s : Slot) → noMoreThan c acks s ≡ true
+    here Empty = refl
+    here (Full u) = le-leb (acksFor u acks) c (h u)
+
+pub most-complete : (acks : List AckSlot) (t : Transfer) → MostAcked acks t → hasMost acks t ≡ true
+unfolding hasMost
+most-complete acks t h = every-place (acksFor t acks) acks acks h

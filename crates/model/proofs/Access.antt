@@ -6,15 +6,8 @@ use mathlib.Core.Bool.{Bool, true, false}
 use mathlib.Core.List.{List}
 use lib.ListN.{length, set, length-set}
 use lib.Seq.{getD-set-same, getD-set-other, set-getD, set-set}
+use Rattle.model.specs.Types.{Seat, Account, Transfer, Slot, Empty, Full, AckSlot, Entry, Ledger}
 use Rattle.model.specs.Records.{noAcks, freshEntry, withBalance, withAcked, withAck, withProposed, withPending, withBooked, entryAt, setEntry, withEntries, entryOf, withEntry}
-use Rattle.model.specs.declared.Seat.{Seat}
-use Rattle.model.specs.declared.Account.{Account}
-use Rattle.model.specs.declared.Transfer.{Transfer}
-use Rattle.model.specs.declared.Slot.{Slot}
-use Rattle.model.specs.declared.Slot.the-variants.{Empty, Full}
-use Rattle.model.specs.declared.AckSlot.{AckSlot}
-use Rattle.model.specs.declared.Entry.{Entry}
-use Rattle.model.specs.declared.Ledger.{Ledger}
 
 -- an entry's fields, all of them
 pub record Fields (e : Entry) (balance current : ℕ) (acked : Bool) (acks : List AckSlot) (proposed : Bool) (pending : Slot) : Type 0 where

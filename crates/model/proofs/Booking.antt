@@ -9,14 +9,10 @@ use mathlib.Core.Bool.{Bool, true, false}
 use mathlib.Core.List.{List}
 use lib.ListN.{length, getD, set, length-set}
 use lib.Seq.{set-out}
+use Rattle.model.specs.Types.{Account, Transfer, Slot, Empty, Full, Entry}
 use Rattle.model.specs.Basics.{bit}
 use Rattle.model.specs.Records.{noAcks, freshEntry, withBalance, entryAt, setEntry, sumBalances}
 use Rattle.model.specs.Settling.{isWaiting, affords, affordable, lowestAffordable, waiting, credited, credit, debited, applySlot, apply}
-use Rattle.model.specs.declared.Account.{Account}
-use Rattle.model.specs.declared.Transfer.{Transfer}
-use Rattle.model.specs.declared.Slot.{Slot}
-use Rattle.model.specs.declared.Slot.the-variants.{Empty, Full}
-use Rattle.model.specs.declared.Entry.{Entry}
 use Rattle.model.proofs.Sums.{sum-set, sum-set-same, sum-at-least, impossible}
 use Rattle.model.proofs.Access.{entry-set-same, entry-set-other}
 

@@ -4,9 +4,8 @@ use mathlib.Core.Path.{_≡_, refl, ap}
 use mathlib.Core.Bool.{Bool, true, false, not, _&&_}
 use lib.Dec.{eqb}
 use borrow.Author.Tests.{eqb-true, eq-eqb}
+use Rattle.model.specs.Types.{Account, Transfer}
 use Rattle.model.specs.Transfers.{sameNumber, equal, conflict}
-use Rattle.model.specs.declared.Account.{Account}
-use Rattle.model.specs.declared.Transfer.{Transfer}
 use Rattle.model.proofs.Sums.{impossible}
 
 -- both parts of a test that passes

@@ -5,6 +5,7 @@ use mathlib.Core.List.{List, [], _∷_, _++_, map}
 use mathlib.Core.Option.{Option, none, some}
 use lib.Dec.{T, eqb}
 use lib.ListN.{length, getD, take, drop, set, replicate}
+use Rattle.model.specs.Types.{Account, Transfer, Slot, Empty, Full, AckSlot, Ledger, Opening, Message, Request, Circulated, Ack, Decision, Inquiry}
 use Rattle.model.specs.Basics.{every}
 use Rattle.model.specs.Records.{seatOf, accountOf, noAcks}
 use Rattle.model.specs.Transfers.{equal, conflict}
@@ -15,15 +16,6 @@ use Rattle.model.specs.Acks.{enough, hasMost}
 use Rattle.model.specs.Settling.{lowestAffordable, apply, settleAtMost, settle, accept}
 use Rattle.model.specs.Calls.{effect, step}
 use Rattle.model.specs.Bundles.{bodySum, checkBundle, pageAt, messageOf}
-use Rattle.model.specs.declared.Account.{Account}
-use Rattle.model.specs.declared.Transfer.{Transfer}
-use Rattle.model.specs.declared.Slot.{Slot}
-use Rattle.model.specs.declared.Slot.the-variants.{Empty, Full}
-use Rattle.model.specs.declared.AckSlot.{AckSlot}
-use Rattle.model.specs.declared.Ledger.{Ledger}
-use Rattle.model.specs.declared.Opening.{Opening}
-use Rattle.model.specs.declared.Message.{Message}
-use Rattle.model.specs.declared.Message.the-variants.{Request, Circulated, Ack, Decision, Inquiry}
 
 -- a slip: account, number, value, recipient
 abbrev slip : ℕ → ℕ → ℕ → ℕ → Transfer

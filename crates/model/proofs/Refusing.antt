@@ -4,25 +4,14 @@ use mathlib.Core.Path.{_≡_, refl}
 use mathlib.Core.Bool.{Bool, true, false, cond}
 use mathlib.Core.List.{List}
 use mathlib.Core.Option.{Option, none, some}
+use Rattle.model.specs.Types.{Transfer, Entry, Ledger, Opening, Refusal, Message, Request, Circulated, Ack, Decision, Inquiry, Reply, Circulate, Acknowledge, Accept, Propose, Note, Balance, Refuse, Opened, OpenRefused, ListReply, Listed, ListRefused}
 use Rattle.model.specs.Records.{freshLedger, noLedger, entryOf, withProposed, withEntry}
 use Rattle.model.specs.Replies.{Choice, exactly, proposes, Outcome, Allows}
 use Rattle.model.specs.Refusals.{firstRefusal, rulesOf, listRules}
 use Rattle.model.specs.Openings.{openRules, openAnswer, openLedger}
 use Rattle.model.specs.Acks.{acksFor, enough}
 use Rattle.model.specs.Settling.{accept}
-use Rattle.model.specs.Calls.{replies, unlessRefused, accepted, mustPropose, tallied, entryWithAck, effect, step, Lists, ListsUnlessRefused}
-use Rattle.model.specs.declared.Transfer.{Transfer}
-use Rattle.model.specs.declared.Entry.{Entry}
-use Rattle.model.specs.declared.Ledger.{Ledger}
-use Rattle.model.specs.declared.Opening.{Opening}
-use Rattle.model.specs.declared.Refusal.{Refusal}
-use Rattle.model.specs.declared.Message.{Message}
-use Rattle.model.specs.declared.Message.the-variants.{Request, Circulated, Ack, Decision, Inquiry}
-use Rattle.model.specs.declared.Reply.{Reply}
-use Rattle.model.specs.declared.Reply.the-variants.{Circulate, Acknowledge, Accept, Propose, Note, Balance, Refuse}
-use Rattle.model.specs.declared.OpenReply.the-variants.{Opened, OpenRefused}
-use Rattle.model.specs.declared.ListReply.{ListReply}
-use Rattle.model.specs.declared.ListReply.the-variants.{Listed, ListRefused}
+use Rattle.model.specs.Calls.{replies, unlessRefused, accepted, mustPropose, tallied, entryWithAck, effect, step, Answers, Lists, ListsUnlessRefused}
 use Rattle.model.proofs.Sums.{impossible}
 
 -- no refusal is among the replies
@@ -50,7 +39,7 @@ effect-never l (Decision t) r h = impossible (cc)
 effect-never l (Inquiry a) r h = impossible (cc)
 
 -- a reply R names the first rule that holds
-pub refused-by : (l : Ledger) (m : Message) (r : Refusal) → Allows (step l m .choice) (Refuse r) → firstRefusal (rulesOf l m) ≡ some r
+pub refused-by : (l : Ledger) (m : Message) (r : Refusal) → Answers l m (Refuse r) → firstRefusal (rulesOf l m) ≡ some r
 unfolding step
 refused-by l m r h = go (firstRefusal (rulesOf l m)) h
   where
@@ -64,7 +53,7 @@ unfolding step
 refuses l m r e = rw e
 
 -- a refusal changes nothing
-pub refusal-keeps : (l : Ledger) (m : Message) (r : Refusal) → Allows (step l m .choice) (Refuse r) → step l m .next ≡ l
+pub refusal-keeps : (l : Ledger) (m : Message) (r : Refusal) → Answers l m (Refuse r) → step l m .next ≡ l
 refusal-keeps l m r h = rw (refuses l m r (refused-by l m r h))
 
 -- a message that no rule refuses has its effect

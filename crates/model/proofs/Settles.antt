@@ -9,36 +9,36 @@ use mathlib.Core.List.{List}
 use mathlib.Core.Option.{Option, none, some}
 use lib.ListN.{length, getD}
 use borrow.Author.Tests.{leb-true}
+use Rattle.model.specs.Types.{Account, Transfer, Slot, Empty, Full, Entry, Settled}
 use Rattle.model.specs.Records.{accountOf, freshEntry, entryAt, sumBalances}
 use Rattle.model.specs.Settling.{isWaiting, affords, affordable, lowestAffordable, waiting, apply, oneMore, settleAtMost, settle}
-use Rattle.model.specs.declared.Account.{Account}
-use Rattle.model.specs.declared.Transfer.{Transfer}
-use Rattle.model.specs.declared.Slot.{Slot}
-use Rattle.model.specs.declared.Slot.the-variants.{Empty, Full}
-use Rattle.model.specs.declared.Entry.{Entry}
-use Rattle.model.specs.declared.Settled.{Settled}
 use Rattle.model.proofs.Sums.{Found, first-found, impossible}
 use Rattle.model.proofs.Booking.{apply-waiting, apply-sum, apply-length, apply-clears, apply-others}
 
--- What it means that account a is the lowest affordable one: its slip, which waits there and which its balance covers.
+-- What it means that account a is the lowest affordable one: its slip, which waits there and which its balance covers, as no lower
+-- account's balance does.
 pub record Affordable (es : List Entry) (a : ℕ) : Type 0 where
   pub transfer : Transfer
   pub inside : a < length es
-  pub waits : getD es a (freshEntry 0) .pending ≡ Full transfer
-  pub funds : transfer .value ≤ getD es a (freshEntry 0) .balance
-
-affordable-slot : (es : List Entry) (a : ℕ) → a < length es → affordable (getD es a (freshEntry 0)) ≡ true → Affordable es a
-affordable-slot es a inside e = go (getD es a (freshEntry 0) .pending) refl
-  where
-    go : (s : Slot) → getD es a (freshEntry 0) .pending ≡ s → Affordable es a
-    go Empty h = let z : affords (getD es a (freshEntry 0) .balance) Empty ≡ true = rw h at e in impossible (cc)
-    go (Full t) h = record { transfer = t; inside = inside; waits = h; funds = leb-true _ _ (rw h at e) }
+  pub waits : entryAt es (accountOf a) .pending ≡ Full transfer
+  pub funds : transfer .value ≤ entryAt es (accountOf a) .balance
+  pub lowest : (b : ℕ) → b < a → affordable (entryAt es (accountOf b)) ≡ false
 
 pub lowest-affordable : (es : List Entry) (a : ℕ) → lowestAffordable es ≡ some a → Affordable es a
 unfolding lowestAffordable
 lowest-affordable es a e =
-    let found = first-found (λ b. affordable (getD es b (freshEntry 0))) (length es) 0 a e in
-    affordable-slot es a (omega arith) (found .passes)
+    go (entryAt es (accountOf a) .pending) refl (first-found (λ b. affordable (entryAt es (accountOf b))) (length es) 0 a e)
+  where
+    go : (s : Slot) → entryAt es (accountOf a) .pending ≡ s → Found (λ b. affordable (entryAt es (accountOf b))) (length es) 0 a → Affordable es a
+    go Empty h found = impossible (let z : false ≡ true = rw h at (found .passes) in cc)
+    go (Full t) h found =
+        record {
+          transfer = t;
+          inside = omega arith;
+          waits = h;
+          funds = leb-true (t .value) (entryAt es (accountOf a) .balance) (rw h at (found .passes));
+          lowest = λ b below. found .lowest b (omega arith) below;
+        }
 
 -- nothing is affordable: settling ends
 pub settle-none : (es : List Entry) → lowestAffordable es ≡ none → settle es ≡ record { applied = 0; entries = es }

@@ -7,13 +7,10 @@ use mathlib.Core.Bool.{Bool, true, false, _&&_}
 use mathlib.Core.List.{List, [], _∷_}
 use lib.Dec.{leb}
 use borrow.Author.Tests.{leb-true, le-leb}
+use Rattle.model.specs.Types.{Transfer, Slot, Empty, Full, AckSlot}
 use Rattle.model.specs.Basics.{bit, every}
 use Rattle.model.specs.Transfers.{equal}
 use Rattle.model.specs.Acks.{holds, acksFor, noMoreThan, hasMost}
-use Rattle.model.specs.declared.Transfer.{Transfer}
-use Rattle.model.specs.declared.Slot.{Slot}
-use Rattle.model.specs.declared.Slot.the-variants.{Empty, Full}
-use Rattle.model.specs.declared.AckSlot.{AckSlot}
 use Rattle.model.proofs.Equality.{both, equal-sound}
 
 -- no slip has more of the acks

@@ -3,12 +3,9 @@ use Prim.Native.Nat.{ℕ, _+_, _-_, _*_}
 use mathlib.Core.Bool.{Bool, true, false}
 use mathlib.Core.List.{List}
 use lib.Dec.{leb, ltb}
+use Rattle.model.specs.Types.{Transfer, Slot, Empty, Full, AckSlot}
 use Rattle.model.specs.Basics.{count, any, every}
 use Rattle.model.specs.Transfers.{equal, conflict}
-use Rattle.model.specs.declared.Transfer.{Transfer}
-use Rattle.model.specs.declared.Slot.{Slot}
-use Rattle.model.specs.declared.Slot.the-variants.{Empty, Full}
-use Rattle.model.specs.declared.AckSlot.{AckSlot}
 
 -- the place holds a slip equal to this one
 abbrev pub holds : Transfer → Slot → Bool

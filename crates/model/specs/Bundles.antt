@@ -5,18 +5,9 @@ use mathlib.Core.List.{List, [], _∷_}
 use mathlib.Core.Option.{Option, none, some}
 use lib.Dec.{leb, ltb, eqb}
 use lib.ListN.{length, getD, take, drop}
+use Rattle.model.specs.Types.{Account, Transfer, Opening, Message, Request, Circulated, Ack, Decision, Inquiry, Refusal, BadHeader, BadContents, BadEnd, BadSum, ContentsEntry, BundleReply, Sound, BundleRefused}
 use Rattle.model.specs.Basics.{firstWhere}
 use Rattle.model.specs.Records.{seatOf, accountOf}
-use Rattle.model.specs.declared.Account.{Account}
-use Rattle.model.specs.declared.Transfer.{Transfer}
-use Rattle.model.specs.declared.Opening.{Opening}
-use Rattle.model.specs.declared.Message.{Message}
-use Rattle.model.specs.declared.Message.the-variants.{Request, Circulated, Ack, Decision, Inquiry}
-use Rattle.model.specs.declared.Refusal.{Refusal}
-use Rattle.model.specs.declared.Refusal.the-variants.{BadHeader, BadContents, BadEnd, BadSum}
-use Rattle.model.specs.declared.ContentsEntry.{ContentsEntry}
-use Rattle.model.specs.declared.BundleReply.{BundleReply}
-use Rattle.model.specs.declared.BundleReply.the-variants.{Sound, BundleRefused}
 
 -- "Numbers are little-endian": of 2 and of 4 bytes, at a place
 abbrev pub number2 : List ℕ → ℕ → ℕ

@@ -6,25 +6,13 @@ use mathlib.Core.List.{List, _++_}
 use mathlib.Core.Option.{Option, none, some}
 use lib.Dec.{leb, eqb}
 use lib.ListN.{length, getD, drop}
+use Rattle.model.specs.Types.{Seat, Account, Transfer, Entry, Ledger, Settled, Refusal, Message, Request, Circulated, Ack, Decision, Inquiry, Reply, Circulate, Acknowledge, Accept, Note, Balance, Refuse, ListReply, Listed, ListRefused}
 use Rattle.model.specs.Basics.{bit, count}
-use Rattle.model.specs.Records.{freshEntry, entryOf, withEntry, withEntries, withAcked, withAck, withProposed}
+use Rattle.model.specs.Records.{accountOf, entryOf, withEntry, withEntries, withAcked, withAck, withProposed}
 use Rattle.model.specs.Replies.{Choice, exactly, proposes, Outcome, Allows}
 use Rattle.model.specs.Refusals.{firstRefusal, rulesOf, listRules}
 use Rattle.model.specs.Acks.{acksFor, acksRecorded, enough, twoConflict}
 use Rattle.model.specs.Settling.{isWaiting, accept}
-use Rattle.model.specs.declared.Seat.{Seat}
-use Rattle.model.specs.declared.Account.{Account}
-use Rattle.model.specs.declared.Transfer.{Transfer}
-use Rattle.model.specs.declared.Entry.{Entry}
-use Rattle.model.specs.declared.Ledger.{Ledger}
-use Rattle.model.specs.declared.Settled.{Settled}
-use Rattle.model.specs.declared.Refusal.{Refusal}
-use Rattle.model.specs.declared.Message.{Message}
-use Rattle.model.specs.declared.Message.the-variants.{Request, Circulated, Ack, Decision, Inquiry}
-use Rattle.model.specs.declared.Reply.{Reply}
-use Rattle.model.specs.declared.Reply.the-variants.{Circulate, Acknowledge, Accept, Note, Balance, Refuse}
-use Rattle.model.specs.declared.ListReply.{ListReply}
-use Rattle.model.specs.declared.ListReply.the-variants.{Listed, ListRefused}
 
 -- this reply, and this ledger after it
 abbrev pub replies : Reply → Ledger → Outcome
@@ -76,9 +64,13 @@ unlessRefused (some r) l o = replies (Refuse r) l
 unfoldable pub step : Ledger → Message → Outcome
 step l m = unlessRefused (firstRefusal (rulesOf l m)) l (effect l m)
 
+-- The replies that a message may get: one, save for P on a tie.
+abbrev pub Answers : Ledger → Message → Reply → Type 0
+Answers l m r = Allows (step l m .choice) r
+
 -- Waiting list: the accounts with a waiting slip, each once. Their order is left free.
 abbrev pub WaitingAccounts : Ledger → List ℕ → Type 0
-WaitingAccounts l accounts = (a : ℕ) → count (eqb a) accounts ≡ bit (isWaiting (getD (l .entries) a (freshEntry 0)))
+WaitingAccounts l accounts = (a : ℕ) → count (eqb a) accounts ≡ bit (isWaiting (entryOf l (accountOf a)))
 
 -- what the list replies and leaves in the buffer, given what the buffer held; the ledger stays the same
 abbrev pub ListsUnlessRefused : Option Refusal → Ledger → List ℕ → ListReply → List ℕ → Type 0

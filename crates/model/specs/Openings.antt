@@ -5,16 +5,10 @@ use mathlib.Core.List.{List, [], _∷_}
 use mathlib.Core.Option.{Option, none, some}
 use lib.Dec.{leb, ltb, eqb}
 use lib.ListN.{drop}
+use Rattle.model.specs.Types.{Ledger, Opening, Refusal, BadGroup, BadAccounts, SumTooLarge, OpenReply, Opened, OpenRefused, OpenAnswer}
 use Rattle.model.specs.Basics.{any, sumOf}
 use Rattle.model.specs.Records.{freshLedger, noLedger}
 use Rattle.model.specs.Refusals.{Rule, firstRefusal}
-use Rattle.model.specs.declared.Ledger.{Ledger}
-use Rattle.model.specs.declared.Opening.{Opening}
-use Rattle.model.specs.declared.Refusal.{Refusal}
-use Rattle.model.specs.declared.Refusal.the-variants.{BadGroup, BadAccounts, SumTooLarge}
-use Rattle.model.specs.declared.OpenReply.{OpenReply}
-use Rattle.model.specs.declared.OpenReply.the-variants.{Opened, OpenRefused}
-use Rattle.model.specs.declared.OpenAnswer.{OpenAnswer}
 
 -- 1: n outside 1 to 16, or 5 × f ≥ n
 abbrev pub badGroup : Opening → Bool

@@ -3,16 +3,8 @@ use Prim.Native.Nat.{ℕ}
 use mathlib.Core.Bool.{true, false}
 use mathlib.Core.List.{List, map}
 use lib.ListN.{getD, set, replicate}
+use Rattle.model.specs.Types.{Seat, Account, Transfer, Slot, Empty, Full, AckSlot, Entry, Ledger, Opening}
 use Rattle.model.specs.Basics.{sumOf}
-use Rattle.model.specs.declared.Seat.{Seat}
-use Rattle.model.specs.declared.Account.{Account}
-use Rattle.model.specs.declared.Transfer.{Transfer}
-use Rattle.model.specs.declared.Slot.{Slot}
-use Rattle.model.specs.declared.Slot.the-variants.{Empty, Full}
-use Rattle.model.specs.declared.AckSlot.{AckSlot}
-use Rattle.model.specs.declared.Entry.{Entry}
-use Rattle.model.specs.declared.Ledger.{Ledger}
-use Rattle.model.specs.declared.Opening.{Opening}
 
 -- the seat and the account with a number
 abbrev pub seatOf : ℕ → Seat

@@ -3,21 +3,8 @@ use Prim.Native.Nat.{ℕ}
 use mathlib.Core.Path.{_≡_}
 use mathlib.Core.List.{List, [], _∷_}
 use mathlib.Core.Bool.{true}
+use Rattle.model.specs.Types.{Transfer, AckSlot, Ledger, Answer, Refusal, BadGroup, BadAccounts, SumTooLarge, UnknownSeat, OutOfRange, PastNumber, FutureNumber, AlreadyAccepted, AckRepeated, AckConflicting, InsufficientFunds, AlreadyAcked, BadHeader, BadContents, BadEnd, BadSum, ShortBuffer, Reply, Circulate, Acknowledge, Accept, Propose, Note, Balance, Refuse, OpenReply, Opened, OpenRefused, ListReply, Listed, ListRefused, BundleReply, Sound, BundleRefused}
 use Rattle.model.specs.Acks.{hasMost}
-use Rattle.model.specs.declared.Transfer.{Transfer}
-use Rattle.model.specs.declared.AckSlot.{AckSlot}
-use Rattle.model.specs.declared.Ledger.{Ledger}
-use Rattle.model.specs.declared.Answer.{Answer}
-use Rattle.model.specs.declared.Refusal.{Refusal}
-use Rattle.model.specs.declared.Refusal.the-variants.{BadGroup, BadAccounts, SumTooLarge, UnknownSeat, OutOfRange, PastNumber, FutureNumber, AlreadyAccepted, AckRepeated, AckConflicting, InsufficientFunds, AlreadyAcked, BadHeader, BadContents, BadEnd, BadSum, ShortBuffer}
-use Rattle.model.specs.declared.Reply.{Reply}
-use Rattle.model.specs.declared.Reply.the-variants.{Circulate, Acknowledge, Accept, Propose, Note, Balance, Refuse}
-use Rattle.model.specs.declared.OpenReply.{OpenReply}
-use Rattle.model.specs.declared.OpenReply.the-variants.{Opened, OpenRefused}
-use Rattle.model.specs.declared.ListReply.{ListReply}
-use Rattle.model.specs.declared.ListReply.the-variants.{Listed, ListRefused}
-use Rattle.model.specs.declared.BundleReply.{BundleReply}
-use Rattle.model.specs.declared.BundleReply.the-variants.{Sound, BundleRefused}
 
 -- the refusal codes
 abbrev pub codeOf : Refusal → ℕ

@@ -5,15 +5,10 @@ use mathlib.Core.List.{List}
 use mathlib.Core.Option.{Option, none, some}
 use lib.Dec.{leb}
 use lib.ListN.{length, getD}
+use Rattle.model.specs.Types.{Account, Transfer, Slot, Empty, Full, Entry, Settled}
 use Rattle.model.specs.Basics.{count, firstWhere}
 use Rattle.model.specs.Records.{accountOf, freshEntry, entryAt, setEntry, withBalance, withBooked, withPending}
 use Rattle.model.specs.Acks.{isFull}
-use Rattle.model.specs.declared.Account.{Account}
-use Rattle.model.specs.declared.Transfer.{Transfer}
-use Rattle.model.specs.declared.Slot.{Slot}
-use Rattle.model.specs.declared.Slot.the-variants.{Empty, Full}
-use Rattle.model.specs.declared.Entry.{Entry}
-use Rattle.model.specs.declared.Settled.{Settled}
 
 -- an accepted slip of the account waits
 abbrev pub isWaiting : Entry → Bool
@@ -30,7 +25,7 @@ affordable e = affords (e .balance) (e .pending)
 
 -- the lowest account with such a slip
 unfoldable pub lowestAffordable : List Entry → Option ℕ
-lowestAffordable es = firstWhere (λ a. affordable (getD es a (freshEntry 0))) (length es) 0
+lowestAffordable es = firstWhere (λ a. affordable (entryAt es (accountOf a))) (length es) 0
 
 -- how many slips wait
 abbrev pub waiting : List Entry → ℕ

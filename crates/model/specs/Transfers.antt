@@ -1,8 +1,7 @@
 -- Document 01: a slip is account (who pays), number, value, recipient.
 use mathlib.Core.Bool.{Bool, not, _&&_}
 use lib.Dec.{eqb}
-use Rattle.model.specs.declared.Account.{Account}
-use Rattle.model.specs.declared.Transfer.{Transfer}
+use Rattle.model.specs.Types.{Account, Transfer}
 
 abbrev pub sameAccount : Account → Account → Bool
 sameAccount a b = eqb (a .0) (b .0)

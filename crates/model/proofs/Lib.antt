@@ -7,3 +7,4 @@ pub mod Tallies
 pub mod Booking
 pub mod Settles
 pub mod Refusing
+pub mod Witnesses

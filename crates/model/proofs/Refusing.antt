@@ -2,17 +2,31 @@
 use Prim.Native.Nat.{ℕ}
 use mathlib.Core.Path.{_≡_, refl}
 use mathlib.Core.Bool.{Bool, true, false, cond}
-use mathlib.Core.List.{List}
+use mathlib.Core.List.{List, [], _∷_}
 use mathlib.Core.Option.{Option, none, some}
 use Rattle.model.specs.Types.{Transfer, Entry, Ledger, Opening, Refusal, Message, Request, Circulated, Ack, Decision, Inquiry, Reply, Circulate, Acknowledge, Accept, Propose, Note, Balance, Refuse, Opened, OpenRefused, ListReply, Listed, ListRefused}
 use Rattle.model.specs.Records.{freshLedger, noLedger, entryOf, withProposed, withEntry}
 use Rattle.model.specs.Replies.{Choice, exactly, proposes, Outcome, Allows}
-use Rattle.model.specs.Refusals.{firstRefusal, rulesOf, listRules}
+use Rattle.model.specs.Refusals.{Rule, firstRefusal, rulesOf, listRules}
 use Rattle.model.specs.Openings.{openRules, openAnswer, openLedger}
 use Rattle.model.specs.Acks.{acksFor, enough}
 use Rattle.model.specs.Settling.{accept}
 use Rattle.model.specs.Calls.{replies, unlessRefused, accepted, mustPropose, tallied, entryWithAck, effect, step, Answers, Lists, ListsUnlessRefused}
 use Rattle.model.proofs.Sums.{impossible}
+
+-- every test of the rules fails
+abbrev pub AllFail : List Rule → Type 0
+AllFail [] = Unit {0}
+AllFail (r ∷ rs) = (r .0 ≡ false) × AllFail rs
+
+-- what is not refused failed every test of its rules
+pub none-holds : (rules : List Rule) → firstRefusal rules ≡ none → AllFail rules
+none-holds [] e = tt
+none-holds (r ∷ rs) e = go (r .0) refl (none-holds rs)
+  where
+    go : (b : Bool) → r .0 ≡ b → (firstRefusal rs ≡ none → AllFail rs) → (r .0 ≡ false) × AllFail rs
+    go true h rest = let found : some (r .1) ≡ none = rw h at e in impossible (cc)
+    go false h rest = (h, rest (rw h at e))
 
 -- no refusal is among the replies
 abbrev NeverRefuses : Choice → Type 0

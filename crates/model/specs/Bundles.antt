@@ -85,21 +85,30 @@ badEnd bytes = not (eqb (length bytes) (startAt bytes (entryCount bytes)))
 abbrev pub firstBadSum : List ℕ → Option ℕ
 firstBadSum bytes = firstWhere (λ i. not (eqb (contentsAt bytes i .sum) (bodySum (pageAt bytes i .body)))) (entryCount bytes) 0
 
--- a refusal that names the lowest entry at fault, or what the checks behind it say
-abbrev pub refusedAt : Refusal → Option ℕ → BundleReply → BundleReply
-refusedAt r none rest = rest
-refusedAt r (some i) rest = BundleRefused r i
+-- a refusal, and the entry that it names if it holds
+abbrev pub Fault : Type 0
+Fault = Option ℕ × Refusal
 
--- "Codes 13, 14, 15, 16 are tried in that order over the whole bundle, the lowest entry first". 13 and 15 name entry 0.
+-- a fault of the whole bundle names entry 0
+abbrev pub ofWhole : Bool → Option ℕ
+ofWhole b = cond b (some 0) none
+
+-- the first fault that there is; with none, a sound bundle of m entries
+abbrev pub firstFault : ℕ → List Fault → BundleReply
+firstFault m [] = Sound m
+firstFault m (f ∷ fs) = elim (f .0) [ none ↦ firstFault m fs | some i ↦ BundleRefused (f .1) i ]
+
+-- "Codes 13, 14, 15, 16 are tried in that order over the whole bundle, the lowest entry first"
+abbrev pub faults : List ℕ → List Fault
+faults bytes =
+    (ofWhole (badHeader bytes), BadHeader)
+    ∷ (firstBadEntry bytes, BadContents)
+    ∷ (ofWhole (badEnd bytes), BadEnd)
+    ∷ (firstBadSum bytes, BadSum)
+    ∷ []
+
 unfoldable pub checkBundle : List ℕ → BundleReply
-checkBundle bytes =
-    cond
-    (badHeader bytes)
-    (BundleRefused BadHeader 0)
-    (refusedAt
-    BadContents
-    (firstBadEntry bytes)
-    (cond (badEnd bytes) (BundleRefused BadEnd 0) (refusedAt BadSum (firstBadSum bytes) (Sound (entryCount bytes)))))
+checkBundle bytes = firstFault (entryCount bytes) (faults bytes)
 
 -- What a reading finds: a page and the next entry, or no more pages and the place where it stays.
 pub data Reading : Type 0 where

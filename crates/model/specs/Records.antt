@@ -81,9 +81,13 @@ freshLedger o =
       entries = map freshEntry (o .balances);
     }
 
--- the ledger that a refused opening yields: no seats and no accounts
+-- a page with nothing on it
+abbrev pub emptyPage : Opening
+emptyPage = record { seats = 0; faults = 0; accounts = 0; balances = replicate 32 0 }
+
+-- the ledger that a refused opening yields: no seats, no accounts and no balances
 abbrev pub noLedger : Ledger
-noLedger = record { seats = 0; faults = 0; accounts = 0; total = 0; entries = replicate 32 (freshEntry 0) }
+noLedger = freshLedger emptyPage
 
 abbrev pub withEntries : Ledger → List Entry → Ledger
 withEntries l es = record { seats = l .seats; faults = l .faults; accounts = l .accounts; total = l .total; entries = es }

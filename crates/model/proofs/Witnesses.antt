@@ -1,0 +1,133 @@
+-- Nothing here is empty: every message has an answer, every waiting list too, and an opened ledger has the bounds of the laws.
+use Prim.Native.Nat.{ℕ, zero, suc, _+_, _≤_, _<_}
+use native.Mathlib.Decide.{decLe, ℕ-discrete}
+use native.Mathlib.Nat.{zero-add}
+use native.Mathlib.Omega.{arith}
+use mathlib.Core.Path.{_≡_, refl, ap, sym, _∙_}
+use mathlib.Core.Bool.{Bool, true, false, cond, _&&_}
+use mathlib.Core.List.{List, [], _∷_, _++_, map}
+use mathlib.Core.Option.{Option, none, some}
+use lib.Dec.{leb, eqb, lit<}
+use lib.ListN.{length, getD, drop, replicate, List·getD-map}
+use borrow.Author.Tests.{leb-true, le-leb, ltb-false, eq-eqb, ne-eqb}
+use Rattle.model.specs.Types.{Account, Transfer, Slot, Empty, Full, AckSlot, Entry, Ledger, Opening, Refusal, Message, Reply, Propose, Refuse, ListReply, Listed, ListRefused}
+use Rattle.model.specs.Basics.{bit, sumOf, every, count}
+use Rattle.model.specs.Records.{accountOf, freshEntry, entryAt, entryOf, sumBalances, emptyPage, freshLedger}
+use Rattle.model.specs.Replies.{Choice, exactly, proposes, Allows}
+use Rattle.model.specs.Refusals.{firstRefusal, listRules}
+use Rattle.model.specs.Openings.{openRules, openAnswer, openLedger}
+use Rattle.model.specs.Acks.{acksFor, noMoreThan, hasMost}
+use Rattle.model.specs.Settling.{isWaiting}
+use Rattle.model.specs.Calls.{step, Answers, WaitingAccounts, ListsUnlessRefused, Lists}
+use Rattle.model.proofs.Sums.{impossible}
+use Rattle.model.proofs.Equality.{both}
+use Rattle.model.proofs.Settles.{Bounded}
+use Rattle.model.proofs.Refusing.{none-holds}
+
+-- no slip in these places has more than c of the acks
+abbrev AtMost : ℕ → List AckSlot → List AckSlot → Type 0
+AtMost c acks places = every (λ a. noMoreThan c acks (a .slot)) places ≡ true
+
+at-most-more : (c d : ℕ) → c ≤ d → (acks places : List AckSlot) → AtMost c acks places → AtMost d acks places
+at-most-more c d le acks [] e = refl
+at-most-more c d le acks (a ∷ rest) e =
+    let parts = both (noMoreThan c acks (a .slot)) (every (λ b. noMoreThan c acks (b .slot)) rest) e in
+    rw (here (a .slot) (parts .0)) (at-most-more c d le acks rest (parts .1))
+  where
+    here : (s : Slot) → noMoreThan c acks s ≡ true → noMoreThan d acks s ≡ true
+    here Empty e = refl
+    here (Full u) e = le-leb (acksFor u acks) d (omega (arith, leb-true (acksFor u acks) c e))
+
+-- a slip that has no fewer of the acks than any slip in these places
+best-of : (acks places : List AckSlot) → (t : Transfer) × AtMost (acksFor t acks) acks places
+best-of acks [] = (record { account = accountOf 0; number = 0; value = 0; recipient = accountOf 0 }, refl)
+best-of acks (a ∷ rest) = better (a .slot) (best-of acks rest)
+  where
+    Best : Slot → Type 0
+    Best s = (t : Transfer) × (noMoreThan (acksFor t acks) acks s && every (λ b. noMoreThan (acksFor t acks) acks (b .slot)) rest ≡ true)
+
+    better : (s : Slot) → ((t : Transfer) × AtMost (acksFor t acks) acks rest) → Best s
+    better Empty best = best
+    better (Full u) best = go (decLe (acksFor u acks) (acksFor (best .0) acks))
+      where
+        go : Dec (acksFor u acks ≤ acksFor (best .0) acks) → Best (Full u)
+        go (yes le) = (best .0, rw (le-leb (acksFor u acks) (acksFor (best .0) acks) le) (best .1))
+        go (no gt) = (u, rw (le-leb (acksFor u acks) (acksFor u acks) (omega arith)) (at-most-more (acksFor (best .0) acks) (acksFor u acks) (omega arith) acks rest (best .1)))
+
+-- some slip has the most acks
+pub some-most : (acks : List AckSlot) → (t : Transfer) × (hasMost acks t ≡ true)
+unfolding hasMost
+some-most acks = best-of acks acks
+
+-- every message has an answer
+pub some-answer : (l : Ledger) (m : Message) → (r : Reply) × Answers l m r
+some-answer l m = go (step l m .choice)
+  where
+    go : (c : Choice) → (r : Reply) × Allows c r
+    go (exactly r) = (r, refl)
+    go (proposes acks) = let most = some-most acks in (Propose (most .0), (most .0, refl, most .1))
+
+-- the accounts with a waiting slip, lowest first, of these entries, the first of which is account i's
+waitingFrom : ℕ → List Entry → List ℕ
+waitingFrom i [] = []
+waitingFrom i (e ∷ es) = cond (isWaiting e) (i ∷ waitingFrom (suc i) es) (waitingFrom (suc i) es)
+
+waiting-below : (i : ℕ) (es : List Entry) (a : ℕ) → a < i → count (eqb a) (waitingFrom i es) ≡ 0
+unfolding waitingFrom
+waiting-below i [] a h = refl
+waiting-below i (e ∷ es) a h = go (isWaiting e) (waiting-below (suc i) es a (omega arith))
+  where
+    go : (b : Bool) → count (eqb a) (waitingFrom (suc i) es) ≡ 0 → count (eqb a) (cond b (i ∷ waitingFrom (suc i) es) (waitingFrom (suc i) es)) ≡ 0
+    go true rest = rw (ne-eqb a i (omega arith)) (omega arith)
+    go false rest = rest
+
+waiting-at : (i : ℕ) (es : List Entry) (a : ℕ) → count (eqb (i + a)) (waitingFrom i es) ≡ bit (isWaiting (entryAt es (accountOf a)))
+unfolding waitingFrom
+waiting-at i [] a = refl
+waiting-at i (e ∷ es) zero = go (isWaiting e) (waiting-below (suc i) es (i + 0) (omega arith))
+  where
+    go : (b : Bool) → count (eqb (i + 0)) (waitingFrom (suc i) es) ≡ 0
+        → count (eqb (i + 0)) (cond b (i ∷ waitingFrom (suc i) es) (waitingFrom (suc i) es)) ≡ bit b
+    go true rest = rw (eq-eqb (i + 0) i (omega arith)) (omega arith)
+    go false rest = rest
+waiting-at i (e ∷ es) (suc a) =
+    let shifted : suc i + a ≡ i + suc a = omega arith in
+    go (isWaiting e) (rw shifted at (waiting-at (suc i) es a))
+  where
+    go : (b : Bool) → count (eqb (i + suc a)) (waitingFrom (suc i) es) ≡ bit (isWaiting (entryAt es (accountOf a)))
+        → count (eqb (i + suc a)) (cond b (i ∷ waitingFrom (suc i) es) (waitingFrom (suc i) es)) ≡ bit (isWaiting (entryAt es (accountOf a)))
+    go true rest = rw (ne-eqb (i + suc a) i (omega arith)) (omega arith)
+    go false rest = rest
+
+-- every waiting list has an answer
+pub some-list : (l : Ledger) (before : List ℕ) → (reply : ListReply) × (after : List ℕ) × Lists l before reply after
+some-list l before = go (firstRefusal (listRules before))
+  where
+    accounts : List ℕ
+    accounts = waitingFrom 0 (l .entries)
+
+    go : (q : Option Refusal) → (reply : ListReply) × (after : List ℕ) × ListsUnlessRefused q l before reply after
+    go none = (Listed (length accounts), accounts ++ drop (length accounts) before, (accounts, λ a. rw zero-add at (waiting-at 0 (l .entries) a), refl, refl))
+    go (some r) = (ListRefused r, before, (refl, refl))
+
+fresh-sum : (balances : List ℕ) → sumBalances (map freshEntry balances) ≡ sumOf (λ b. b) balances
+fresh-sum [] = refl
+fresh-sum (b ∷ bs) = ap (λ (n : ℕ). b + n) (fresh-sum bs)
+
+fresh-bounded : (o : Opening) → sumOf (λ b. b) (o .balances) < 4_294_967_296 → Bounded (freshLedger o .entries)
+fresh-bounded o fits =
+    record {
+      sum-fits = rw (fresh-sum (o .balances)) fits;
+      recipients = λ a t h. impossible (cc (h, ap (λ (e : Entry). e .pending) (List·getD-map freshEntry (o .balances) (a .0) 0)));
+    }
+
+-- a just opened ledger, and the one that a refused opening yields, has the bounds under which settling keeps the sum of balances
+pub open-bounded : (o : Opening) → Bounded (openLedger o .ledger .entries)
+unfolding openLedger
+open-bounded o = go (firstRefusal (openRules o)) refl
+  where
+    go : (q : Option Refusal) → firstRefusal (openRules o) ≡ q → Bounded (openAnswer q (freshLedger o) .ledger .entries)
+    go none e =
+        let sum-passed = none-holds (openRules o) e .1 .1 .0 in
+        fresh-bounded o (omega (arith, ltb-false 4_294_967_295 (sumOf (λ b. b) (o .balances)) sum-passed))
+    go (some r) e = fresh-bounded emptyPage (lit< tt)

@@ -1,19 +1,19 @@
 -- Laws of booking: what it clears, that one fewer slip waits after it, and that it keeps the sum of balances.
-use Prim.Native.Nat.{ℕ, suc, _+_, _-_, _%_, _≤_, _<_}
+use Prim.Native.Nat.{ℕ, suc, _+_, _%_, _≤_, _<_}
 use native.Mathlib.Nat.{mod-eq-of-lt}
 use native.Mathlib.Decide.{ℕ-discrete, decLt}
 use native.Mathlib.Omega.{arith}
-use mathlib.Core.Path.{_≡_, refl, ap, sym, _∙_}
+use mathlib.Core.Path.{_≡_, refl, ap}
 use mathlib.Core.Logic.{_≢_}
-use mathlib.Core.Bool.{Bool, true, false}
+use mathlib.Core.Bool.{false}
 use mathlib.Core.List.{List}
-use lib.ListN.{length, getD, set, length-set}
+use lib.ListN.{length, length-set}
 use lib.Seq.{set-out}
-use Rattle.model.specs.Types.{Account, Transfer, Slot, Empty, Full, Entry}
+use Rattle.model.specs.Types.{Account, Transfer, Empty, Full, Entry}
 use Rattle.model.specs.Basics.{bit}
 use Rattle.model.specs.Records.{noAcks, freshEntry, withBalance, entryAt, setEntry, sumBalances}
-use Rattle.model.specs.Settling.{isWaiting, affords, affordable, lowestAffordable, waiting, credited, credit, debited, applySlot, apply}
-use Rattle.model.proofs.Sums.{sum-set, sum-set-same, sum-at-least, impossible}
+use Rattle.model.specs.Settling.{isWaiting, waiting, credited, credit, debited, applySlot, apply}
+use Rattle.model.proofs.Sums.{sum-set, sum-set-same, sum-at-least}
 use Rattle.model.proofs.Access.{entry-set-same, entry-set-other}
 
 -- the second entry is the first with another balance

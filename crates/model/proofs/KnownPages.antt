@@ -1,11 +1,11 @@
 -- Document 01, "Known pages": its facts as the rows of one table, and one theorem, computed, that all of them hold of the definitions.
-use Prim.Native.Nat.{ℕ, _+_, _-_, _*_}
+use Prim.Native.Nat.{ℕ, _-_}
 use mathlib.Core.Bool.{Bool, true, false, not, _&&_, _||_}
 use mathlib.Core.List.{List, [], _∷_, _++_, map}
 use mathlib.Core.Option.{Option, none, some}
 use lib.Dec.{T, eqb}
-use lib.ListN.{length, getD, take, drop, set, replicate}
-use Rattle.model.specs.Types.{Account, Transfer, Slot, Empty, Full, AckSlot, Ledger, Opening, Message, Request, Circulated, Ack, Decision, Inquiry}
+use lib.ListN.{length, getD, take, set, replicate}
+use Rattle.model.specs.Types.{Transfer, Slot, Empty, Full, AckSlot, Ledger, Opening, Message, Request, Circulated, Ack, Decision, Inquiry}
 use Rattle.model.specs.Basics.{every}
 use Rattle.model.specs.Records.{seatOf, accountOf, noAcks}
 use Rattle.model.specs.Transfers.{equal, conflict}

@@ -4,9 +4,9 @@ use mathlib.Core.Path.{_≡_, refl}
 use mathlib.Core.Bool.{Bool, true, false, cond}
 use mathlib.Core.List.{List, [], _∷_}
 use mathlib.Core.Option.{Option, none, some}
-use Rattle.model.specs.Types.{Transfer, Entry, Ledger, Opening, Refusal, Message, Request, Circulated, Ack, Decision, Inquiry, Reply, Circulate, Acknowledge, Accept, Propose, Note, Balance, Refuse, Opened, OpenRefused, ListReply, Listed, ListRefused}
-use Rattle.model.specs.Records.{freshLedger, noLedger, entryOf, withProposed, withEntry}
-use Rattle.model.specs.Replies.{Choice, exactly, proposes, Outcome, Allows}
+use Rattle.model.specs.Types.{Transfer, Entry, Ledger, Opening, Refusal, Message, Request, Circulated, Ack, Decision, Inquiry, Note, Refuse, OpenRefused, ListRefused}
+use Rattle.model.specs.Records.{freshLedger, noLedger, withProposed, withEntry}
+use Rattle.model.specs.Replies.{Choice, proposes, Allows}
 use Rattle.model.specs.Refusals.{Rule, firstRefusal, rulesOf, listRules}
 use Rattle.model.specs.Openings.{openRules, openAnswer, openLedger}
 use Rattle.model.specs.Acks.{acksFor, enough}

@@ -1,17 +1,16 @@
 -- Laws of settling. `settle-induction` is what other proofs use in place of the definition's text.
 use Prim.Native.Nat.{ℕ, zero, suc, _+_, _≤_, _<_}
-use native.Mathlib.Nat.{suc-inj}
 use native.Mathlib.Decide.{ℕ-discrete}
 use native.Mathlib.Omega.{arith}
 use mathlib.Core.Path.{_≡_, refl, ap, sym, _∙_}
-use mathlib.Core.Bool.{Bool, true, false}
+use mathlib.Core.Bool.{true, false}
 use mathlib.Core.List.{List}
 use mathlib.Core.Option.{Option, none, some}
-use lib.ListN.{length, getD}
+use lib.ListN.{length}
 use borrow.Author.Tests.{leb-true}
 use Rattle.model.specs.Types.{Account, Transfer, Slot, Empty, Full, Entry, Settled}
-use Rattle.model.specs.Records.{accountOf, freshEntry, entryAt, sumBalances}
-use Rattle.model.specs.Settling.{isWaiting, affords, affordable, lowestAffordable, waiting, apply, oneMore, settleAtMost, settle}
+use Rattle.model.specs.Records.{accountOf, entryAt, sumBalances}
+use Rattle.model.specs.Settling.{affordable, lowestAffordable, waiting, apply, oneMore, settleAtMost, settle}
 use Rattle.model.proofs.Sums.{Found, first-found, impossible}
 use Rattle.model.proofs.Booking.{apply-waiting, apply-sum, apply-length, apply-clears, apply-others}
 

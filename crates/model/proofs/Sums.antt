@@ -4,11 +4,11 @@ use native.Mathlib.Nat.{le-of-suc-le-suc, not-suc-le-zero}
 use native.Mathlib.Decide.{ℕ-discrete}
 use native.Mathlib.Omega.{arith}
 use mathlib.Core.Path.{_≡_, refl, ap}
-use mathlib.Core.Bool.{Bool, true, false, _&&_, _||_}
+use mathlib.Core.Bool.{Bool, true, false}
 use mathlib.Core.List.{List, [], _∷_}
-use mathlib.Core.Option.{Option, none, some}
+use mathlib.Core.Option.{none, some}
 use lib.ListN.{length, getD, set}
-use Rattle.model.specs.Basics.{bit, sumOf, any, every, firstWhere}
+use Rattle.model.specs.Basics.{sumOf, firstWhere}
 
 module _ {A : Type 0} (f : A → ℕ) where
   -- one element is replaced: the sum changes by the difference of the two

@@ -1,24 +1,24 @@
 -- Nothing here is empty: every message has an answer, every waiting list too, and an opened ledger has the bounds of the laws.
 use Prim.Native.Nat.{ℕ, zero, suc, _+_, _≤_, _<_}
-use native.Mathlib.Decide.{decLe, ℕ-discrete}
+use native.Mathlib.Decide.{decLe}
 use native.Mathlib.Nat.{zero-add}
 use native.Mathlib.Omega.{arith}
-use mathlib.Core.Path.{_≡_, refl, ap, sym, _∙_}
+use mathlib.Core.Path.{_≡_, refl, ap}
 use mathlib.Core.Bool.{Bool, true, false, cond, _&&_}
 use mathlib.Core.List.{List, [], _∷_, _++_, map}
 use mathlib.Core.Option.{Option, none, some}
-use lib.Dec.{leb, eqb, lit<}
-use lib.ListN.{length, getD, drop, replicate, List·getD-map}
+use lib.Dec.{eqb, lit<}
+use lib.ListN.{length, drop, List·getD-map}
 use borrow.Author.Tests.{leb-true, le-leb, ltb-false, eq-eqb, ne-eqb}
-use Rattle.model.specs.Types.{Account, Transfer, Slot, Empty, Full, AckSlot, Entry, Ledger, Opening, Refusal, Message, Reply, Propose, Refuse, ListReply, Listed, ListRefused}
+use Rattle.model.specs.Types.{Transfer, Slot, Empty, Full, AckSlot, Entry, Ledger, Opening, Refusal, Message, Reply, Propose, ListReply, Listed, ListRefused}
 use Rattle.model.specs.Basics.{bit, sumOf, every, count}
-use Rattle.model.specs.Records.{accountOf, freshEntry, entryAt, entryOf, sumBalances, emptyPage, freshLedger}
+use Rattle.model.specs.Records.{accountOf, freshEntry, entryAt, sumBalances, emptyPage, freshLedger}
 use Rattle.model.specs.Replies.{Choice, exactly, proposes, Allows}
 use Rattle.model.specs.Refusals.{firstRefusal, listRules}
 use Rattle.model.specs.Openings.{openRules, openAnswer, openLedger}
 use Rattle.model.specs.Acks.{acksFor, noMoreThan, hasMost}
 use Rattle.model.specs.Settling.{isWaiting}
-use Rattle.model.specs.Calls.{step, Answers, WaitingAccounts, ListsUnlessRefused, Lists}
+use Rattle.model.specs.Calls.{step, Answers, ListsUnlessRefused, Lists}
 use Rattle.model.proofs.Sums.{impossible}
 use Rattle.model.proofs.Equality.{both}
 use Rattle.model.proofs.Settles.{Bounded}

@@ -3,9 +3,9 @@ use Prim.Native.Nat.{ℕ, zero, suc, _+_, _*_, _%_}
 use mathlib.Core.Bool.{Bool, not, cond, _&&_, _||_, Bool·beq}
 use mathlib.Core.List.{List, [], _∷_}
 use mathlib.Core.Option.{Option, none, some}
-use lib.Dec.{leb, ltb, eqb}
+use lib.Dec.{ltb, eqb}
 use lib.ListN.{length, getD, take, drop}
-use Rattle.model.specs.Types.{Account, Transfer, Opening, Message, Request, Circulated, Ack, Decision, Inquiry, Refusal, BadHeader, BadContents, BadEnd, BadSum, ContentsEntry, BundleReply, Sound, BundleRefused}
+use Rattle.model.specs.Types.{Transfer, Opening, Message, Request, Circulated, Ack, Decision, Inquiry, Refusal, BadHeader, BadContents, BadEnd, BadSum, ContentsEntry, BundleReply, Sound, BundleRefused}
 use Rattle.model.specs.Basics.{firstWhere}
 use Rattle.model.specs.Records.{seatOf, accountOf}
 

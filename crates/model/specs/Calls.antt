@@ -5,11 +5,11 @@ use mathlib.Core.Bool.{Bool, not, cond, _&&_}
 use mathlib.Core.List.{List, _++_}
 use mathlib.Core.Option.{Option, none, some}
 use lib.Dec.{leb, eqb}
-use lib.ListN.{length, getD, drop}
-use Rattle.model.specs.Types.{Seat, Account, Transfer, Entry, Ledger, Settled, Refusal, Message, Request, Circulated, Ack, Decision, Inquiry, Reply, Circulate, Acknowledge, Accept, Note, Balance, Refuse, ListReply, Listed, ListRefused}
+use lib.ListN.{length, drop}
+use Rattle.model.specs.Types.{Seat, Transfer, Entry, Ledger, Settled, Refusal, Message, Request, Circulated, Ack, Decision, Inquiry, Reply, Circulate, Acknowledge, Accept, Note, Balance, Refuse, ListReply, Listed, ListRefused}
 use Rattle.model.specs.Basics.{bit, count}
 use Rattle.model.specs.Records.{accountOf, entryOf, withEntry, withEntries, withAcked, withAck, withProposed}
-use Rattle.model.specs.Replies.{Choice, exactly, proposes, Outcome, Allows}
+use Rattle.model.specs.Replies.{exactly, proposes, Outcome, Allows}
 use Rattle.model.specs.Refusals.{firstRefusal, rulesOf, listRules}
 use Rattle.model.specs.Acks.{acksFor, acksRecorded, enough, twoConflict}
 use Rattle.model.specs.Settling.{isWaiting, accept}

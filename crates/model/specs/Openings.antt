@@ -1,11 +1,11 @@
 -- Document 01: the opening of a ledger, and codes 1, 2 and 3, in this order.
-use Prim.Native.Nat.{ℕ, _*_}
+use Prim.Native.Nat.{_*_}
 use mathlib.Core.Bool.{Bool, not, _||_}
 use mathlib.Core.List.{List, [], _∷_}
 use mathlib.Core.Option.{Option, none, some}
 use lib.Dec.{leb, ltb, eqb}
 use lib.ListN.{drop}
-use Rattle.model.specs.Types.{Ledger, Opening, Refusal, BadGroup, BadAccounts, SumTooLarge, OpenReply, Opened, OpenRefused, OpenAnswer}
+use Rattle.model.specs.Types.{Ledger, Opening, Refusal, BadGroup, BadAccounts, SumTooLarge, Opened, OpenRefused, OpenAnswer}
 use Rattle.model.specs.Basics.{any, sumOf}
 use Rattle.model.specs.Records.{freshLedger, noLedger}
 use Rattle.model.specs.Refusals.{Rule, firstRefusal}

@@ -3,7 +3,7 @@ use Prim.Native.Nat.{ℕ}
 use mathlib.Core.Bool.{true, false}
 use mathlib.Core.List.{List, map}
 use lib.ListN.{getD, set, replicate}
-use Rattle.model.specs.Types.{Seat, Account, Transfer, Slot, Empty, Full, AckSlot, Entry, Ledger, Opening}
+use Rattle.model.specs.Types.{Seat, Account, Transfer, Empty, Full, AckSlot, Entry, Ledger, Opening}
 use Rattle.model.specs.Basics.{sumOf}
 
 -- the seat and the account with a number

@@ -4,10 +4,10 @@ use mathlib.Core.Bool.{Bool, false}
 use mathlib.Core.List.{List}
 use mathlib.Core.Option.{Option, none, some}
 use lib.Dec.{leb}
-use lib.ListN.{length, getD}
+use lib.ListN.{length}
 use Rattle.model.specs.Types.{Account, Transfer, Slot, Empty, Full, Entry, Settled}
 use Rattle.model.specs.Basics.{count, firstWhere}
-use Rattle.model.specs.Records.{accountOf, freshEntry, entryAt, setEntry, withBalance, withBooked, withPending}
+use Rattle.model.specs.Records.{accountOf, entryAt, setEntry, withBalance, withBooked, withPending}
 use Rattle.model.specs.Acks.{isFull}
 
 -- an accepted slip of the account waits

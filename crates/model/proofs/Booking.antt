@@ -5,10 +5,12 @@ use native.Mathlib.Decide.{ℕ-discrete, decLt}
 use native.Mathlib.Omega.{arith}
 use mathlib.Core.Path.{_≡_, refl, ap}
 use mathlib.Core.Logic.{_≢_}
-use mathlib.Core.Bool.{false}
+use mathlib.Core.Bool.{false, cond}
 use mathlib.Core.List.{List}
 use lib.ListN.{length, length-set}
+use lib.Dec.{eqb}
 use lib.Seq.{set-out}
+use borrow.Author.Tests.{eq-eqb, ne-eqb}
 use Rattle.model.specs.Types.{Account, Transfer, Empty, Full, Entry}
 use Rattle.model.specs.Basics.{bit}
 use Rattle.model.specs.Records.{noAcks, freshEntry, withBalance, entryAt, setEntry, sumBalances}
@@ -30,7 +32,8 @@ credit-keeps es r b v = go (ℕ-discrete (b .0) (r .0)) (decLt (r .0) (length es
     e : Entry
     e = credited (entryAt es r) v
 
-    keeps : (x : ℕ) → entryAt (credit es r v) b ≡ withBalance (entryAt es b) x → SameButBalance (entryAt es b) (entryAt (credit es r v) b)
+    keeps : (x : ℕ) → entryAt (credit es r v) b ≡ withBalance (entryAt es b) x
+        → SameButBalance (entryAt es b) (entryAt (credit es r v) b)
     keeps x same = same-but-balance (entryAt es b) (entryAt (credit es r v) b) x same
 
     go : Dec (b .0 ≡ r .0) → Dec (r .0 < length es) → SameButBalance (entryAt es b) (entryAt (credit es r v) b)
@@ -39,12 +42,35 @@ credit-keeps es r b v = go (ℕ-discrete (b .0) (r .0)) (decLt (r .0) (length es
     go (yes same) (no outside) =
         keeps (entryAt es b .balance) (ap (λ (xs : List Entry). entryAt xs b) (set-out es (r .0) e (omega arith)))
 
+-- what account b has of a value that is account a's
+abbrev pub share : Account → Account → ℕ → ℕ
+share b a v = cond (eqb (b .0) (a .0)) v 0
+
+-- the sum that is credited is the plain one, where all balances together fit with the value
+credit-plain : (es : List Entry) (r : Account) (v : ℕ) → r .0 < length es → sumBalances es + v < 4_294_967_296
+    → (entryAt es r .balance + v) % 4_294_967_296 ≡ entryAt es r .balance + v
+credit-plain es r v there fits =
+    let most = sum-at-least (λ e. e .balance) es (r .0) (freshEntry 0) there in
+    mod-eq-of-lt (omega arith)
+
+-- crediting raises the recipient's balance by the value, and no other
+credit-balance : (es : List Entry) (r b : Account) (v : ℕ) → r .0 < length es → sumBalances es + v < 4_294_967_296
+    → entryAt (credit es r v) b .balance ≡ entryAt es b .balance + share b r v
+credit-balance es r b v there fits = go (ℕ-discrete (b .0) (r .0))
+  where
+    e : Entry
+    e = credited (entryAt es r) v
+
+    go : Dec (b .0 ≡ r .0) → entryAt (credit es r v) b .balance ≡ entryAt es b .balance + share b r v
+    go (yes same) =
+        rw (eq-eqb (b .0) (r .0) same, same, entry-set-same es r e there) (credit-plain es r v there fits)
+    go (no other) = rw (ne-eqb (b .0) (r .0) other, entry-set-other es r e b other) (omega arith)
+
 -- crediting raises the sum of balances by the value, where the sum fits
 credit-sum : (es : List Entry) (r : Account) (v : ℕ) → r .0 < length es → sumBalances es + v < 4_294_967_296
     → sumBalances (credit es r v) ≡ sumBalances es + v
 credit-sum es r v there fits =
-    let most = sum-at-least (λ e. e .balance) es (r .0) (freshEntry 0) there in
-    let plain : (entryAt es r .balance + v) % 4_294_967_296 ≡ entryAt es r .balance + v = mod-eq-of-lt (omega arith) in
+    let plain = credit-plain es r v there fits in
     let more = sum-set (λ e. e .balance) es (r .0) (credited (entryAt es r) v) (freshEntry 0) there in
     omega arith
 
@@ -60,7 +86,18 @@ cleared : (e e′ : Entry) (t : Transfer) → SameButBalance (debited e t) e′ 
 cleared e e′ t same =
     rw same (record { current-is = refl; not-acked = refl; no-acks = refl; not-proposed = refl; none-pending = refl })
 
-module _ (es : List Entry) (a : Account) (t : Transfer) (waits : entryAt es a .pending ≡ Full t) where
+-- account a has a waiting slip that its balance covers
+pub record Affordable (es : List Entry) (a : Account) : Type 0 where
+  pub transfer : Transfer
+  pub inside : a .0 < length es
+  pub waits : entryAt es a .pending ≡ Full transfer
+  pub funds : transfer .value ≤ entryAt es a .balance
+
+-- what booking such a slip does
+module _ (es : List Entry) (a : Account) (at : Affordable es a) where
+  t : Transfer
+  t = at .transfer
+
   -- the payer's entry, and the entries with it
   paid : Entry
   paid = debited (entryAt es a) t
@@ -70,17 +107,17 @@ module _ (es : List Entry) (a : Account) (t : Transfer) (waits : entryAt es a .p
 
   -- booking is: debit the payer, then credit the recipient
   apply-is : apply es a ≡ credit taken (t .recipient) (t .value)
-  unfolding apply taken paid
-  apply-is = ap (applySlot es a) waits
+  unfolding apply taken paid t
+  apply-is = ap (applySlot es a) (at .waits)
 
-  -- what booking clears, and the number that it sets
-  pub apply-clears : a .0 < length es → Cleared t (entryAt (apply es a) a)
-  unfolding taken paid
-  apply-clears inside =
+  -- it sets the number and clears the account's acks and marks
+  pub apply-clears : Cleared (at .transfer) (entryAt (apply es a) a)
+  unfolding taken paid t
+  apply-clears =
       rw apply-is
-      (cleared (entryAt es a) _ t (rw (entry-set-same es a paid inside) at (credit-keeps taken (t .recipient) a (t .value))))
+      (cleared (entryAt es a) _ t (rw (entry-set-same es a paid (at .inside)) at (credit-keeps taken (t .recipient) a (t .value))))
 
-  -- booking changes nothing but the balance in any other account
+  -- it changes nothing but the balance in any other account
   pub apply-others : (b : Account) → b .0 ≢ a .0 → SameButBalance (entryAt es b) (entryAt (apply es a) b)
   unfolding taken paid
   apply-others b other =
@@ -91,20 +128,36 @@ module _ (es : List Entry) (a : Account) (t : Transfer) (waits : entryAt es a .p
   apply-length = rw apply-is (simp length-set)
 
   -- one fewer slip waits
-  pub apply-waiting : a .0 < length es → waiting es ≡ suc (waiting (apply es a))
+  pub apply-waiting : waiting es ≡ suc (waiting (apply es a))
   unfolding taken paid
-  apply-waiting inside =
-      let waited : bit (isWaiting (entryAt es a)) ≡ 1 = rw waits in
-      let fewer = sum-set (λ e. bit (isWaiting e)) es (a .0) paid (freshEntry 0) inside in
-      let same = sum-set-same (λ e. bit (isWaiting e)) taken (t .recipient .0) (credited (entryAt taken (t .recipient)) (t .value)) (freshEntry 0) refl in
+  apply-waiting =
+      let waited : bit (isWaiting (entryAt es a)) ≡ 1 = rw (at .waits) in
+      let fewer = sum-set (λ e. bit (isWaiting e)) es (a .0) paid (freshEntry 0) (at .inside) in
+      let received = credited (entryAt taken (t .recipient)) (t .value) in
+      let same = sum-set-same (λ e. bit (isWaiting e)) taken (t .recipient .0) received (freshEntry 0) refl in
       rw apply-is (omega arith)
 
-  -- the sum of balances stays: the payer has the value, all balances together fit, and there is such a recipient
-  pub apply-sum : a .0 < length es → t .value ≤ entryAt es a .balance → t .recipient .0 < length es → sumBalances es < 4_294_967_296
-      → sumBalances (apply es a) ≡ sumBalances es
-  unfolding taken paid
-  apply-sum inside funds there fits =
-      let less = sum-set (λ e. e .balance) es (a .0) paid (freshEntry 0) inside in
+  -- the sum of balances stays, where it fits and there is such a recipient
+  pub apply-sum : at .transfer .recipient .0 < length es → sumBalances es < 4_294_967_296 → sumBalances (apply es a) ≡ sumBalances es
+  unfolding taken paid t
+  apply-sum there fits =
+      let less = sum-set (λ e. e .balance) es (a .0) paid (freshEntry 0) (at .inside) in
       let long : t .recipient .0 < length taken = rw length-set there in
       let more = credit-sum taken (t .recipient) (t .value) long (omega arith) in
       rw apply-is (omega arith)
+
+  -- the payer's balance falls by the value and the recipient's rises by it, in plain numbers
+  pub apply-balance : (b : Account) → at .transfer .recipient .0 < length es → sumBalances es < 4_294_967_296
+      → entryAt (apply es a) b .balance + share b a (at .transfer .value)
+      ≡ entryAt es b .balance + share b (at .transfer .recipient) (at .transfer .value)
+  unfolding taken paid t
+  apply-balance b there fits =
+      let less = sum-set (λ e. e .balance) es (a .0) paid (freshEntry 0) (at .inside) in
+      let long : t .recipient .0 < length taken = rw length-set there in
+      let more = credit-balance taken (t .recipient) b (t .value) long (omega arith) in
+      let before = debit (ℕ-discrete (b .0) (a .0)) in
+      rw apply-is (omega arith)
+    where
+      debit : Dec (b .0 ≡ a .0) → entryAt taken b .balance + share b a (t .value) ≡ entryAt es b .balance
+      debit (yes same) = rw (eq-eqb (b .0) (a .0) same, same, entry-set-same es a paid (at .inside)) (omega arith)
+      debit (no other) = rw (ne-eqb (b .0) (a .0) other, entry-set-other es a paid b other) (omega arith)

@@ -1,43 +1,55 @@
 -- Laws of settling. `settle-induction` is what other proofs use in place of the definition's text.
-use Prim.Native.Nat.{ℕ, zero, suc, _+_, _≤_, _<_}
+use Prim.Native.Nat.{ℕ, zero, suc, _+_, _<_}
 use native.Mathlib.Decide.{ℕ-discrete}
 use native.Mathlib.Omega.{arith}
 use mathlib.Core.Path.{_≡_, refl, ap, sym, _∙_}
-use mathlib.Core.Bool.{true, false}
+use mathlib.Core.Bool.{Bool, true, false}
 use mathlib.Core.List.{List}
-use mathlib.Core.Option.{Option, none, some}
+use mathlib.Core.Option.{Option, none, some, Option·map}
 use lib.ListN.{length}
 use borrow.Author.Tests.{leb-true}
 use Rattle.model.specs.Types.{Account, Transfer, Slot, Empty, Full, Entry, Settled}
 use Rattle.model.specs.Records.{accountOf, entryAt, sumBalances}
+use Rattle.model.specs.Basics.{firstWhere}
 use Rattle.model.specs.Settling.{affordable, lowestAffordable, waiting, apply, oneMore, settleAtMost, settle}
 use Rattle.model.proofs.Sums.{Found, first-found, impossible}
-use Rattle.model.proofs.Booking.{apply-waiting, apply-sum, apply-length, apply-clears, apply-others}
+use Rattle.model.proofs.Booking.{Affordable, apply-waiting, apply-sum, apply-length, apply-clears, apply-others}
 
--- What it means that account a is the lowest affordable one: its slip, which waits there and which its balance covers, as no lower
--- account's balance does.
-pub record Affordable (es : List Entry) (a : ℕ) : Type 0 where
-  pub transfer : Transfer
-  pub inside : a < length es
-  pub waits : entryAt es (accountOf a) .pending ≡ Full transfer
-  pub funds : transfer .value ≤ entryAt es (accountOf a) .balance
-  pub lowest : (b : ℕ) → b < a → affordable (entryAt es (accountOf b)) ≡ false
+-- the search for the lowest affordable account finds one that is affordable, and none below it is
+pub record Lowest (es : List Entry) (a : Account) : Type 0 where
+  pub affords-it : Affordable es a
+  pub lowest : (b : ℕ) → b < a .0 → affordable (entryAt es (accountOf b)) ≡ false
 
-pub lowest-affordable : (es : List Entry) (a : ℕ) → lowestAffordable es ≡ some a → Affordable es a
+pub lowest-affordable : (es : List Entry) (a : Account) → lowestAffordable es ≡ some a → Lowest es a
 unfolding lowestAffordable
-lowest-affordable es a e =
-    go (entryAt es (accountOf a) .pending) refl (first-found (λ b. affordable (entryAt es (accountOf b))) (length es) 0 a e)
+lowest-affordable es a e = found (firstWhere test (length es) 0) refl e
   where
-    go : (s : Slot) → entryAt es (accountOf a) .pending ≡ s → Found (λ b. affordable (entryAt es (accountOf b))) (length es) 0 a → Affordable es a
-    go Empty h found = impossible (let z : false ≡ true = rw h at (found .passes) in cc)
-    go (Full t) h found =
+    test : ℕ → Bool
+    test b = affordable (entryAt es (accountOf b))
+
+    slot : (s : Slot) → entryAt es a .pending ≡ s → Found test (length es) 0 (a .0) → Lowest es a
+    slot Empty h f = impossible (let z : false ≡ true = rw h at (f .passes) in cc)
+    slot (Full t) h f =
         record {
-          transfer = t;
-          inside = omega arith;
-          waits = h;
-          funds = leb-true (t .value) (entryAt es (accountOf a) .balance) (rw h at (found .passes));
-          lowest = λ b below. found .lowest b (omega arith) below;
+          affords-it =
+              record {
+                transfer = t;
+                inside = omega arith;
+                waits = h;
+                funds = leb-true (t .value) (entryAt es a .balance) (rw h at (f .passes));
+              };
+          lowest = λ b below. f .lowest b (omega arith) below;
         }
+
+    found : (o : Option ℕ) → firstWhere test (length es) 0 ≡ o → Option·map accountOf o ≡ some a → Lowest es a
+    found none w e = impossible (cc)
+    found (some n) w e = slot (entryAt es a .pending) refl (first-found test (length es) 0 (a .0) (rw (← number) at w))
+      where
+        same : accountOf n ≡ a
+        same = cc
+
+        number : a .0 ≡ n
+        number = sym (ap (λ (b : Account). b .0) same)
 
 -- nothing is affordable: settling ends
 pub settle-none : (es : List Entry) → lowestAffordable es ≡ none → settle es ≡ record { applied = 0; entries = es }
@@ -49,35 +61,33 @@ settle-none es e = go (waiting es)
     go (suc n) = rw (e, settleAtMost)
 
 -- otherwise the lowest affordable account is booked, and settling goes on with one fewer slip that waits
-pub settle-some : (es : List Entry) (a : ℕ) → lowestAffordable es ≡ some a → settle es ≡ oneMore (settle (apply es (accountOf a)))
+pub settle-some : (es : List Entry) (a : Account) → lowestAffordable es ≡ some a → settle es ≡ oneMore (settle (apply es a))
 unfolding settle settleAtMost
-settle-some es a e =
-    let at = lowest-affordable es a e in
-    rw (apply-waiting es (accountOf a) (at .transfer) (at .waits) (at .inside), e, settleAtMost)
+settle-some es a e = rw (apply-waiting es a (lowest-affordable es a e .affords-it), e, settleAtMost)
 
 -- To show P of what settling makes of any entries, show it where nothing is affordable, and where the lowest affordable account is
 -- booked, from what settling makes of the rest.
 module _
     (P : List Entry → Settled → Type 0)
     (stop : (es : List Entry) → lowestAffordable es ≡ none → P es (record { applied = 0; entries = es }))
-    (go-on : (es : List Entry) (a : ℕ) → Affordable es a → P (apply es (accountOf a)) (settle (apply es (accountOf a)))
-    → P es (oneMore (settle (apply es (accountOf a)))))
+    (go-on : (es : List Entry) (a : Account) → Lowest es a → P (apply es a) (settle (apply es a))
+    → P es (oneMore (settle (apply es a))))
   where
     -- one turn of settling, given the rest of it
     one-turn : (es : List Entry)
-        → ((a : ℕ) → waiting es ≡ suc (waiting (apply es (accountOf a))) → P (apply es (accountOf a)) (settle (apply es (accountOf a))))
+        → ((a : Account) → waiting es ≡ suc (waiting (apply es a)) → P (apply es a) (settle (apply es a)))
         → P es (settle es)
     one-turn es rest = go (lowestAffordable es) refl
       where
-        go : (o : Option ℕ) → lowestAffordable es ≡ o → P es (settle es)
+        go : (o : Option Account) → lowestAffordable es ≡ o → P es (settle es)
         go none e = rw (settle-none es e) (stop es e)
         go (some a) e =
             let at = lowest-affordable es a e in
-            rw (settle-some es a e) (go-on es a at (rest a (apply-waiting es (accountOf a) (at .transfer) (at .waits) (at .inside))))
+            rw (settle-some es a e) (go-on es a at (rest a (apply-waiting es a (at .affords-it))))
 
     at-most : (n : ℕ) (es : List Entry) → waiting es ≡ n → P es (settle es)
     at-most zero es w = one-turn es (λ a fewer. absurd (omega arith))
-    at-most (suc n) es w = one-turn es (λ a fewer. at-most n (apply es (accountOf a)) (omega arith))
+    at-most (suc n) es w = one-turn es (λ a fewer. at-most n (apply es a) (omega arith))
 
     pub settle-induction : (es : List Entry) → P es (settle es)
     settle-induction es = at-most (waiting es) es refl
@@ -92,43 +102,46 @@ settle-waiting =
     settle-induction
     (λ es s. waiting es ≡ s .applied + waiting (s .entries))
     (λ es e. omega arith)
-    (λ es a at rest. omega (arith, apply-waiting es (accountOf a) (at .transfer) (at .waits) (at .inside)))
+    (λ es a at rest. omega (arith, apply-waiting es a (at .affords-it)))
 
 pub settle-length : (es : List Entry) → length (settle es .entries) ≡ length es
 settle-length =
     settle-induction
     (λ es s. length (s .entries) ≡ length es)
     (λ es e. refl)
-    (λ es a at rest. rest ∙ apply-length es (accountOf a) (at .transfer) (at .waits))
+    (λ es a at rest. rest ∙ apply-length es a (at .affords-it))
 
 -- What reachable ledgers have: all balances together fit, and each waiting slip's recipient is an account.
 pub record Bounded (es : List Entry) : Type 0 where
   pub sum-fits : sumBalances es < 4_294_967_296
   pub recipients : (a : Account) (t : Transfer) → entryAt es a .pending ≡ Full t → t .recipient .0 < length es
 
-apply-bounded : (es : List Entry) (a : ℕ) → Affordable es a → Bounded es → Bounded (apply es (accountOf a))
-apply-bounded es a at b =
-    let paid = accountOf a in
-    let there = b .recipients paid (at .transfer) (at .waits) in
-    record {
-      sum-fits =
-          rw (apply-sum es paid (at .transfer) (at .waits) (at .inside) (at .funds) there (b .sum-fits)) (b .sum-fits);
-      recipients = λ c t h. rw (apply-length es paid (at .transfer) (at .waits)) (still c t h (ℕ-discrete (c .0) a));
-    }
+-- booking keeps the sum and the bounds
+apply-bounded : (es : List Entry) (a : Account) → Affordable es a → Bounded es
+    → (sumBalances (apply es a) ≡ sumBalances es) × Bounded (apply es a)
+apply-bounded es a at b = (
+  kept,
+  record {
+    sum-fits = rw kept (b .sum-fits);
+    recipients = λ c t h. rw (apply-length es a at) (still c t h (ℕ-discrete (c .0) (a .0)));
+  },
+)
   where
-    still : (c : Account) (t : Transfer) → entryAt (apply es (accountOf a)) c .pending ≡ Full t → Dec (c .0 ≡ a)
-        → t .recipient .0 < length es
-    still c t h (yes same) = impossible (cc (rw same at h, apply-clears es (accountOf a) (at .transfer) (at .waits) (at .inside) .none-pending))
-    still c t h (no other) =
-        b .recipients c t (ap (λ (e : Entry). e .pending) (sym (apply-others es (accountOf a) (at .transfer) (at .waits) c other)) ∙ h)
+    kept : sumBalances (apply es a) ≡ sumBalances es
+    kept = apply-sum es a at (b .recipients a (at .transfer) (at .waits)) (b .sum-fits)
 
--- settling keeps the sum of balances
+    still : (c : Account) (t : Transfer) → entryAt (apply es a) c .pending ≡ Full t → Dec (c .0 ≡ a .0)
+        → t .recipient .0 < length es
+    still c t h (yes same) = impossible (cc (rw same at h, apply-clears es a at .none-pending))
+    still c t h (no other) = b .recipients c t (ap (λ (e : Entry). e .pending) (sym (apply-others es a at c other)) ∙ h)
+
+-- settling keeps the sum of balances, and the bounds
 pub settle-sum : (es : List Entry) → Bounded es → (sumBalances (settle es .entries) ≡ sumBalances es) × Bounded (settle es .entries)
 settle-sum =
     settle-induction
     (λ es s. Bounded es → (sumBalances (s .entries) ≡ sumBalances es) × Bounded (s .entries))
     (λ es e b. (refl, b))
     (λ es a at rest b.
-    let kept = rest (apply-bounded es a at b) in
-    let there = b .recipients (accountOf a) (at .transfer) (at .waits) in
-    (kept .0 ∙ apply-sum es (accountOf a) (at .transfer) (at .waits) (at .inside) (at .funds) there (b .sum-fits), kept .1))
+    let once = apply-bounded es a (at .affords-it) b in
+    let kept = rest (once .1) in
+    (kept .0 ∙ once .0, kept .1))

@@ -4,7 +4,7 @@ use native.Mathlib.Decide.{decLe}
 use native.Mathlib.Nat.{zero-add}
 use native.Mathlib.Omega.{arith}
 use mathlib.Core.Path.{_≡_, refl, ap}
-use mathlib.Core.Bool.{Bool, true, false, cond, _&&_}
+use mathlib.Core.Bool.{Bool, true, false, cond, _&&_, and-true, and-false}
 use mathlib.Core.List.{List, [], _∷_, _++_, map}
 use mathlib.Core.Option.{Option, none, some}
 use lib.Dec.{eqb, lit<}
@@ -18,7 +18,7 @@ use Rattle.model.specs.Refusals.{firstRefusal, listRules}
 use Rattle.model.specs.Openings.{openRules, openAnswer, openLedger}
 use Rattle.model.specs.Acks.{acksFor, noMoreThan, hasMost}
 use Rattle.model.specs.Settling.{isWaiting}
-use Rattle.model.specs.Calls.{step, Answers, ListsUnlessRefused, Lists}
+use Rattle.model.specs.Calls.{step, Answers, WaitingAccounts, ListsUnlessRefused, Lists}
 use Rattle.model.proofs.Sums.{impossible}
 use Rattle.model.proofs.Equality.{both}
 use Rattle.model.proofs.Settles.{Bounded}
@@ -52,7 +52,9 @@ best-of acks (a ∷ rest) = better (a .slot) (best-of acks rest)
       where
         go : Dec (acksFor u acks ≤ acksFor (best .0) acks) → Best (Full u)
         go (yes le) = (best .0, rw (le-leb (acksFor u acks) (acksFor (best .0) acks) le) (best .1))
-        go (no gt) = (u, rw (le-leb (acksFor u acks) (acksFor u acks) (omega arith)) (at-most-more (acksFor (best .0) acks) (acksFor u acks) (omega arith) acks rest (best .1)))
+        go (no gt) =
+            let all = at-most-more (acksFor (best .0) acks) (acksFor u acks) (omega arith) acks rest (best .1) in
+            (u, rw (le-leb (acksFor u acks) (acksFor u acks) (omega arith)) all)
 
 -- some slip has the most acks
 pub some-most : (acks : List AckSlot) → (t : Transfer) × (hasMost acks t ≡ true)
@@ -72,32 +74,28 @@ waitingFrom : ℕ → List Entry → List ℕ
 waitingFrom i [] = []
 waitingFrom i (e ∷ es) = cond (isWaiting e) (i ∷ waitingFrom (suc i) es) (waitingFrom (suc i) es)
 
+-- an account that is listed if a test holds is counted once more if it does
+counted : (b : Bool) (a i : ℕ) (rest : List ℕ) → count (eqb a) (cond b (i ∷ rest) rest) ≡ bit (eqb a i && b) + count (eqb a) rest
+counted true a i rest = rw and-true
+counted false a i rest = rw and-false (omega arith)
+
 waiting-below : (i : ℕ) (es : List Entry) (a : ℕ) → a < i → count (eqb a) (waitingFrom i es) ≡ 0
 unfolding waitingFrom
 waiting-below i [] a h = refl
-waiting-below i (e ∷ es) a h = go (isWaiting e) (waiting-below (suc i) es a (omega arith))
-  where
-    go : (b : Bool) → count (eqb a) (waitingFrom (suc i) es) ≡ 0 → count (eqb a) (cond b (i ∷ waitingFrom (suc i) es) (waitingFrom (suc i) es)) ≡ 0
-    go true rest = rw (ne-eqb a i (omega arith)) (omega arith)
-    go false rest = rest
+waiting-below i (e ∷ es) a h =
+    rw (counted (isWaiting e) a i (waitingFrom (suc i) es), ne-eqb a i (omega arith))
+    (omega (arith, waiting-below (suc i) es a (omega arith)))
 
 waiting-at : (i : ℕ) (es : List Entry) (a : ℕ) → count (eqb (i + a)) (waitingFrom i es) ≡ bit (isWaiting (entryAt es (accountOf a)))
 unfolding waitingFrom
 waiting-at i [] a = refl
-waiting-at i (e ∷ es) zero = go (isWaiting e) (waiting-below (suc i) es (i + 0) (omega arith))
-  where
-    go : (b : Bool) → count (eqb (i + 0)) (waitingFrom (suc i) es) ≡ 0
-        → count (eqb (i + 0)) (cond b (i ∷ waitingFrom (suc i) es) (waitingFrom (suc i) es)) ≡ bit b
-    go true rest = rw (eq-eqb (i + 0) i (omega arith)) (omega arith)
-    go false rest = rest
+waiting-at i (e ∷ es) zero =
+    rw (counted (isWaiting e) (i + 0) i (waitingFrom (suc i) es), eq-eqb (i + 0) i (omega arith))
+    (omega (arith, waiting-below (suc i) es (i + 0) (omega arith)))
 waiting-at i (e ∷ es) (suc a) =
     let shifted : suc i + a ≡ i + suc a = omega arith in
-    go (isWaiting e) (rw shifted at (waiting-at (suc i) es a))
-  where
-    go : (b : Bool) → count (eqb (i + suc a)) (waitingFrom (suc i) es) ≡ bit (isWaiting (entryAt es (accountOf a)))
-        → count (eqb (i + suc a)) (cond b (i ∷ waitingFrom (suc i) es) (waitingFrom (suc i) es)) ≡ bit (isWaiting (entryAt es (accountOf a)))
-    go true rest = rw (ne-eqb (i + suc a) i (omega arith)) (omega arith)
-    go false rest = rest
+    rw (counted (isWaiting e) (i + suc a) i (waitingFrom (suc i) es), ne-eqb (i + suc a) i (omega arith))
+    (omega (arith, rw shifted at (waiting-at (suc i) es a)))
 
 -- every waiting list has an answer
 pub some-list : (l : Ledger) (before : List ℕ) → (reply : ListReply) × (after : List ℕ) × Lists l before reply after
@@ -107,7 +105,9 @@ some-list l before = go (firstRefusal (listRules before))
     accounts = waitingFrom 0 (l .entries)
 
     go : (q : Option Refusal) → (reply : ListReply) × (after : List ℕ) × ListsUnlessRefused q l before reply after
-    go none = (Listed (length accounts), accounts ++ drop (length accounts) before, (accounts, λ a. rw zero-add at (waiting-at 0 (l .entries) a), refl, refl))
+    go none =
+        let listed : WaitingAccounts l accounts = λ a. rw zero-add at (waiting-at 0 (l .entries) a) in
+        (Listed (length accounts), accounts ++ drop (length accounts) before, (accounts, listed, refl, refl))
     go (some r) = (ListRefused r, before, (refl, refl))
 
 fresh-sum : (balances : List ℕ) → sumBalances (map freshEntry balances) ≡ sumOf (λ b. b) balances

@@ -12,6 +12,11 @@ abbrev pub holds : Transfer → Slot → Bool
 holds t Empty = false
 holds t (Full u) = equal u t
 
+-- the place holds a slip that conflicts with this one
+abbrev pub conflicts : Transfer → Slot → Bool
+conflicts t Empty = false
+conflicts t (Full u) = conflict u t
+
 abbrev pub isFull : Slot → Bool
 isFull Empty = false
 isFull (Full u) = true
@@ -28,15 +33,14 @@ acksRecorded acks = count (λ a. isFull (a .slot)) acks
 abbrev pub enough : ℕ → ℕ → ℕ → Bool
 enough n f acks = ltb (n + 3 * f) (2 * acks)
 
--- the two places hold slips that conflict
-abbrev pub slotsConflict : Slot → Slot → Bool
-slotsConflict Empty v = false
-slotsConflict (Full t) Empty = false
-slotsConflict (Full t) (Full u) = conflict t u
+-- this place holds a slip that conflicts with one of the acks
+abbrev pub conflictsWithAny : List AckSlot → Slot → Bool
+conflictsWithAny acks Empty = false
+conflictsWithAny acks (Full t) = any (λ a. conflicts t (a .slot)) acks
 
 -- "two of them conflict"
 abbrev pub twoConflict : List AckSlot → Bool
-twoConflict acks = any (λ a. any (λ b. slotsConflict (a .slot) (b .slot)) acks) acks
+twoConflict acks = any (λ a. conflictsWithAny acks (a .slot)) acks
 
 -- the slip in this place, if any, has no more than c of the acks
 abbrev pub noMoreThan : ℕ → List AckSlot → Slot → Bool

@@ -1,12 +1,12 @@
--- Document 01 as definitions: all that a reader must believe. Each file follows one part of it, in its order.
+-- Document 01 as definitions: all that a reader must believe, in reading order.
 pub mod Types
 pub mod Basics
 pub mod Records
 pub mod Transfers
-pub mod Replies
-pub mod Refusals
-pub mod Openings
 pub mod Acks
+pub mod Refusals
+pub mod Replies
+pub mod Openings
 pub mod Settling
 pub mod Calls
 pub mod Bundles

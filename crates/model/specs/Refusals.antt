@@ -7,7 +7,8 @@ use lib.Dec.{leb, ltb, eqb}
 use lib.ListN.{length, getD}
 use Rattle.model.specs.Types.{Seat, Account, Transfer, Slot, Empty, Full, Entry, Ledger, Message, Request, Circulated, Ack, Decision, Inquiry, Refusal, UnknownSeat, OutOfRange, PastNumber, FutureNumber, AlreadyAccepted, AckRepeated, AckConflicting, InsufficientFunds, AlreadyAcked, ShortBuffer}
 use Rattle.model.specs.Records.{entryOf}
-use Rattle.model.specs.Transfers.{sameNumber, equal, conflict}
+use Rattle.model.specs.Transfers.{sameNumber}
+use Rattle.model.specs.Acks.{holds, conflicts}
 
 -- a test, and the refusal if it holds
 abbrev pub Rule : Type 0
@@ -45,16 +46,6 @@ abbrev pub waitsAlready : Slot → Transfer → Bool
 waitsAlready Empty t = false
 waitsAlready (Full p) t = sameNumber p t
 
--- 9: an ack from the ack's seat is recorded for this number and its slip is equal
-abbrev pub ackedEqual : Slot → Transfer → Bool
-ackedEqual Empty t = false
-ackedEqual (Full u) t = equal u t
-
--- 10: an ack from the ack's seat is recorded for this number and its slip conflicts
-abbrev pub ackedConflicting : Slot → Transfer → Bool
-ackedConflicting Empty t = false
-ackedConflicting (Full u) t = conflict u t
-
 -- the ack that is recorded from a seat
 abbrev pub ackFrom : Entry → Seat → Slot
 ackFrom e s = getD (e .acks) (s .0) (record { slot = Empty }) .slot
@@ -80,12 +71,12 @@ requestRules l e t = transferRules l e t ++ ((aboveBalance e t, InsufficientFund
 abbrev pub circulatedRules : Ledger → Entry → Transfer → List Rule
 circulatedRules l e t = transferRules l e t ++ ((e .acked, AlreadyAcked) ∷ (aboveBalance e t, InsufficientFunds) ∷ [])
 
--- acks: 4 to 10
+-- acks: 4 to 10. 9, 10: an ack from the ack's seat is recorded for this number and its slip is equal, or conflicts
 abbrev pub ackRules : Ledger → Entry → Seat → Transfer → List Rule
 ackRules l e s t =
     (unknownSeat l s, UnknownSeat)
     ∷ transferRules l e t
-    ++ ((ackedEqual (ackFrom e s) t, AckRepeated) ∷ (ackedConflicting (ackFrom e s) t, AckConflicting) ∷ [])
+    ++ ((holds t (ackFrom e s), AckRepeated) ∷ (conflicts t (ackFrom e s), AckConflicting) ∷ [])
 
 -- rulings: 5 to 8 only
 abbrev pub decisionRules : Ledger → Entry → Transfer → List Rule

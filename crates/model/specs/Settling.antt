@@ -2,7 +2,7 @@
 use Prim.Native.Nat.{ℕ, zero, suc, _+_, _-_, _%_}
 use mathlib.Core.Bool.{Bool, false}
 use mathlib.Core.List.{List}
-use mathlib.Core.Option.{Option, none, some}
+use mathlib.Core.Option.{Option, none, some, Option·map}
 use lib.Dec.{leb}
 use lib.ListN.{length}
 use Rattle.model.specs.Types.{Account, Transfer, Slot, Empty, Full, Entry, Settled}
@@ -24,8 +24,8 @@ abbrev pub affordable : Entry → Bool
 affordable e = affords (e .balance) (e .pending)
 
 -- the lowest account with such a slip
-unfoldable pub lowestAffordable : List Entry → Option ℕ
-lowestAffordable es = firstWhere (λ a. affordable (entryAt es (accountOf a))) (length es) 0
+unfoldable pub lowestAffordable : List Entry → Option Account
+lowestAffordable es = Option·map accountOf (firstWhere (λ a. affordable (entryAt es (accountOf a))) (length es) 0)
 
 -- how many slips wait
 abbrev pub waiting : List Entry → ℕ
@@ -61,7 +61,7 @@ settleAtMost zero es = record { applied = 0; entries = es }
 settleAtMost (suc n) es =
     elim (lowestAffordable es) [
       | none ↦ record { applied = 0; entries = es }
-      | some a ↦ oneMore (settleAtMost n (apply es (accountOf a)))
+      | some a ↦ oneMore (settleAtMost n (apply es a))
     ]
 
 unfoldable pub settle : List Entry → Settled

@@ -7,4 +7,5 @@ pub mod Tallies
 pub mod Booking
 pub mod Settles
 pub mod Refusing
+pub mod Listing
 pub mod Witnesses

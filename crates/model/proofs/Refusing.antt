@@ -1,5 +1,7 @@
 -- A refusal changes nothing, for every ledger and every call; and a call is refused exactly by the first rule that holds.
-use Prim.Native.Nat.{ℕ}
+use Prim.Native.Nat.{ℕ, _+_}
+use native.Mathlib.Omega.{arith}
+use borrow.Author.Tests.{leb-false, ltb-false}
 use mathlib.Core.Path.{_≡_, refl}
 use mathlib.Core.Bool.{Bool, true, false, cond}
 use mathlib.Core.List.{List, [], _∷_}
@@ -7,7 +9,7 @@ use mathlib.Core.Option.{Option, none, some}
 use Rattle.model.specs.Types.{Transfer, Entry, Ledger, Opening, Refusal, Message, Request, Circulated, Ack, Decision, Inquiry, Note, Refuse, OpenRefused, ListRefused}
 use Rattle.model.specs.Records.{freshLedger, noLedger, withProposed, withEntry}
 use Rattle.model.specs.Replies.{Choice, proposes, Allows}
-use Rattle.model.specs.Refusals.{Rule, firstRefusal, rulesOf, listRules}
+use Rattle.model.specs.Refusals.{Rule, firstRefusal, pastNumber, futureNumber, rulesOf, listRules}
 use Rattle.model.specs.Openings.{openRules, openAnswer, openLedger}
 use Rattle.model.specs.Acks.{acksFor, enough}
 use Rattle.model.specs.Settling.{accept}
@@ -27,6 +29,11 @@ none-holds (r ∷ rs) e = go (r .0) refl (none-holds rs)
     go : (b : Bool) → r .0 ≡ b → (firstRefusal rs ≡ none → AllFail rs) → (r .0 ≡ false) × AllFail rs
     go true h rest = let found : some (r .1) ≡ none = rw h at e in impossible (cc)
     go false h rest = (h, rest (rw h at e))
+
+-- a slip that neither 6 nor 7 refuses has the next number
+pub next-number : (e : Entry) (t : Transfer) → pastNumber e t ≡ false → futureNumber e t ≡ false → t .number ≡ e .current + 1
+next-number e t past future =
+    omega (arith, leb-false (t .number) (e .current) past, ltb-false (e .current + 1) (t .number) future)
 
 -- no refusal is among the replies
 abbrev NeverRefuses : Choice → Type 0

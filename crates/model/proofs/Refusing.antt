@@ -6,7 +6,8 @@ use mathlib.Core.Path.{_≡_, refl}
 use mathlib.Core.Bool.{Bool, true, false, cond}
 use mathlib.Core.List.{List, [], _∷_}
 use mathlib.Core.Option.{Option, none, some}
-use Rattle.model.specs.Types.{Transfer, Entry, Ledger, Opening, Refusal, Message, Request, Circulated, Ack, Decision, Inquiry, Note, Refuse, OpenRefused, ListRefused}
+use lib.Dec.{leb·zero}
+use Rattle.model.specs.Types.{Transfer, Entry, Ledger, Opening, Refusal, UnknownSeat, OutOfRange, Message, Request, Circulated, Ack, Decision, Inquiry, Note, Refuse, OpenRefused, ListRefused}
 use Rattle.model.specs.Records.{freshLedger, noLedger, withProposed, withEntry}
 use Rattle.model.specs.Replies.{Choice, proposes, Allows}
 use Rattle.model.specs.Refusals.{Rule, firstRefusal, pastNumber, futureNumber, rulesOf, listRules}
@@ -90,6 +91,15 @@ open-refused o r h = go (firstRefusal (openRules o)) h
     go : (q : Option Refusal) → openAnswer q (freshLedger o) .reply ≡ OpenRefused r → openAnswer q (freshLedger o) .ledger ≡ noLedger
     go none h = impossible (cc)
     go (some q) h = refl
+
+-- and that ledger refuses every message
+pub no-ledger-refuses : (m : Message) → (r : Refusal) × (step noLedger m ≡ replies (Refuse r) noLedger)
+unfolding rulesOf
+no-ledger-refuses (Request t) = (OutOfRange, refuses noLedger (Request t) OutOfRange (rw (leb·zero (t .account .0))))
+no-ledger-refuses (Circulated t) = (OutOfRange, refuses noLedger (Circulated t) OutOfRange (rw (leb·zero (t .account .0))))
+no-ledger-refuses (Ack s t) = (UnknownSeat, refuses noLedger (Ack s t) UnknownSeat (rw (leb·zero (s .0))))
+no-ledger-refuses (Decision t) = (OutOfRange, refuses noLedger (Decision t) OutOfRange (rw (leb·zero (t .account .0))))
+no-ledger-refuses (Inquiry a) = (OutOfRange, refuses noLedger (Inquiry a) OutOfRange (rw (leb·zero (a .0))))
 
 -- a refused waiting list leaves the buffer as it was
 pub list-refused : (l : Ledger) (before after : List ℕ) (r : Refusal) → Lists l before (ListRefused r) after → after ≡ before

@@ -1,138 +1,19 @@
 -- Document 01, "Known pages": its facts as the rows of one table, and one theorem, computed, that all of them hold of the definitions.
-use Prim.Native.Nat.{ℕ, _-_}
-use mathlib.Core.Bool.{Bool, true, false, not, _&&_, _||_}
-use mathlib.Core.List.{List, [], _∷_, _++_, map}
-use mathlib.Core.Option.{Option, none, some}
-use lib.Dec.{T, eqb}
-use lib.ListN.{length, getD, take, set, replicate}
-use Rattle.model.specs.Types.{Transfer, Slot, Empty, Full, AckSlot, Ledger, Opening, Refusal, Message, Request, Circulated, Ack, Decision, Inquiry}
+use Prim.Native.Nat.{ℕ}
+use mathlib.Core.List.{List, [], _∷_, _++_}
+use lib.Dec.{T}
+use lib.ListN.{take, set, replicate}
+use Rattle.model.specs.Types.{Transfer, Request, Circulated, Decision, Inquiry}
 use Rattle.model.specs.Basics.{every}
-use Rattle.model.specs.Records.{seatOf, accountOf, noAcks}
+use Rattle.model.specs.Records.{accountOf, noAcks}
 use Rattle.model.specs.Transfers.{equal, conflict}
-use Rattle.model.specs.Replies.{codeOf, letterOf, valuesOf, valuesOfTransfer, valuesOfOpen, valuesOfBundle, Choice, exactly, proposes}
-use Rattle.model.specs.Refusals.{firstRefusal, rulesOf, listRules}
+use Rattle.model.specs.Refusals.{rulesOf}
 use Rattle.model.specs.Openings.{openLedger}
-use Rattle.model.specs.Acks.{enough, hasMost}
+use Rattle.model.specs.Acks.{hasMost}
 use Rattle.model.specs.Settling.{lowestAffordable, apply, settleAtMost, settle, accept}
 use Rattle.model.specs.Calls.{effect, step}
-use Rattle.model.specs.Bundles.{bodySum, checkBundle, pageAt, messageOf}
-
--- a slip: account, number, value, recipient
-abbrev slip : ℕ → ℕ → ℕ → ℕ → Transfer
-slip a m v r = record { account = accountOf a; number = m; value = v; recipient = accountOf r }
-
-abbrev ackBy : ℕ → Transfer → Message
-ackBy s t = Ack (seatOf s) t
-
--- an opening page with n, f and the balances of its accounts
-abbrev pageWith : ℕ → ℕ → List ℕ → Opening
-pageWith n f balances =
-    record { seats = n; faults = f; accounts = length balances; balances = balances ++ replicate (32 - length balances) 0 }
-
--- the replies as document 01 writes them: a letter and what it carries
-abbrev A : List ℕ
-A = 65 ∷ []
-
-abbrev B : ℕ → List ℕ
-B balance = 66 ∷ balance ∷ []
-
-abbrev C : List ℕ
-C = 67 ∷ []
-
-abbrev K : ℕ → List ℕ
-K c = 75 ∷ c ∷ []
-
-abbrev N : List ℕ
-N = 78 ∷ []
-
-abbrev P : Transfer → List ℕ
-P t = 80 ∷ valuesOfTransfer t
-
-abbrev R : ℕ → List ℕ
-R code = 82 ∷ code ∷ []
-
--- a message, and what it is to be answered
-abbrev Asked : Type 0
-Asked = Message × List ℕ
-
-infix 70 _gives_
-abbrev _gives_ : Message → List ℕ → Asked
-m gives said = (m, said)
-
--- One fact.
-data Row : Type 0 where
-  -- n, f and how many acks are needed
-  acksNeeded : ℕ → ℕ → ℕ → Row
-  -- an opening page, and the code that refuses it, if any
-  opens : Opening → List ℕ → Row
-  -- n, f, balances; the messages with their answers; the balances at the end
-  runs : ℕ → ℕ → List ℕ → List Asked → List ℕ → Row
-  -- n, f, balances; messages, and one more that is answered P; the slips that P may carry, and some that it may not
-  proposals : ℕ → ℕ → List ℕ → List Message → Message → List Transfer → List Transfer → Row
-  -- the length of a waiting list's buffer; the code that refuses it, if any
-  lists : ℕ → List ℕ → Row
-  -- bytes and their sum
-  sums : List ℕ → ℕ → Row
-  -- a bundle, and the values of what its check replies
-  checks : List ℕ → List ℕ → Row
-  -- a bundle, an entry, and the message of its page
-  shows : List ℕ → ℕ → Message → Row
-
-same : List ℕ → List ℕ → Bool
-same [] [] = true
-same [] (y ∷ ys) = false
-same (x ∷ xs) [] = false
-same (x ∷ xs) (y ∷ ys) = eqb x y && same xs ys
-
--- the slip in this place, if it is not t, may not be put forward
-onlyMost : List AckSlot → Transfer → Slot → Bool
-onlyMost acks t Empty = true
-onlyMost acks t (Full u) = equal u t || not (hasMost acks u)
-
--- a call must be answered so, and in no other way
-answered : Choice → List ℕ → Bool
-answered (exactly r) said = same (letterOf r ∷ valuesOf r) said
-answered (proposes acks) said =
-    let t = slip (getD said 1 0) (getD said 2 0) (getD said 3 0) (getD said 4 0) in
-    same (P t) said && hasMost acks t && every (λ a. onlyMost acks t (a .slot)) acks
-
-allAnswered : Ledger → List Asked → List ℕ → Bool
-allAnswered l [] balances = same (take (length balances) (map (λ e. e .balance) (l .entries))) balances
-allAnswered l (q ∷ qs) balances = answered (step l (q .0) .choice) (q .1) && allAnswered (step l (q .0) .next) qs balances
-
-after : Ledger → List Message → Ledger
-after l [] = l
-after l (m ∷ ms) = after (step l m .next) ms
-
-mayPropose : Choice → Transfer → Bool
-mayPropose (exactly r) t = false
-mayPropose (proposes acks) t = hasMost acks t
-
-codes : Option Refusal → List ℕ
-codes none = []
-codes (some r) = codeOf r ∷ []
-
--- a message's kind, seat and slip as numbers
-numbersOf : Option Message → List ℕ
-numbersOf none = []
-numbersOf (some (Request t)) = 1 ∷ 0 ∷ valuesOfTransfer t
-numbersOf (some (Circulated t)) = 2 ∷ 0 ∷ valuesOfTransfer t
-numbersOf (some (Ack s t)) = 3 ∷ s .0 ∷ valuesOfTransfer t
-numbersOf (some (Decision t)) = 4 ∷ 0 ∷ valuesOfTransfer t
-numbersOf (some (Inquiry a)) = 5 ∷ 0 ∷ a .0 ∷ []
-
--- what it means that a row holds of the definitions
-rowHolds : Row → Bool
-rowHolds (acksNeeded n f c) = enough n f c && not (enough n f (c - 1))
-rowHolds (opens page said) = same (valuesOfOpen (openLedger page .reply)) said
-rowHolds (runs n f balances asked final) = allAnswered (openLedger (pageWith n f balances) .ledger) asked final
-rowHolds (proposals n f balances before m may mayNot) =
-    let choice = step (after (openLedger (pageWith n f balances) .ledger) before) m .choice in
-    every (mayPropose choice) may && every (λ t. not (mayPropose choice t)) mayNot
-rowHolds (lists size said) = same (codes (firstRefusal (listRules (replicate size 0)))) said
-rowHolds (sums bytes s) = eqb (bodySum bytes) s
-rowHolds (checks bytes said) = same (valuesOfBundle (checkBundle bytes)) said
-rowHolds (shows bytes i m) = same (numbersOf (messageOf (pageAt bytes i))) (numbersOf (some m))
+use Rattle.model.specs.Bundles.{checkBundle}
+use Rattle.model.proofs.Rows.{slip, ackBy, pageWith, A, B, C, K, N, P, R, _gives_, Row, acksNeeded, opens, runs, proposals, lists, sums, checks, shows, showsOpening, reads, rowHolds}
 
 -- slips that conflict with one another
 abbrev t : Transfer
@@ -145,7 +26,7 @@ abbrev w : Transfer
 w = slip 0 1 4 0
 
 -- The facts marked *, in document 01's order.
-marked : List Row
+pub marked : List Row
 marked =
     acksNeeded 1 0 1
     ∷ acksNeeded 2 0 2
@@ -174,7 +55,7 @@ marked =
 
 -- Further cases, in document 01's order: the case split 3, 3, 1, where P is free; daybook's whole output; a seat's second ack;
 -- the mark cleared at booking; no slip put forward once one is accepted; 12 before 11; and each code once.
-further : List Row
+pub further : List Row
 further =
     proposals 8 1 (10 ∷ 3 ∷ [])
     (ackBy 0 t ∷ ackBy 1 t ∷ ackBy 2 t ∷ ackBy 3 u ∷ ackBy 4 u ∷ ackBy 5 u ∷ [])
@@ -225,11 +106,20 @@ rightSum = 6 ∷ 205 ∷ 124 ∷ 148 ∷ []
 abbrev zeros4 : List ℕ
 zeros4 = replicate 4 0
 
--- The bundle: a sound one and its ack; then for each code a bundle whose later codes hold too, so that their order shows.
-format : List Row
+-- The bundle: a sound one, with its message under each kind, an opening page, and a reading to the end; then for each code a bundle
+-- whose later codes hold too, so that their order shows.
+pub format : List Row
 format =
     checks (twoPages rightStart rightSum) (2 ∷ [])
+    ∷ shows (set (twoPages rightStart rightSum) 10 1) 1 (Request t)
+    ∷ shows (set (twoPages rightStart rightSum) 10 2) 1 (Circulated t)
     ∷ shows (twoPages rightStart rightSum) 1 (ackBy 4 t)
+    ∷ shows (set (twoPages rightStart rightSum) 10 4) 1 (Decision t)
+    ∷ shows (set (twoPages rightStart rightSum) 10 5) 1 (Inquiry (accountOf 0))
+    ∷ showsOpening (6 ∷ 1 ∷ 2 ∷ 10 ∷ 0 ∷ 0 ∷ 0 ∷ 4 ∷ 3 ∷ 2 ∷ 1 ∷ replicate 120 0) (pageWith 6 1 (10 ∷ 16_909_060 ∷ []))
+    ∷ reads (twoPages rightStart rightSum) 0 (0 ∷ []) 1
+    ∷ reads (twoPages rightStart rightSum) 1 (3 ∷ []) 2
+    ∷ reads (twoPages rightStart rightSum) 2 [] 2
     ∷ checks [] (13 ∷ 0 ∷ [])
     ∷ checks (set (twoPages rightStart rightSum) 0 0) (13 ∷ 0 ∷ [])
     ∷ checks (set (twoPages rightStart rightSum) 1 4) (13 ∷ 0 ∷ [])
@@ -242,6 +132,7 @@ format =
     ∷ checks (twoPages rightStart zeros4) (16 ∷ 1 ∷ [])
     ∷ []
 
-facts : T (every rowHolds (marked ++ further ++ format))
-unfolding noAcks rowHolds after mayPropose codes numbersOf allAnswered answered onlyMost same marked further format equal conflict hasMost openLedger lowestAffordable apply settleAtMost settle accept rulesOf effect step checkBundle
+-- Every row holds of the definitions: the checker computes each.
+pub facts : T (every rowHolds (marked ++ further ++ format))
+unfolding marked further format noAcks equal conflict hasMost rulesOf openLedger lowestAffordable apply settleAtMost settle accept effect step checkBundle
 facts = tt

@@ -1,4 +1,5 @@
 -- What is proved of the definitions: the known pages, and the laws that other crates use.
+pub mod Rows
 pub mod KnownPages
 pub mod Sums
 pub mod Equality

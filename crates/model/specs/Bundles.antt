@@ -112,12 +112,12 @@ checkBundle bytes = firstFault (entryCount bytes) (faults bytes)
 
 -- What a reading finds: a page and the next entry, or no more pages and the place where it stays.
 pub data Reading : Type 0 where
-  page : Page → ℕ → Reading
+  taken : Page → ℕ → Reading
   noMore : ℕ → Reading
 
 -- "A reading of a bundle goes on from the page last taken. After the last page it replies that there are no more, and stays there."
 abbrev pub readNext : List ℕ → ℕ → Reading
-readNext bytes i = cond (ltb i (entryCount bytes)) (page (pageAt bytes i) (i + 1)) (noMore i)
+readNext bytes i = cond (ltb i (entryCount bytes)) (taken (pageAt bytes i) (i + 1)) (noMore i)
 
 -- "Kind 0 is the opening page: n, f, k (1 byte each), 32 balances (4 each)."
 abbrev pub balancesFrom : ℕ → ℕ → List ℕ → List ℕ

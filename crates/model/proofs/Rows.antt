@@ -1,0 +1,147 @@
+-- What a fact of the table of known pages is, and when it holds of the definitions.
+use Prim.Native.Nat.{ℕ, _-_}
+use mathlib.Core.Bool.{Bool, true, false, not, _&&_, _||_}
+use mathlib.Core.List.{List, [], _∷_, _++_, map}
+use mathlib.Core.Option.{Option, none, some}
+use lib.Dec.{eqb}
+use lib.ListN.{length, getD, take, replicate}
+use Rattle.model.specs.Types.{Transfer, Slot, Empty, Full, AckSlot, Ledger, Opening, Refusal, Message, Request, Circulated, Ack, Decision, Inquiry}
+use Rattle.model.specs.Basics.{every}
+use Rattle.model.specs.Records.{seatOf, accountOf}
+use Rattle.model.specs.Transfers.{equal}
+use Rattle.model.specs.Replies.{codeOf, letterOf, valuesOf, valuesOfTransfer, valuesOfOpen, valuesOfBundle, Choice, exactly, proposes}
+use Rattle.model.specs.Refusals.{firstRefusal, listRules}
+use Rattle.model.specs.Openings.{openLedger}
+use Rattle.model.specs.Acks.{enough, hasMost}
+use Rattle.model.specs.Calls.{step}
+use Rattle.model.specs.Bundles.{bodySum, checkBundle, pageAt, messageOf, openingOf, Reading, taken, noMore, readNext}
+
+-- a slip: account, number, value, recipient
+abbrev pub slip : ℕ → ℕ → ℕ → ℕ → Transfer
+slip a m v r = record { account = accountOf a; number = m; value = v; recipient = accountOf r }
+
+abbrev pub ackBy : ℕ → Transfer → Message
+ackBy s t = Ack (seatOf s) t
+
+-- an opening page with n, f and the balances of its accounts
+abbrev pub pageWith : ℕ → ℕ → List ℕ → Opening
+pageWith n f balances =
+    record { seats = n; faults = f; accounts = length balances; balances = balances ++ replicate (32 - length balances) 0 }
+
+-- the replies as document 01 writes them: a letter and what it carries
+abbrev pub A : List ℕ
+A = 65 ∷ []
+
+abbrev pub B : ℕ → List ℕ
+B balance = 66 ∷ balance ∷ []
+
+abbrev pub C : List ℕ
+C = 67 ∷ []
+
+abbrev pub K : ℕ → List ℕ
+K c = 75 ∷ c ∷ []
+
+abbrev pub N : List ℕ
+N = 78 ∷ []
+
+abbrev pub P : Transfer → List ℕ
+P t = 80 ∷ valuesOfTransfer t
+
+abbrev pub R : ℕ → List ℕ
+R code = 82 ∷ code ∷ []
+
+-- a message, and what it is to be answered
+abbrev pub Asked : Type 0
+Asked = Message × List ℕ
+
+infix 70 _gives_
+abbrev pub _gives_ : Message → List ℕ → Asked
+m gives said = (m, said)
+
+-- One fact.
+pub data Row : Type 0 where
+  -- n, f and how many acks are needed
+  acksNeeded : ℕ → ℕ → ℕ → Row
+  -- an opening page, and the code that refuses it, if any
+  opens : Opening → List ℕ → Row
+  -- n, f, balances; the messages with their answers; the balances at the end
+  runs : ℕ → ℕ → List ℕ → List Asked → List ℕ → Row
+  -- n, f, balances; messages, and one more that is answered P; the slips that P may carry, and some that it may not
+  proposals : ℕ → ℕ → List ℕ → List Message → Message → List Transfer → List Transfer → Row
+  -- the length of a waiting list's buffer; the code that refuses it, if any
+  lists : ℕ → List ℕ → Row
+  -- bytes and their sum
+  sums : List ℕ → ℕ → Row
+  -- a bundle, and the values of what its check replies
+  checks : List ℕ → List ℕ → Row
+  -- a bundle, an entry, and the message of its page
+  shows : List ℕ → ℕ → Message → Row
+  -- the body of an opening page, and what is on it
+  showsOpening : List ℕ → Opening → Row
+  -- a bundle, a reading's place in it; the kind of the page taken there, if any, and the place after it
+  reads : List ℕ → ℕ → List ℕ → ℕ → Row
+
+abbrev pub same : List ℕ → List ℕ → Bool
+same [] [] = true
+same [] (y ∷ ys) = false
+same (x ∷ xs) [] = false
+same (x ∷ xs) (y ∷ ys) = eqb x y && same xs ys
+
+-- the slip in this place, if it is not t, may not be put forward
+abbrev pub onlyMost : List AckSlot → Transfer → Slot → Bool
+onlyMost acks t Empty = true
+onlyMost acks t (Full u) = equal u t || not (hasMost acks u)
+
+-- a call must be answered so, and in no other way
+abbrev pub answered : Choice → List ℕ → Bool
+answered (exactly r) said = same (letterOf r ∷ valuesOf r) said
+answered (proposes acks) said =
+    let t = slip (getD said 1 0) (getD said 2 0) (getD said 3 0) (getD said 4 0) in
+    same (P t) said && hasMost acks t && every (λ a. onlyMost acks t (a .slot)) acks
+
+abbrev pub allAnswered : Ledger → List Asked → List ℕ → Bool
+allAnswered l [] balances = same (take (length balances) (map (λ e. e .balance) (l .entries))) balances
+allAnswered l (q ∷ qs) balances = answered (step l (q .0) .choice) (q .1) && allAnswered (step l (q .0) .next) qs balances
+
+abbrev pub after : Ledger → List Message → Ledger
+after l [] = l
+after l (m ∷ ms) = after (step l m .next) ms
+
+abbrev pub mayPropose : Choice → Transfer → Bool
+mayPropose (exactly r) t = false
+mayPropose (proposes acks) t = hasMost acks t
+
+abbrev pub codes : Option Refusal → List ℕ
+codes none = []
+codes (some r) = codeOf r ∷ []
+
+-- a message's kind, seat and slip as numbers
+abbrev pub numbersOf : Option Message → List ℕ
+numbersOf none = []
+numbersOf (some (Request t)) = 1 ∷ 0 ∷ valuesOfTransfer t
+numbersOf (some (Circulated t)) = 2 ∷ 0 ∷ valuesOfTransfer t
+numbersOf (some (Ack s t)) = 3 ∷ s .0 ∷ valuesOfTransfer t
+numbersOf (some (Decision t)) = 4 ∷ 0 ∷ valuesOfTransfer t
+numbersOf (some (Inquiry a)) = 5 ∷ 0 ∷ a .0 ∷ []
+
+abbrev pub numbersOfPage : Opening → List ℕ
+numbersOfPage o = o .seats ∷ o .faults ∷ o .accounts ∷ o .balances
+
+abbrev pub took : Reading → List ℕ → ℕ → Bool
+took (taken p next) kinds place = same (p .kind ∷ []) kinds && eqb next place
+took (noMore stays) kinds place = same [] kinds && eqb stays place
+
+-- what it means that a row holds of the definitions
+abbrev pub rowHolds : Row → Bool
+rowHolds (acksNeeded n f c) = enough n f c && not (enough n f (c - 1))
+rowHolds (opens o said) = same (valuesOfOpen (openLedger o .reply)) said
+rowHolds (runs n f balances asked final) = allAnswered (openLedger (pageWith n f balances) .ledger) asked final
+rowHolds (proposals n f balances before m may mayNot) =
+    let choice = step (after (openLedger (pageWith n f balances) .ledger) before) m .choice in
+    every (mayPropose choice) may && every (λ t. not (mayPropose choice t)) mayNot
+rowHolds (lists size said) = same (codes (firstRefusal (listRules (replicate size 0)))) said
+rowHolds (sums bytes s) = eqb (bodySum bytes) s
+rowHolds (checks bytes said) = same (valuesOfBundle (checkBundle bytes)) said
+rowHolds (showsOpening body o) = same (numbersOfPage (openingOf body)) (numbersOfPage o)
+rowHolds (reads bytes place kinds next) = took (readNext bytes place) kinds next
+rowHolds (shows bytes i m) = same (numbersOf (messageOf (pageAt bytes i))) (numbersOf (some m))

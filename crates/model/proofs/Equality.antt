@@ -40,6 +40,14 @@ equal-refl t =
       eq-eqb (t .recipient .0) (t .recipient .0) refl,
     )
 
+-- slips that differ fail the test
+pub equal-differ : (t u : Transfer) → (t ≡ u → ⊥) → equal t u ≡ false
+equal-differ t u differ = go (equal t u) refl
+  where
+    go : (b : Bool) → equal t u ≡ b → equal t u ≡ false
+    go true h = absurd (differ (equal-sound t u h))
+    go false h = h
+
 -- slips that conflict have one account and one number, and are not equal
 pub record Conflict (t u : Transfer) : Type 0 where
   pub account : t .account ≡ u .account
@@ -56,3 +64,12 @@ conflict-sound t u e =
       number = eqb-true (t .number) (u .number) (two .1);
       differ = λ same. impossible (cc (parts .1, equal-refl u, same));
     }
+
+pub conflict-complete : (t u : Transfer) → Conflict t u → conflict t u ≡ true
+unfolding conflict
+conflict-complete t u c =
+    rw (
+      eq-eqb (t .account .0) (u .account .0) (ap (λ (a : Account). a .0) (c .account)),
+      eq-eqb (t .number) (u .number) (c .number),
+      equal-differ t u (c .differ),
+    )

@@ -82,7 +82,7 @@ further =
     ∷ opens (pageWith 6 1 (replicate 33 1)) (2 ∷ [])
     ∷ opens (record { seats = 6; faults = 1; accounts = 1; balances = 10 ∷ 3 ∷ replicate 30 0 }) (2 ∷ [])
     ∷ opens (pageWith 6 1 (4_294_967_295 ∷ 1 ∷ [])) (3 ∷ [])
-    ∷ opens (pageWith 6 1 (4_294_967_295 ∷ 0 ∷ [])) []
+    ∷ opens (pageWith 6 1 (4_294_967_295 ∷ 0 ∷ [])) (0 ∷ [])
     ∷ lists 31 (17 ∷ [])
     ∷ lists 32 []
     ∷ []
@@ -103,33 +103,36 @@ rightStart = 149 ∷ 0 ∷ []
 abbrev rightSum : List ℕ
 rightSum = 6 ∷ 205 ∷ 124 ∷ 148 ∷ []
 
-abbrev zeros4 : List ℕ
-zeros4 = replicate 4 0
+abbrev wrongSum : List ℕ
+wrongSum = replicate 4 0
+
+abbrev sound : List ℕ
+sound = twoPages rightStart rightSum
 
 -- The bundle: a sound one, with its message under each kind, an opening page, and a reading to the end; then for each code a bundle
 -- whose later codes hold too, so that their order shows.
 pub format : List Row
 format =
-    checks (twoPages rightStart rightSum) (2 ∷ [])
-    ∷ shows (set (twoPages rightStart rightSum) 10 1) 1 (Request t)
-    ∷ shows (set (twoPages rightStart rightSum) 10 2) 1 (Circulated t)
-    ∷ shows (twoPages rightStart rightSum) 1 (ackBy 4 t)
-    ∷ shows (set (twoPages rightStart rightSum) 10 4) 1 (Decision t)
-    ∷ shows (set (twoPages rightStart rightSum) 10 5) 1 (Inquiry (accountOf 0))
+    checks sound (0 ∷ 2 ∷ [])
+    ∷ shows (set sound 10 1) 1 (Request t)
+    ∷ shows (set sound 10 2) 1 (Circulated t)
+    ∷ shows sound 1 (ackBy 4 t)
+    ∷ shows (set sound 10 4) 1 (Decision t)
+    ∷ shows (set sound 10 5) 1 (Inquiry (accountOf 0))
     ∷ showsOpening (6 ∷ 1 ∷ 2 ∷ 10 ∷ 0 ∷ 0 ∷ 0 ∷ 4 ∷ 3 ∷ 2 ∷ 1 ∷ replicate 120 0) (pageWith 6 1 (10 ∷ 16_909_060 ∷ []))
-    ∷ reads (twoPages rightStart rightSum) 0 (0 ∷ []) 1
-    ∷ reads (twoPages rightStart rightSum) 1 (3 ∷ []) 2
-    ∷ reads (twoPages rightStart rightSum) 2 [] 2
+    ∷ reads sound 0 (0 ∷ []) 1
+    ∷ reads sound 1 (3 ∷ []) 2
+    ∷ reads sound 2 [] 2
     ∷ checks [] (13 ∷ 0 ∷ [])
-    ∷ checks (set (twoPages rightStart rightSum) 0 0) (13 ∷ 0 ∷ [])
-    ∷ checks (set (twoPages rightStart rightSum) 1 4) (13 ∷ 0 ∷ [])
-    ∷ checks (take 17 (twoPages rightStart rightSum)) (13 ∷ 0 ∷ [])
-    ∷ checks (twoPages (148 ∷ 0 ∷ []) zeros4 ++ (0 ∷ [])) (14 ∷ 1 ∷ [])
-    ∷ checks (set (twoPages rightStart rightSum) 2 6) (14 ∷ 0 ∷ [])
-    ∷ checks (set (twoPages rightStart rightSum) 10 0) (14 ∷ 1 ∷ [])
-    ∷ checks (set (twoPages rightStart rightSum) 10 4) (14 ∷ 1 ∷ [])
-    ∷ checks (twoPages rightStart zeros4 ++ (0 ∷ [])) (15 ∷ 0 ∷ [])
-    ∷ checks (twoPages rightStart zeros4) (16 ∷ 1 ∷ [])
+    ∷ checks (set sound 0 0) (13 ∷ 0 ∷ [])
+    ∷ checks (set sound 1 4) (13 ∷ 0 ∷ [])
+    ∷ checks (take 17 sound) (13 ∷ 0 ∷ [])
+    ∷ checks (twoPages (148 ∷ 0 ∷ []) wrongSum ++ (0 ∷ [])) (14 ∷ 1 ∷ [])
+    ∷ checks (set sound 2 6) (14 ∷ 0 ∷ [])
+    ∷ checks (set sound 10 0) (14 ∷ 1 ∷ [])
+    ∷ checks (set sound 10 4) (14 ∷ 1 ∷ [])
+    ∷ checks (twoPages rightStart wrongSum ++ (0 ∷ [])) (15 ∷ 0 ∷ [])
+    ∷ checks (twoPages rightStart wrongSum) (16 ∷ 1 ∷ [])
     ∷ []
 
 -- Every row holds of the definitions: the checker computes each.

@@ -62,7 +62,7 @@ m gives said = (m, said)
 pub data Row : Type 0 where
   -- n, f and how many acks are needed
   acksNeeded : ℕ → ℕ → ℕ → Row
-  -- an opening page, and the code that refuses it, if any
+  -- an opening page, and the values of its answer: the code, or 0
   opens : Opening → List ℕ → Row
   -- n, f, balances; the messages with their answers; the balances at the end
   runs : ℕ → ℕ → List ℕ → List Asked → List ℕ → Row
@@ -72,7 +72,7 @@ pub data Row : Type 0 where
   lists : ℕ → List ℕ → Row
   -- bytes and their sum
   sums : List ℕ → ℕ → Row
-  -- a bundle, and the values of what its check replies
+  -- a bundle, and the values of its check's answer
   checks : List ℕ → List ℕ → Row
   -- a bundle, an entry, and the message of its page
   shows : List ℕ → ℕ → Message → Row
@@ -81,6 +81,7 @@ pub data Row : Type 0 where
   -- a bundle, a reading's place in it; the kind of the page taken there, if any, and the place after it
   reads : List ℕ → ℕ → List ℕ → ℕ → Row
 
+-- two lists of numbers are equal
 abbrev pub same : List ℕ → List ℕ → Bool
 same [] [] = true
 same [] (y ∷ ys) = false
@@ -99,18 +100,22 @@ answered (proposes acks) said =
     let t = slip (getD said 1 0) (getD said 2 0) (getD said 3 0) (getD said 4 0) in
     same (P t) said && hasMost acks t && every (λ a. onlyMost acks t (a .slot)) acks
 
+-- each message is answered as it is to be, and the balances at the end are these
 abbrev pub allAnswered : Ledger → List Asked → List ℕ → Bool
 allAnswered l [] balances = same (take (length balances) (map (λ e. e .balance) (l .entries))) balances
 allAnswered l (q ∷ qs) balances = answered (step l (q .0) .choice) (q .1) && allAnswered (step l (q .0) .next) qs balances
 
+-- the ledger after some messages
 abbrev pub after : Ledger → List Message → Ledger
 after l [] = l
 after l (m ∷ ms) = after (step l m .next) ms
 
+-- the call may reply P with this slip
 abbrev pub mayPropose : Choice → Transfer → Bool
 mayPropose (exactly r) t = false
 mayPropose (proposes acks) t = hasMost acks t
 
+-- the code of a refusal, if there is one
 abbrev pub codes : Option Refusal → List ℕ
 codes none = []
 codes (some r) = codeOf r ∷ []
@@ -124,9 +129,11 @@ numbersOf (some (Ack s t)) = 3 ∷ s .0 ∷ valuesOfTransfer t
 numbersOf (some (Decision t)) = 4 ∷ 0 ∷ valuesOfTransfer t
 numbersOf (some (Inquiry a)) = 5 ∷ 0 ∷ a .0 ∷ []
 
+-- an opening page's numbers
 abbrev pub numbersOfPage : Opening → List ℕ
 numbersOfPage o = o .seats ∷ o .faults ∷ o .accounts ∷ o .balances
 
+-- a reading takes a page of this kind, if any, and is then at this place
 abbrev pub took : Reading → List ℕ → ℕ → Bool
 took (taken p next) kinds place = same (p .kind ∷ []) kinds && eqb next place
 took (noMore stays) kinds place = same [] kinds && eqb stays place

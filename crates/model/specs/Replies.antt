@@ -50,19 +50,20 @@ valuesOf Note = []
 valuesOf (Balance b) = b ∷ []
 valuesOf (Refuse r) = codeOf r ∷ []
 
--- an opening: nothing, or the code
+-- The other answers: their code, 0 where it is no refusal, and what they carry.
+-- an opening
 abbrev pub valuesOfOpen : OpenReply → List ℕ
-valuesOfOpen Opened = []
+valuesOfOpen Opened = 0 ∷ []
 valuesOfOpen (OpenRefused r) = codeOf r ∷ []
 
--- the waiting list: how many, or the code
+-- the waiting list: how many
 abbrev pub valuesOfList : ListReply → List ℕ
-valuesOfList (Listed c) = c ∷ []
+valuesOfList (Listed c) = 0 ∷ c ∷ []
 valuesOfList (ListRefused r) = codeOf r ∷ []
 
--- the check of a bundle: m, or the code and the entry
+-- the check of a bundle: m, or the entry at fault
 abbrev pub valuesOfBundle : BundleReply → List ℕ
-valuesOfBundle (Sound m) = m ∷ []
+valuesOfBundle (Sound m) = 0 ∷ m ∷ []
 valuesOfBundle (BundleRefused r i) = codeOf r ∷ i ∷ []
 
 -- What a call may reply: one reply, or P with a slip that has the most of these acks.

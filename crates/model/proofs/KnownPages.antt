@@ -13,7 +13,7 @@ use Rattle.model.specs.Acks.{hasMost}
 use Rattle.model.specs.Settling.{lowestAffordable, apply, settleAtMost, settle, accept}
 use Rattle.model.specs.Calls.{effect, step}
 use Rattle.model.specs.Bundles.{checkBundle}
-use Rattle.model.proofs.Rows.{slip, ackBy, pageWith, A, B, C, K, N, P, R, _gives_, Row, acksNeeded, opens, runs, proposals, lists, sums, checks, shows, showsOpening, reads, rowHolds}
+use Rattle.model.proofs.Rows.{slip, ackBy, pageWith, A, B, C, K, N, P, R, _gives_, everyKind, Row, acksNeeded, opens, runs, proposals, lists, sums, checks, shows, showsOpening, reads, rowHolds}
 
 -- slips that conflict with one another
 abbrev t : Transfer
@@ -54,7 +54,7 @@ marked =
     ∷ []
 
 -- Further cases, in document 01's order: the case split 3, 3, 1, where P is free; daybook's whole output; a seat's second ack;
--- the mark cleared at booking; no slip put forward once one is accepted; 12 before 11; and each code once.
+-- the mark cleared at booking; no slip put forward once one is accepted; 12 before 11; each code, and 5 to 8 under each kind of call.
 pub further : List Row
 further =
     proposals 8 1 (10 ∷ 3 ∷ [])
@@ -78,6 +78,12 @@ further =
     (Circulated (slip 0 1 10 1) gives A ∷ Circulated (slip 0 1 11 1) gives R 12 ∷ Request (slip 0 1 11 1) gives R 11
     ∷ Request (slip 0 1 10 1) gives C ∷ [])
     (10 ∷ 5 ∷ [])
+    ∷ runs 6 1 (10 ∷ 3 ∷ [])
+    (everyKind (slip 2 1 4 1) (R 5) ++ everyKind (slip 0 1 4 2) (R 5) ++ everyKind (slip 0 0 4 1) (R 5)
+    ++ everyKind (slip 0 1 0 1) (R 5) ++ everyKind (slip 0 1 14 1) (R 5) ++ everyKind (slip 0 2 4 1) (R 7)
+    ++ (Decision t gives K 1 ∷ []) ++ everyKind t (R 6) ++ everyKind (slip 0 3 4 1) (R 7))
+    (6 ∷ 7 ∷ [])
+    ∷ runs 6 1 (0 ∷ 5 ∷ []) ((Decision t gives K 0 ∷ []) ++ everyKind t (R 8) ++ everyKind u (R 8)) (0 ∷ 5 ∷ [])
     ∷ opens (pageWith 6 1 []) (2 ∷ [])
     ∷ opens (pageWith 6 1 (replicate 33 1)) (2 ∷ [])
     ∷ opens (record { seats = 6; faults = 1; accounts = 1; balances = 10 ∷ 3 ∷ replicate 30 0 }) (2 ∷ [])

@@ -58,6 +58,10 @@ infix 70 _gives_
 abbrev pub _gives_ : Message → List ℕ → Asked
 m gives said = (m, said)
 
+-- a slip that each kind of call that brings one answers alike
+abbrev pub everyKind : Transfer → List ℕ → List Asked
+everyKind t said = Request t gives said ∷ Circulated t gives said ∷ ackBy 0 t gives said ∷ Decision t gives said ∷ []
+
 -- One fact.
 pub data Row : Type 0 where
   -- n, f and how many acks are needed

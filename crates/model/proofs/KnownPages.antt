@@ -84,14 +84,21 @@ further =
     ++ (Decision t gives K 1 ∷ []) ++ everyKind t (R 6) ++ everyKind (slip 0 3 4 1) (R 7))
     (6 ∷ 7 ∷ [])
     ∷ runs 6 1 (0 ∷ 5 ∷ []) ((Decision t gives K 0 ∷ []) ++ everyKind t (R 8) ++ everyKind u (R 8)) (0 ∷ 5 ∷ [])
+    ∷ opens (pageWith 1 0 (10 ∷ [])) (0 ∷ [])
+    ∷ opens (pageWith 16 3 (replicate 32 1)) (0 ∷ [])
+    ∷ opens (pageWith 0 0 (10 ∷ [])) (1 ∷ [])
     ∷ opens (pageWith 6 1 []) (2 ∷ [])
     ∷ opens (pageWith 6 1 (replicate 33 1)) (2 ∷ [])
     ∷ opens (record { seats = 6; faults = 1; accounts = 1; balances = 10 ∷ 3 ∷ replicate 30 0 }) (2 ∷ [])
     ∷ opens (pageWith 6 1 (4_294_967_295 ∷ 1 ∷ [])) (3 ∷ [])
     ∷ opens (pageWith 6 1 (4_294_967_295 ∷ 0 ∷ [])) (0 ∷ [])
     ∷ lists 31 (17 ∷ [])
-    ∷ lists 32 []
+    ∷ lists 32 (0 ∷ 0 ∷ [])
     ∷ []
+
+-- the body of a page with the slip t
+abbrev body : List ℕ
+body = 0 ∷ 1 ∷ 0 ∷ 0 ∷ 0 ∷ 4 ∷ 0 ∷ 0 ∷ 0 ∷ 1 ∷ []
 
 -- A bundle of two pages: an opening page of zeros, and an ack of t from seat 4, its contents entry with this start and sum.
 abbrev twoPages : List ℕ → List ℕ → List ℕ
@@ -101,7 +108,7 @@ twoPages start sum =
     ++ (3 ∷ 4 ∷ start)
     ++ sum
     ++ replicate 131 0
-    ++ (0 ∷ 1 ∷ 0 ∷ 0 ∷ 0 ∷ 4 ∷ 0 ∷ 0 ∷ 0 ∷ 1 ∷ [])
+    ++ body
 
 abbrev rightStart : List ℕ
 rightStart = 149 ∷ 0 ∷ []
@@ -115,16 +122,39 @@ wrongSum = replicate 4 0
 abbrev sound : List ℕ
 sound = twoPages rightStart rightSum
 
--- The bundle: a sound one, with its message under each kind, an opening page, and a reading to the end; then for each code a bundle
--- whose later codes hold too, so that their order shows.
+-- A bundle with a page of each kind: the slips are t, the question is for account 1. Six entries, so the bodies start at 50.
+abbrev allKinds : List ℕ
+allKinds =
+    (6 ∷ 0 ∷ [])
+    ++ (0 ∷ 0 ∷ 50 ∷ 0 ∷ 0 ∷ 0 ∷ 0 ∷ 0 ∷ [])
+    ++ (1 ∷ 0 ∷ 181 ∷ 0 ∷ rightSum)
+    ++ (2 ∷ 0 ∷ 191 ∷ 0 ∷ rightSum)
+    ++ (3 ∷ 4 ∷ 201 ∷ 0 ∷ rightSum)
+    ++ (4 ∷ 0 ∷ 211 ∷ 0 ∷ rightSum)
+    ++ (5 ∷ 0 ∷ 221 ∷ 0 ∷ 1 ∷ 0 ∷ 0 ∷ 0 ∷ [])
+    ++ replicate 131 0
+    ++ body
+    ++ body
+    ++ body
+    ++ body
+    ++ (1 ∷ [])
+
+-- The smallest bundle: an opening page of zeros.
+abbrev onePage : List ℕ
+onePage = (1 ∷ 0 ∷ 0 ∷ 0 ∷ 10 ∷ 0 ∷ 0 ∷ 0 ∷ 0 ∷ 0 ∷ []) ++ replicate 131 0
+
+-- Sound bundles, a message of each kind, an opening page, and a reading to the end; then for each code bundles that it refuses, one
+-- of them with the later codes at fault too, so that their order shows.
 pub format : List Row
 format =
     checks sound (0 ∷ 2 ∷ [])
-    ∷ shows (set sound 10 1) 1 (Request t)
-    ∷ shows (set sound 10 2) 1 (Circulated t)
-    ∷ shows sound 1 (ackBy 4 t)
-    ∷ shows (set sound 10 4) 1 (Decision t)
-    ∷ shows (set sound 10 5) 1 (Inquiry (accountOf 0))
+    ∷ checks onePage (0 ∷ 1 ∷ [])
+    ∷ checks allKinds (0 ∷ 6 ∷ [])
+    ∷ shows allKinds 1 (Request t)
+    ∷ shows allKinds 2 (Circulated t)
+    ∷ shows allKinds 3 (ackBy 4 t)
+    ∷ shows allKinds 4 (Decision t)
+    ∷ shows allKinds 5 (Inquiry (accountOf 1))
     ∷ showsOpening (6 ∷ 1 ∷ 2 ∷ 10 ∷ 0 ∷ 0 ∷ 0 ∷ 4 ∷ 3 ∷ 2 ∷ 1 ∷ replicate 120 0) (pageWith 6 1 (10 ∷ 16_909_060 ∷ []))
     ∷ reads sound 0 (0 ∷ []) 1
     ∷ reads sound 1 (3 ∷ []) 2
@@ -135,8 +165,10 @@ format =
     ∷ checks (take 17 sound) (13 ∷ 0 ∷ [])
     ∷ checks (twoPages (148 ∷ 0 ∷ []) wrongSum ++ (0 ∷ [])) (14 ∷ 1 ∷ [])
     ∷ checks (set sound 2 6) (14 ∷ 0 ∷ [])
+    ∷ checks (set (set sound 10 6) 11 0) (14 ∷ 1 ∷ [])
     ∷ checks (set sound 10 0) (14 ∷ 1 ∷ [])
     ∷ checks (set sound 10 4) (14 ∷ 1 ∷ [])
+    ∷ checks (take 18 sound) (15 ∷ 0 ∷ [])
     ∷ checks (twoPages rightStart wrongSum ++ (0 ∷ [])) (15 ∷ 0 ∷ [])
     ∷ checks (twoPages rightStart wrongSum) (16 ∷ 1 ∷ [])
     ∷ []

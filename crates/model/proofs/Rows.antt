@@ -5,11 +5,11 @@ use mathlib.Core.List.{List, [], _∷_, _++_, map}
 use mathlib.Core.Option.{Option, none, some}
 use lib.Dec.{eqb}
 use lib.ListN.{length, getD, take, replicate}
-use Rattle.model.specs.Types.{Transfer, Slot, Empty, Full, AckSlot, Ledger, Opening, Refusal, Message, Request, Circulated, Ack, Decision, Inquiry}
+use Rattle.model.specs.Types.{Transfer, Slot, Empty, Full, AckSlot, Ledger, Opening, Refusal, Message, Request, Circulated, Ack, Decision, Inquiry, Propose, ListReply, Listed, ListRefused}
 use Rattle.model.specs.Basics.{every}
 use Rattle.model.specs.Records.{seatOf, accountOf}
 use Rattle.model.specs.Transfers.{equal}
-use Rattle.model.specs.Replies.{codeOf, letterOf, valuesOf, valuesOfTransfer, valuesOfOpen, valuesOfBundle, Choice, exactly, proposes}
+use Rattle.model.specs.Replies.{letterOf, valuesOf, valuesOfTransfer, valuesOfOpen, valuesOfList, valuesOfBundle, Choice, exactly, proposes}
 use Rattle.model.specs.Refusals.{firstRefusal, listRules}
 use Rattle.model.specs.Openings.{openLedger}
 use Rattle.model.specs.Acks.{enough, hasMost}
@@ -72,7 +72,7 @@ pub data Row : Type 0 where
   runs : ℕ → ℕ → List ℕ → List Asked → List ℕ → Row
   -- n, f, balances; messages, and one more that is answered P; the slips that P may carry, and some that it may not
   proposals : ℕ → ℕ → List ℕ → List Message → Message → List Transfer → List Transfer → Row
-  -- the length of a waiting list's buffer; the code that refuses it, if any
+  -- the length of a waiting list's buffer, and the values of its answer where nothing waits
   lists : ℕ → List ℕ → Row
   -- bytes and their sum
   sums : List ℕ → ℕ → Row
@@ -102,7 +102,7 @@ abbrev pub answered : Choice → List ℕ → Bool
 answered (exactly r) said = same (letterOf r ∷ valuesOf r) said
 answered (proposes acks) said =
     let t = slip (getD said 1 0) (getD said 2 0) (getD said 3 0) (getD said 4 0) in
-    same (P t) said && hasMost acks t && every (λ a. onlyMost acks t (a .slot)) acks
+    same (letterOf (Propose t) ∷ valuesOf (Propose t)) said && hasMost acks t && every (λ a. onlyMost acks t (a .slot)) acks
 
 -- each message is answered as it is to be, and the balances at the end are these
 abbrev pub allAnswered : Ledger → List Asked → List ℕ → Bool
@@ -119,10 +119,10 @@ abbrev pub mayPropose : Choice → Transfer → Bool
 mayPropose (exactly r) t = false
 mayPropose (proposes acks) t = hasMost acks t
 
--- the code of a refusal, if there is one
-abbrev pub codes : Option Refusal → List ℕ
-codes none = []
-codes (some r) = codeOf r ∷ []
+-- the waiting list's reply where nothing waits
+abbrev pub listReply : Option Refusal → ListReply
+listReply none = Listed 0
+listReply (some r) = ListRefused r
 
 -- a message's kind, seat and slip as numbers
 abbrev pub numbersOf : Option Message → List ℕ
@@ -150,7 +150,7 @@ rowHolds (runs n f balances asked final) = allAnswered (openLedger (pageWith n f
 rowHolds (proposals n f balances before m may mayNot) =
     let choice = step (after (openLedger (pageWith n f balances) .ledger) before) m .choice in
     every (mayPropose choice) may && every (λ t. not (mayPropose choice t)) mayNot
-rowHolds (lists size said) = same (codes (firstRefusal (listRules (replicate size 0)))) said
+rowHolds (lists size said) = same (valuesOfList (listReply (firstRefusal (listRules (replicate size 0))))) said
 rowHolds (sums bytes s) = eqb (bodySum bytes) s
 rowHolds (checks bytes said) = same (valuesOfBundle (checkBundle bytes)) said
 rowHolds (showsOpening body o) = same (numbersOfPage (openingOf body)) (numbersOfPage o)

@@ -4,11 +4,11 @@ use native.Mathlib.Nat.{le-of-suc-le-suc, not-suc-le-zero}
 use native.Mathlib.Decide.{ℕ-discrete}
 use native.Mathlib.Omega.{arith}
 use mathlib.Core.Path.{_≡_, refl, ap}
-use mathlib.Core.Bool.{Bool, true, false}
+use mathlib.Core.Bool.{Bool, true, false, or-true}
 use mathlib.Core.List.{List, [], _∷_}
 use mathlib.Core.Option.{none, some}
 use lib.ListN.{length, getD, set}
-use Rattle.model.specs.Basics.{sumOf, firstWhere}
+use Rattle.model.specs.Basics.{sumOf, any, firstWhere}
 
 module _ {A : Type 0} (f : A → ℕ) where
   -- one element is replaced: the sum changes by the difference of the two
@@ -29,6 +29,26 @@ module _ {A : Type 0} (f : A → ℕ) where
   sum-at-least (y ∷ ys) zero d h = omega arith
   sum-at-least (y ∷ ys) (suc i) d h = omega (arith, sum-at-least ys i d (le-of-suc-le-suc h))
 
+-- from two numbers that differ, anything
+pub impossible : {A : Type 0} → _≡_ {A = ℕ} 0 1 → A
+impossible e = absurd (omega arith)
+
+-- a test that some element passes: one that does, and its place
+pub any-found : {A : Type 0} (p : A → Bool) (xs : List A) (d : A) → any p xs ≡ true → (i : ℕ) × (i < length xs) × (p (getD xs i d) ≡ true)
+any-found p [] d e = impossible (cc)
+any-found p (x ∷ xs) d e = go (p x) refl (any-found p xs d)
+  where
+    go : (b : Bool) → p x ≡ b → (any p xs ≡ true → (i : ℕ) × (i < length xs) × (p (getD xs i d) ≡ true))
+        → (i : ℕ) × (i < length (x ∷ xs)) × (p (getD (x ∷ xs) i d) ≡ true)
+    go true h rest = (0, omega arith, h)
+    go false h rest = let found = rest (rw h at e) in (suc (found .0), omega (arith, found .1), found .2)
+
+-- and if one does, some element does
+pub any-holds : {A : Type 0} (p : A → Bool) (xs : List A) (d : A) (i : ℕ) → i < length xs → p (getD xs i d) ≡ true → any p xs ≡ true
+any-holds p [] d i h e = absurd (not-suc-le-zero h)
+any-holds p (x ∷ xs) d zero h e = rw e
+any-holds p (x ∷ xs) d (suc i) h e = rw (any-holds p xs d i (le-of-suc-le-suc h) e) (or-true (p x))
+
 -- What a search that found j says: j passes the test, is one of the `left` numbers from i on, and is the lowest that passes.
 pub record Found (p : ℕ → Bool) (left i j : ℕ) : Type 0 where
   pub passes : p j ≡ true
@@ -39,10 +59,6 @@ pub record Found (p : ℕ → Bool) (left i j : ℕ) : Type 0 where
 -- What a search that found nothing says: none of the `left` numbers from i on passes the test.
 abbrev pub NotFound : (ℕ → Bool) → ℕ → ℕ → Type 0
 NotFound p left i = (k : ℕ) → i ≤ k → k < i + left → p k ≡ false
-
--- from two numbers that differ, anything
-pub impossible : {A : Type 0} → _≡_ {A = ℕ} 0 1 → A
-impossible e = absurd (omega arith)
 
 module _ (p : ℕ → Bool) where
   pub first-found : (left i j : ℕ) → firstWhere p left i ≡ some j → Found p left i j

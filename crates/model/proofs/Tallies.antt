@@ -1,15 +1,17 @@
--- Laws of the tally: what the test for "a slip that has the most acks" says.
-use Prim.Native.Nat.{ℕ, _≤_}
+-- Laws of the tally: what the tests for "a slip that has the most acks" and for "two of them conflict" say.
+use Prim.Native.Nat.{ℕ, _≤_, _<_}
 use native.Mathlib.Omega.{arith}
 use mathlib.Core.Path.{_≡_, refl, ap}
 use mathlib.Core.Logic.{_⊎_, inl, inr}
 use mathlib.Core.Bool.{Bool, true, false}
 use mathlib.Core.List.{List, [], _∷_}
+use lib.ListN.{length, getD}
 use borrow.Author.Tests.{leb-true, le-leb}
 use Rattle.model.specs.Types.{Transfer, Slot, Empty, Full, AckSlot}
 use Rattle.model.specs.Basics.{bit, every}
-use Rattle.model.specs.Transfers.{equal}
-use Rattle.model.specs.Acks.{holds, acksFor, noMoreThan, hasMost}
+use Rattle.model.specs.Transfers.{equal, conflict}
+use Rattle.model.specs.Acks.{holds, conflicts, acksFor, conflictsWithAny, twoConflict, noMoreThan, hasMost}
+use Rattle.model.proofs.Sums.{impossible, any-found, any-holds}
 use Rattle.model.proofs.Equality.{both, equal-sound}
 
 -- no slip has more of the acks
@@ -59,3 +61,54 @@ every-place c acks (a ∷ rest) h = rw (here (a .slot)) (every-place c acks rest
 pub most-complete : (acks : List AckSlot) (t : Transfer) → MostAcked acks t → hasMost acks t ≡ true
 unfolding hasMost
 most-complete acks t h = every-place (acksFor t acks) acks acks h
+
+-- the ack of a place
+abbrev ackAt : List AckSlot → ℕ → Slot
+ackAt acks i = getD acks i (record { slot = Empty }) .slot
+
+-- two recorded acks, and that their slips conflict
+pub record TwoConflict (acks : List AckSlot) : Type 0 where
+  pub first : ℕ
+  pub second : ℕ
+  pub one : Transfer
+  pub other : Transfer
+  pub first-inside : first < length acks
+  pub second-inside : second < length acks
+  pub first-is : ackAt acks first ≡ Full one
+  pub second-is : ackAt acks second ≡ Full other
+  pub conflicting : conflict other one ≡ true
+
+pub two-conflict-sound : (acks : List AckSlot) → twoConflict acks ≡ true → TwoConflict acks
+two-conflict-sound acks e = outer (ackAt acks (found .0)) refl (found .2)
+  where
+    found : (i : ℕ) × (i < length acks) × (conflictsWithAny acks (ackAt acks i) ≡ true)
+    found = any-found (λ a. conflictsWithAny acks (a .slot)) acks (record { slot = Empty }) e
+
+    outer : (s : Slot) → ackAt acks (found .0) ≡ s → conflictsWithAny acks (ackAt acks (found .0)) ≡ true → TwoConflict acks
+    outer Empty at e = impossible (let z : false ≡ true = rw at at e in cc)
+    outer (Full t) at e = inner (ackAt acks (next .0)) refl (next .2)
+      where
+        next : (j : ℕ) × (j < length acks) × (conflicts t (ackAt acks j) ≡ true)
+        next = any-found (λ a. conflicts t (a .slot)) acks (record { slot = Empty }) (rw at at e)
+
+        inner : (s : Slot) → ackAt acks (next .0) ≡ s → conflicts t (ackAt acks (next .0)) ≡ true → TwoConflict acks
+        inner Empty at′ e = impossible (let z : false ≡ true = rw at′ at e in cc)
+        inner (Full u) at′ e =
+            record {
+              first = found .0;
+              second = next .0;
+              one = t;
+              other = u;
+              first-inside = found .1;
+              second-inside = next .1;
+              first-is = at;
+              second-is = at′;
+              conflicting = rw at′ at e;
+            }
+
+pub two-conflict-complete : (acks : List AckSlot) → TwoConflict acks → twoConflict acks ≡ true
+two-conflict-complete acks c =
+    let none : AckSlot = record { slot = Empty } in
+    any-holds (λ a. conflictsWithAny acks (a .slot)) acks none (c .first) (c .first-inside)
+    (rw (c .first-is)
+    (any-holds (λ a. conflicts (c .one) (a .slot)) acks none (c .second) (c .second-inside) (rw (c .second-is) (c .conflicting))))

@@ -7,7 +7,7 @@ use mathlib.Core.List.{List}
 use lib.ListN.{length, set, length-set}
 use lib.Seq.{getD-set-same, getD-set-other, set-getD, set-set}
 use Rattle.model.specs.Types.{Seat, Account, Transfer, Slot, Empty, Full, AckSlot, Entry, Ledger}
-use Rattle.model.specs.Records.{noAcks, freshEntry, withBalance, withAcked, withAck, withProposed, withPending, withBooked, entryAt, setEntry, withEntries, entryOf, withEntry}
+use Rattle.model.specs.Records.{noAcks, noLedger, freshEntry, withBalance, withAcked, withAck, withProposed, withPending, withBooked, entryAt, setEntry, withEntries, entryOf, withEntry}
 
 -- an entry's fields, all of them
 pub record Fields (e : Entry) (balance current : ℕ) (acked : Bool) (acks : List AckSlot) (proposed : Bool) (pending : Slot) : Type 0 where
@@ -21,6 +21,17 @@ pub record Fields (e : Entry) (balance current : ℕ) (acked : Bool) (acks : Lis
 pub fields-of : (e : Entry) → Fields e (e .balance) (e .current) (e .acked) (e .acks) (e .proposed) (e .pending)
 fields-of e =
     record { balance-is = refl; current-is = refl; acked-is = refl; acks-are = refl; proposed-is = refl; pending-is = refl }
+
+-- the sizes of the arrays that the definitions make, and the sum of a ledger with nothing in it
+pub no-acks-length : length noAcks ≡ 16
+unfolding noAcks
+no-acks-length = refl
+
+pub no-ledger-length : length (noLedger .entries) ≡ 32
+no-ledger-length = refl
+
+pub no-ledger-total : noLedger .total ≡ 0
+no-ledger-total = refl
 
 -- each setter sets what its name says, and nothing else
 pub fresh-fields : (b : ℕ) → Fields (freshEntry b) b 0 false noAcks false Empty

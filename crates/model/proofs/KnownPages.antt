@@ -144,7 +144,7 @@ abbrev onePage : List ℕ
 onePage = (1 ∷ 0 ∷ 0 ∷ 0 ∷ 10 ∷ 0 ∷ 0 ∷ 0 ∷ 0 ∷ 0 ∷ []) ++ replicate 131 0
 
 -- Sound bundles, a message of each kind, an opening page, and a reading to the end; then for each code bundles that it refuses, one
--- of them with the later codes at fault too, so that their order shows.
+-- of them with the later codes at fault too, so that their order shows. 233 and 3 are m 1,001, and 232 and 3 are m 1,000.
 pub format : List Row
 format =
     checks sound (0 ∷ 2 ∷ [])
@@ -163,6 +163,8 @@ format =
     ∷ checks (set sound 0 0) (13 ∷ 0 ∷ [])
     ∷ checks (set sound 1 4) (13 ∷ 0 ∷ [])
     ∷ checks (take 17 sound) (13 ∷ 0 ∷ [])
+    ∷ checks ((233 ∷ 3 ∷ []) ++ replicate 8_008 0) (13 ∷ 0 ∷ [])
+    ∷ checks ((232 ∷ 3 ∷ []) ++ replicate 8_000 0) (14 ∷ 0 ∷ [])
     ∷ checks (twoPages (148 ∷ 0 ∷ []) wrongSum ++ (0 ∷ [])) (14 ∷ 1 ∷ [])
     ∷ checks (set sound 2 6) (14 ∷ 0 ∷ [])
     ∷ checks (set (set sound 10 6) 11 0) (14 ∷ 1 ∷ [])

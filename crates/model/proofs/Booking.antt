@@ -137,13 +137,21 @@ module _ (es : List Entry) (a : Account) (at : Affordable es a) where
       let same = sum-set-same (λ e. bit (isWaiting e)) taken (t .recipient .0) received (freshEntry 0) refl in
       rw apply-is (omega arith)
 
+  -- the payer's debit lowers the sum by the value
+  debit-sum : sumBalances taken + t .value ≡ sumBalances es
+  unfolding taken paid t
+  debit-sum = omega (arith, sum-set (λ e. e .balance) es (a .0) paid (freshEntry 0) (at .inside), at .funds)
+
+  still-inside : at .transfer .recipient .0 < length es → t .recipient .0 < length taken
+  unfolding taken t
+  still-inside there = rw length-set there
+
   -- the sum of balances stays, where it fits and there is such a recipient
   pub apply-sum : at .transfer .recipient .0 < length es → sumBalances es < 4_294_967_296 → sumBalances (apply es a) ≡ sumBalances es
-  unfolding taken paid t
+  unfolding t
   apply-sum there fits =
-      let less = sum-set (λ e. e .balance) es (a .0) paid (freshEntry 0) (at .inside) in
-      let long : t .recipient .0 < length taken = rw length-set there in
-      let more = credit-sum taken (t .recipient) (t .value) long (omega arith) in
+      let debit = debit-sum in
+      let more = credit-sum taken (t .recipient) (t .value) (still-inside there) (omega arith) in
       rw apply-is (omega arith)
 
   -- the payer's balance falls by the value and the recipient's rises by it, in plain numbers
@@ -152,9 +160,8 @@ module _ (es : List Entry) (a : Account) (at : Affordable es a) where
       ≡ entryAt es b .balance + share b (at .transfer .recipient) (at .transfer .value)
   unfolding taken paid t
   apply-balance b there fits =
-      let less = sum-set (λ e. e .balance) es (a .0) paid (freshEntry 0) (at .inside) in
-      let long : t .recipient .0 < length taken = rw length-set there in
-      let more = credit-balance taken (t .recipient) b (t .value) long (omega arith) in
+      let less = debit-sum in
+      let more = credit-balance taken (t .recipient) b (t .value) (still-inside there) (omega arith) in
       let before = debit (ℕ-discrete (b .0) (a .0)) in
       rw apply-is (omega arith)
     where

@@ -6,12 +6,7 @@ use lib.Dec.{eqb}
 use borrow.Author.Tests.{eqb-true, eq-eqb}
 use Rattle.model.specs.Types.{Account, Transfer}
 use Rattle.model.specs.Transfers.{sameNumber, equal, conflict}
-use Rattle.model.proofs.Sums.{impossible}
-
--- both parts of a test that passes
-pub both : (a b : Bool) → (a && b) ≡ true → (a ≡ true) × (b ≡ true)
-both true b e = (refl, e)
-both false b e = impossible (cc)
+use Rattle.model.proofs.Sums.{impossible, both}
 
 same-account : (a b : Account) → eqb (a .0) (b .0) ≡ true → a ≡ b
 same-account a b e = let n : a .0 ≡ b .0 = eqb-true _ _ e in ap (λ (m : ℕ). let c : Account = record { 0 = m } in c) n

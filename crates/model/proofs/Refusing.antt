@@ -92,14 +92,17 @@ open-refused o r h = go (firstRefusal (openRules o)) h
     go none h = impossible (cc)
     go (some q) h = refl
 
--- and that ledger refuses every message
+-- and that ledger refuses every message: acks with 4, all others with 5
 pub no-ledger-refuses : (m : Message) → (r : Refusal) × (step noLedger m ≡ replies (Refuse r) noLedger)
 unfolding rulesOf
-no-ledger-refuses (Request t) = (OutOfRange, refuses noLedger (Request t) OutOfRange (rw (leb·zero (t .account .0))))
-no-ledger-refuses (Circulated t) = (OutOfRange, refuses noLedger (Circulated t) OutOfRange (rw (leb·zero (t .account .0))))
-no-ledger-refuses (Ack s t) = (UnknownSeat, refuses noLedger (Ack s t) UnknownSeat (rw (leb·zero (s .0))))
-no-ledger-refuses (Decision t) = (OutOfRange, refuses noLedger (Decision t) OutOfRange (rw (leb·zero (t .account .0))))
-no-ledger-refuses (Inquiry a) = (OutOfRange, refuses noLedger (Inquiry a) OutOfRange (rw (leb·zero (a .0))))
+no-ledger-refuses m = (first m .0, refuses noLedger m (first m .0) (first m .1))
+  where
+    first : (m : Message) → (r : Refusal) × (firstRefusal (rulesOf noLedger m) ≡ some r)
+    first (Request t) = (OutOfRange, rw (leb·zero (t .account .0)))
+    first (Circulated t) = (OutOfRange, rw (leb·zero (t .account .0)))
+    first (Ack s t) = (UnknownSeat, rw (leb·zero (s .0)))
+    first (Decision t) = (OutOfRange, rw (leb·zero (t .account .0)))
+    first (Inquiry a) = (OutOfRange, rw (leb·zero (a .0)))
 
 -- a refused waiting list leaves the buffer as it was
 pub list-refused : (l : Ledger) (before after : List ℕ) (r : Refusal) → Lists l before (ListRefused r) after → after ≡ before

@@ -1,6 +1,6 @@
 -- What a fact of the table of known pages is, and when it holds of the definitions.
 use Prim.Native.Nat.{ℕ, _-_}
-use mathlib.Core.Bool.{Bool, true, false, not, _&&_, _||_}
+use mathlib.Core.Bool.{Bool, true, false, not, _&&_, _||_, Bool·beq}
 use mathlib.Core.List.{List, [], _∷_, _++_, map}
 use mathlib.Core.Option.{Option, none, some}
 use lib.Dec.{eqb}
@@ -14,7 +14,7 @@ use Rattle.model.specs.Refusals.{firstRefusal, listRules}
 use Rattle.model.specs.Openings.{openLedger}
 use Rattle.model.specs.Acks.{enough, hasMost}
 use Rattle.model.specs.Calls.{step}
-use Rattle.model.specs.Bundles.{bodySum, checkBundle, pageAt, messageOf, openingOf, Reading, taken, noMore, readNext}
+use Rattle.model.specs.Bundles.{bodySum, badCount, checkBundle, pageAt, messageOf, openingOf, Reading, taken, noMore, readNext}
 
 -- a slip: account, number, value, recipient
 abbrev pub slip : ℕ → ℕ → ℕ → ℕ → Transfer
@@ -78,6 +78,8 @@ pub data Row : Type 0 where
   sums : List ℕ → ℕ → Row
   -- a bundle, and the values of its check's answer
   checks : List ℕ → List ℕ → Row
+  -- m, and whether 13 refuses it
+  counts : ℕ → Bool → Row
   -- a bundle, an entry, and the message of its page
   shows : List ℕ → ℕ → Message → Row
   -- the body of an opening page, and what is on it
@@ -153,6 +155,7 @@ rowHolds (proposals n f balances before m may mayNot) =
 rowHolds (lists size said) = same (valuesOfList (listReply (firstRefusal (listRules (replicate size 0))))) said
 rowHolds (sums bytes s) = eqb (bodySum bytes) s
 rowHolds (checks bytes said) = same (valuesOfBundle (checkBundle bytes)) said
+rowHolds (counts m bad) = Bool·beq (badCount m) bad
 rowHolds (showsOpening body o) = same (numbersOfPage (openingOf body)) (numbersOfPage o)
 rowHolds (reads bytes place kinds next) = took (readNext bytes place) kinds next
 rowHolds (shows bytes i m) = same (numbersOf (messageOf (pageAt bytes i))) (numbersOf (some m))

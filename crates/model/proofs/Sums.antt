@@ -4,11 +4,11 @@ use native.Mathlib.Nat.{le-of-suc-le-suc, not-suc-le-zero}
 use native.Mathlib.Decide.{ℕ-discrete}
 use native.Mathlib.Omega.{arith}
 use mathlib.Core.Path.{_≡_, refl, ap}
-use mathlib.Core.Bool.{Bool, true, false, or-true}
+use mathlib.Core.Bool.{Bool, true, false, _&&_, or-true}
 use mathlib.Core.List.{List, [], _∷_}
 use mathlib.Core.Option.{none, some}
 use lib.ListN.{length, getD, set}
-use Rattle.model.specs.Basics.{sumOf, any, firstWhere}
+use Rattle.model.specs.Basics.{sumOf, any, every, firstWhere}
 
 module _ {A : Type 0} (f : A → ℕ) where
   -- one element is replaced: the sum changes by the difference of the two
@@ -48,6 +48,22 @@ pub any-holds : {A : Type 0} (p : A → Bool) (xs : List A) (d : A) (i : ℕ) �
 any-holds p [] d i h e = absurd (not-suc-le-zero h)
 any-holds p (x ∷ xs) d zero h e = rw e
 any-holds p (x ∷ xs) d (suc i) h e = rw (any-holds p xs d i (le-of-suc-le-suc h) e) (or-true (p x))
+
+-- both parts of a test that passes
+pub both : (a b : Bool) → (a && b) ≡ true → (a ≡ true) × (b ≡ true)
+both true b e = (refl, e)
+both false b e = impossible (cc)
+
+-- a test that all elements pass, and another that each passes which passes the first
+pub every-all : {A : Type 0} (p : A → Bool) (xs : List A) → ((x : A) → p x ≡ true) → every p xs ≡ true
+every-all p [] h = refl
+every-all p (x ∷ xs) h = rw (h x) (every-all p xs h)
+
+pub every-weaken : {A : Type 0} (p q : A → Bool) (xs : List A) → ((x : A) → p x ≡ true → q x ≡ true) → every p xs ≡ true → every q xs ≡ true
+every-weaken p q [] h e = refl
+every-weaken p q (x ∷ xs) h e =
+    let parts = both (p x) (every p xs) e in
+    rw (h x (parts .0)) (every-weaken p q xs h (parts .1))
 
 -- What a search that found j says: j passes the test, is one of the `left` numbers from i on, and is the lowest that passes.
 pub record Found (p : ℕ → Bool) (left i j : ℕ) : Type 0 where

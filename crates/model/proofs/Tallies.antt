@@ -11,8 +11,8 @@ use Rattle.model.specs.Types.{Transfer, Slot, Empty, Full, AckSlot}
 use Rattle.model.specs.Basics.{bit, every}
 use Rattle.model.specs.Transfers.{equal, conflict}
 use Rattle.model.specs.Acks.{holds, conflicts, acksFor, conflictsWithAny, twoConflict, noMoreThan, hasMost}
-use Rattle.model.proofs.Sums.{impossible, any-found, any-holds}
-use Rattle.model.proofs.Equality.{both, equal-sound}
+use Rattle.model.proofs.Sums.{impossible, both, every-all, any-found, any-holds}
+use Rattle.model.proofs.Equality.{equal-sound}
 
 -- no slip has more of the acks
 abbrev pub MostAcked : List AckSlot → Transfer → Type 0
@@ -49,18 +49,13 @@ most-sound acks t e v = go (each-place (acksFor t acks) acks acks v e)
     go (inl z) = omega arith
     go (inr h) = h
 
-every-place : (c : ℕ) (acks places : List AckSlot) → ((v : Transfer) → acksFor v acks ≤ c)
-    → every (λ a. noMoreThan c acks (a .slot)) places ≡ true
-every-place c acks [] h = refl
-every-place c acks (a ∷ rest) h = rw (here (a .slot)) (every-place c acks rest h)
-  where
-    here : (s : Slot) → noMoreThan c acks s ≡ true
-    here Empty = refl
-    here (Full u) = le-leb (acksFor u acks) c (h u)
-
 pub most-complete : (acks : List AckSlot) (t : Transfer) → MostAcked acks t → hasMost acks t ≡ true
 unfolding hasMost
-most-complete acks t h = every-place (acksFor t acks) acks acks h
+most-complete acks t h = every-all (λ a. noMoreThan (acksFor t acks) acks (a .slot)) acks (λ a. here (a .slot))
+  where
+    here : (s : Slot) → noMoreThan (acksFor t acks) acks s ≡ true
+    here Empty = refl
+    here (Full u) = le-leb (acksFor u acks) (acksFor t acks) (h u)
 
 -- the ack of a place
 abbrev ackAt : List AckSlot → ℕ → Slot

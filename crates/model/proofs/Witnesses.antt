@@ -19,8 +19,7 @@ use Rattle.model.specs.Openings.{openRules, openAnswer, openLedger}
 use Rattle.model.specs.Acks.{acksFor, noMoreThan, hasMost}
 use Rattle.model.specs.Settling.{isWaiting}
 use Rattle.model.specs.Calls.{step, Answers, WaitingAccounts, ListsUnlessRefused, Lists}
-use Rattle.model.proofs.Sums.{impossible}
-use Rattle.model.proofs.Equality.{both}
+use Rattle.model.proofs.Sums.{impossible, every-weaken}
 use Rattle.model.proofs.Settles.{Bounded}
 use Rattle.model.proofs.Refusing.{none-holds}
 
@@ -29,10 +28,8 @@ abbrev AtMost : ℕ → List AckSlot → List AckSlot → Type 0
 AtMost c acks places = every (λ a. noMoreThan c acks (a .slot)) places ≡ true
 
 at-most-more : (c d : ℕ) → c ≤ d → (acks places : List AckSlot) → AtMost c acks places → AtMost d acks places
-at-most-more c d le acks [] e = refl
-at-most-more c d le acks (a ∷ rest) e =
-    let parts = both (noMoreThan c acks (a .slot)) (every (λ b. noMoreThan c acks (b .slot)) rest) e in
-    rw (here (a .slot) (parts .0)) (at-most-more c d le acks rest (parts .1))
+at-most-more c d le acks places =
+    every-weaken (λ a. noMoreThan c acks (a .slot)) (λ a. noMoreThan d acks (a .slot)) places (λ a. here (a .slot))
   where
     here : (s : Slot) → noMoreThan c acks s ≡ true → noMoreThan d acks s ≡ true
     here Empty e = refl

@@ -62,11 +62,14 @@ pageOf bytes c = record { kind = c .kind; seat = c .seat; body = take (bodyLengt
 abbrev pub pageAt : List ℕ → ℕ → Page
 pageAt bytes i = pageOf bytes (contentsAt bytes i)
 
+-- m outside 1 to 1,000
+abbrev pub badCount : ℕ → Bool
+badCount m = ltb m 1 || ltb 1_000 m
+
 -- 13: fewer than 2 bytes, m outside 1 to 1,000, or fewer than 2 + 8m bytes
 abbrev pub badHeader : List ℕ → Bool
 badHeader bytes =
-    ltb (length bytes) 2 || ltb (entryCount bytes) 1 || ltb 1_000 (entryCount bytes)
-    || ltb (length bytes) (2 + 8 * entryCount bytes)
+    ltb (length bytes) 2 || badCount (entryCount bytes) || ltb (length bytes) (2 + 8 * entryCount bytes)
 
 -- 14: kind above 5, kind 0 misplaced (entry 0 has kind 0 and no other entry has), seat (0 unless the kind is 3) or start wrong
 abbrev pub wrongEntry : ℕ → ℕ → ContentsEntry → Bool

@@ -1,0 +1,6 @@
+-- Demand 3 as a statement, in reading order. `Claims.Demand3` is the whole of it.
+pub mod Types
+pub mod Runs
+pub mod Premises
+pub mod Slates
+pub mod Claims

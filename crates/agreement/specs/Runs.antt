@@ -1,0 +1,158 @@
+-- Document 01, "A run, as demand 3 means it": calls, runs, the ledger of a seat at any place of a run, and what a call did.
+use Prim.Native.Nat.{ℕ, zero, suc, _+_, _<_, _≤_}
+use mathlib.Core.Path.{_≡_}
+use mathlib.Core.Logic.{_⊎_}
+use mathlib.Core.Bool.{Bool, true, false, cond, not, _&&_, _||_}
+use mathlib.Core.List.{List}
+use mathlib.Core.Option.{Option, none, some}
+use lib.Dec.{eqb, ltb}
+use lib.ListN.{length}
+use Rattle.agreement.specs.Types.{Seat, Transfer, Ledger, Opening, Message, Request, Circulated, Ack, Decision, Inquiry, Reply, Circulate, Acknowledge, Accept, Propose, Note, Balance, Refuse, Opened, ListReply}
+use Rattle.model.specs.Basics.{bit}
+use Rattle.model.specs.Records.{seatOf}
+use Rattle.model.specs.Openings.{openLedger}
+use Rattle.model.specs.Calls.{step, Answers, Lists}
+
+-- "Take any opening page that is not refused": a page has 32 balances.
+pub record Opens (o : Opening) : Type 0 where
+  pub full-page : length (o .balances) ≡ 32
+  pub not-refused : openLedger o .reply ≡ Opened
+
+-- how many of the numbers below n pass the test
+abbrev pub countBelow : (ℕ → Bool) → ℕ → ℕ
+countBelow p zero = 0
+countBelow p (suc n) = bit (p n) + countBelow p n
+
+-- "call any of its n seats bad, at most f of them"
+abbrev pub FewBad : Opening → (Seat → Bool) → Type 0
+FewBad o bad = countBelow (λ i. bad (seatOf i)) (o .seats) ≤ o .faults
+
+-- "The other seats are honest."
+abbrev pub honest : Opening → (Seat → Bool) → Seat → Bool
+honest o bad s = ltb (s .0) (o .seats) && not (bad s)
+
+-- A call with what it was answered: a message and its reply; or a waiting list: what the lent buffer held, the reply, and what the
+-- buffer held after it.
+pub data Call : Type 0 where
+  message : Message → Reply → Call
+  waitingList : List ℕ → ListReply → List ℕ → Call
+
+-- One call at one seat.
+pub record Event : Type 0 where
+  pub at : Seat
+  pub call : Call
+
+-- "A run is any list of calls": nothing yet, or a run and one more event after it.
+infixl 20 _▹_
+
+pub data Run : Type 0 where
+  start : Run
+  _▹_ : Run → Event → Run
+
+-- a place in a run: its end, or a place in the run before its last event. `Within (p ▹ e) r`: e is an event of r, and p is all that
+-- came before it
+abbrev pub Within : Run → Run → Type 0
+Within p start = p ≡ start
+Within p (r ▹ e) = (p ≡ r ▹ e) ⊎ Within p r
+
+-- some event of the run passes the test
+abbrev pub happened : (Event → Bool) → Run → Bool
+happened p start = false
+happened p (r ▹ e) = happened p r || p e
+
+-- each event passes the test, which is also told what came before it
+abbrev pub throughout : (Run → Event → Bool) → Run → Bool
+throughout p start = true
+throughout p (r ▹ e) = throughout p r && p r e
+
+-- "any list of calls at honest seats"
+abbrev pub atHonest : Opening → (Seat → Bool) → Run → Bool
+atHonest o bad run = throughout (λ before e. honest o bad (e .at)) run
+
+abbrev pub sameSeat : Seat → Seat → Bool
+sameSeat s z = eqb (s .0) (z .0)
+
+-- the ledger that a call leaves. A waiting list leaves it as it is
+abbrev pub nextLedger : Ledger → Call → Ledger
+nextLedger l (message m r) = step l m .next
+nextLedger l (waitingList before r after) = l
+
+-- "Each call gets the book that the call before it at that seat left, at first the opened one": the ledger of seat s after a run
+unfoldable pub ledgerAt : Opening → Seat → Run → Ledger
+ledgerAt o s start = openLedger o .ledger
+ledgerAt o s (r ▹ e) = cond (sameSeat (e .at) s) (nextLedger (ledgerAt o s r) (e .call)) (ledgerAt o s r)
+
+-- a call is answered as the definitions allow: any reply that they leave free is allowed
+abbrev pub Conforms : Ledger → Call → Type 0
+Conforms l (message m r) = Answers l m r
+Conforms l (waitingList before r after) = Lists l before r after
+
+-- every call is so answered, by the ledger that its seat has there
+abbrev pub Obeys : Opening → Run → Type 0
+Obeys o start = Unit {0}
+Obeys o (r ▹ e) = Obeys o r × Conforms (ledgerAt o (e .at) r) (e .call)
+
+-- "A call's arguments and reply tell what it did." Whether the reply has this letter
+abbrev pub isAcknowledge : Reply → Bool
+isAcknowledge Circulate = false
+isAcknowledge Acknowledge = true
+isAcknowledge (Accept c) = false
+isAcknowledge (Propose t) = false
+isAcknowledge Note = false
+isAcknowledge (Balance b) = false
+isAcknowledge (Refuse q) = false
+
+abbrev pub isAccept : Reply → Bool
+isAccept Circulate = false
+isAccept Acknowledge = false
+isAccept (Accept c) = true
+isAccept (Propose t) = false
+isAccept Note = false
+isAccept (Balance b) = false
+isAccept (Refuse q) = false
+
+-- "A slip answered A is acked by that seat."
+abbrev pub acked : Call → Option Transfer
+acked (message (Request t) r) = none
+acked (message (Circulated t) r) = cond (isAcknowledge r) (some t) none
+acked (message (Ack s t) r) = none
+acked (message (Decision t) r) = none
+acked (message (Inquiry a) r) = none
+acked (waitingList before r after) = none
+
+-- "An ack or ruling answered K accepts its slip at that seat."
+abbrev pub accepted : Call → Option Transfer
+accepted (message (Request t) r) = none
+accepted (message (Circulated t) r) = none
+accepted (message (Ack s t) r) = cond (isAccept r) (some t) none
+accepted (message (Decision t) r) = cond (isAccept r) (some t) none
+accepted (message (Inquiry a) r) = none
+accepted (waitingList before r after) = none
+
+-- "A reply P puts forward the slip that it carries."
+abbrev pub proposal : Reply → Option Transfer
+proposal Circulate = none
+proposal Acknowledge = none
+proposal (Accept c) = none
+proposal (Propose t) = some t
+proposal Note = none
+proposal (Balance b) = none
+proposal (Refuse q) = none
+
+abbrev pub proposed : Call → Option Transfer
+proposed (message m r) = proposal r
+proposed (waitingList before r after) = none
+
+-- the slip of a ruling, refused or not
+abbrev pub ruled : Call → Option Transfer
+ruled (message (Request t) r) = none
+ruled (message (Circulated t) r) = none
+ruled (message (Ack s t) r) = none
+ruled (message (Decision t) r) = some t
+ruled (message (Inquiry a) r) = none
+ruled (waitingList before r after) = none
+
+-- there is a slip, and it passes the test
+abbrev pub passes : (Transfer → Bool) → Option Transfer → Bool
+passes p none = false
+passes p (some t) = p t

@@ -44,7 +44,6 @@ pub record Event : Type 0 where
 
 -- "A run is any list of calls": nothing yet, or a run and one more event after it.
 infixl 20 _▹_
-
 pub data Run : Type 0 where
   start : Run
   _▹_ : Run → Event → Run

@@ -12,8 +12,8 @@ use lib.Dec.{eqb}
 use lib.Seq.{set-out}
 use borrow.Author.Tests.{eq-eqb, ne-eqb}
 use Rattle.model.specs.Types.{Account, Transfer, Empty, Full, Entry}
-use Rattle.model.specs.Basics.{bit}
-use Rattle.model.specs.Records.{noAcks, freshEntry, withBalance, entryAt, setEntry, sumBalances}
+use Rattle.model.specs.Basics.{bit, sumOf}
+use Rattle.model.specs.Records.{noAcks, freshEntry, withBalance, entryAt, setEntry, sumBalances, sumCurrents}
 use Rattle.model.specs.Settling.{isWaiting, waiting, credited, credit, debited, applySlot, apply}
 use Rattle.model.proofs.Sums.{sum-set, sum-set-same, sum-at-least}
 use Rattle.model.proofs.Access.{entry-set-same, entry-set-other}
@@ -86,6 +86,18 @@ cleared : (e e′ : Entry) (t : Transfer) → SameButBalance (debited e t) e′ 
 cleared e e′ t same =
     rw same (record { current-is = refl; not-acked = refl; no-acks = refl; not-proposed = refl; none-pending = refl })
 
+-- and stays so where nothing but the balance changes
+pub cleared-kept : (e e′ : Entry) (t : Transfer) → SameButBalance e e′ → Cleared t e → Cleared t e′
+cleared-kept e e′ t same clear =
+    rw same
+    (record {
+      current-is = clear .current-is;
+      not-acked = clear .not-acked;
+      no-acks = clear .no-acks;
+      not-proposed = clear .not-proposed;
+      none-pending = clear .none-pending;
+    })
+
 -- account a has a waiting slip that its balance covers
 pub record Affordable (es : List Entry) (a : Account) : Type 0 where
   pub transfer : Transfer
@@ -127,15 +139,26 @@ module _ (es : List Entry) (a : Account) (at : Affordable es a) where
   unfolding taken
   apply-length = rw apply-is (simp length-set)
 
+  -- the sum of a number of each entry, if no balance counts in it: only the payer's part of it changes
+  pub apply-sum-of : (f : Entry → ℕ) → ((e : Entry) (b : ℕ) → f (withBalance e b) ≡ f e)
+      → sumOf f (apply es a) + f (entryAt es a) ≡ sumOf f es + f (debited (entryAt es a) (at .transfer))
+  unfolding taken paid t
+  apply-sum-of f ignores =
+      let paying = sum-set f es (a .0) paid (freshEntry 0) (at .inside) in
+      let received = entryAt taken (t .recipient) in
+      let more = (received .balance + t .value) % 4_294_967_296 in
+      let same = sum-set-same f taken (t .recipient .0) (withBalance received more) (freshEntry 0) (ignores received more) in
+      rw apply-is (omega arith)
+
   -- one fewer slip waits
   pub apply-waiting : waiting es ≡ suc (waiting (apply es a))
-  unfolding taken paid
   apply-waiting =
       let waited : bit (isWaiting (entryAt es a)) ≡ 1 = rw (at .waits) in
-      let fewer = sum-set (λ e. bit (isWaiting e)) es (a .0) paid (freshEntry 0) (at .inside) in
-      let received = credited (entryAt taken (t .recipient)) (t .value) in
-      let same = sum-set-same (λ e. bit (isWaiting e)) taken (t .recipient .0) received (freshEntry 0) refl in
-      rw apply-is (omega arith)
+      omega (arith, apply-sum-of (λ e. bit (isWaiting e)) (λ e b. refl))
+
+  -- the sum of current numbers rises by one, if the slip's number is the next
+  pub apply-currents : at .transfer .number ≡ entryAt es a .current + 1 → sumCurrents (apply es a) ≡ suc (sumCurrents es)
+  apply-currents next = omega (arith, apply-sum-of (λ e. e .current) (λ e b. refl))
 
   -- the payer's debit lowers the sum by the value
   debit-sum : sumBalances taken + t .value ≡ sumBalances es

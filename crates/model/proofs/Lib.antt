@@ -8,5 +8,6 @@ pub mod Tallies
 pub mod Booking
 pub mod Settles
 pub mod Refusing
+pub mod Steps
 pub mod Listing
 pub mod Witnesses

@@ -9,11 +9,11 @@ use mathlib.Core.Option.{Option, none, some, Option·map}
 use lib.ListN.{length}
 use borrow.Author.Tests.{leb-true}
 use Rattle.model.specs.Types.{Account, Transfer, Slot, Empty, Full, Entry, Settled}
-use Rattle.model.specs.Records.{accountOf, entryAt, sumBalances}
+use Rattle.model.specs.Records.{accountOf, entryAt, sumBalances, sumCurrents}
 use Rattle.model.specs.Basics.{firstWhere}
 use Rattle.model.specs.Settling.{affordable, lowestAffordable, waiting, apply, oneMore, settleAtMost, settle}
 use Rattle.model.proofs.Sums.{Found, first-found, impossible}
-use Rattle.model.proofs.Booking.{Affordable, apply-waiting, apply-sum, apply-length, apply-clears, apply-others}
+use Rattle.model.proofs.Booking.{SameButBalance, Cleared, cleared-kept, Affordable, apply-waiting, apply-currents, apply-sum, apply-length, apply-clears, apply-others}
 
 -- the search for the lowest affordable account finds one that is affordable, and none below it is
 pub record Lowest (es : List Entry) (a : Account) : Type 0 where
@@ -145,3 +145,58 @@ settle-sum =
     let once = apply-bounded es a (at .affords-it) b in
     let kept = rest (once .1) in
     (kept .0 ∙ once .0, kept .1))
+
+-- What settling made of an entry: nothing but its balance changed, or the slip that waited in it was booked.
+pub data Turned (e e′ : Entry) : Type 0 where
+  kept : SameButBalance e e′ → Turned e e′
+  booked : (t : Transfer) → e .pending ≡ Full t → Cleared t e′ → Turned e e′
+
+-- and so for every account
+pub settle-entry : (b : Account) (es : List Entry) → Turned (entryAt es b) (entryAt (settle es .entries) b)
+settle-entry b =
+    settle-induction (λ es s. Turned (entryAt es b) (entryAt (s .entries) b)) (λ es e. kept refl)
+    (λ es a at rest. go es a at rest (ℕ-discrete (b .0) (a .0)))
+  where
+    go : (es : List Entry) (a : Account) → Lowest es a
+        → Turned (entryAt (apply es a) b) (entryAt (settle (apply es a) .entries) b)
+        → Dec (b .0 ≡ a .0) → Turned (entryAt es b) (entryAt (settle (apply es a) .entries) b)
+    go es a at rest (yes same) =
+        let clear : Cleared (at .affords-it .transfer) (entryAt (apply es a) b) = rw same (apply-clears es a (at .affords-it)) in
+        after rest clear
+      where
+        after : Turned (entryAt (apply es a) b) (entryAt (settle (apply es a) .entries) b)
+            → Cleared (at .affords-it .transfer) (entryAt (apply es a) b)
+            → Turned (entryAt es b) (entryAt (settle (apply es a) .entries) b)
+        after (kept more) clear = booked (at .affords-it .transfer) (rw same (at .affords-it .waits)) (cleared-kept _ _ _ more clear)
+        after (booked t waits done) clear = impossible (cc (waits, clear .none-pending))
+    go es a at rest (no other) = after rest (apply-others es a (at .affords-it) b other)
+      where
+        after : Turned (entryAt (apply es a) b) (entryAt (settle (apply es a) .entries) b)
+            → SameButBalance (entryAt es b) (entryAt (apply es a) b)
+            → Turned (entryAt es b) (entryAt (settle (apply es a) .entries) b)
+        after (kept more) first = kept (rw (more, first))
+        after (booked t waits done) first = booked t (ap (λ (e : Entry). e .pending) (sym first) ∙ waits) done
+
+-- each waiting slip has its account's next number
+abbrev pub NextWaits : List Entry → Type 0
+NextWaits es = (a : Account) (t : Transfer) → entryAt es a .pending ≡ Full t → t .number ≡ entryAt es a .current + 1
+
+apply-next : (es : List Entry) (a : Account) → Affordable es a → NextWaits es → NextWaits (apply es a)
+apply-next es a at next b t h = go (ℕ-discrete (b .0) (a .0))
+  where
+    go : Dec (b .0 ≡ a .0) → t .number ≡ entryAt (apply es a) b .current + 1
+    go (yes same) = impossible (cc (rw same at h, apply-clears es a at .none-pending))
+    go (no other) =
+        let kept = apply-others es a at b other in
+        let waited = next b t (ap (λ (e : Entry). e .pending) (sym kept) ∙ h) in
+        waited ∙ ap (λ (e : Entry). e .current + 1) (sym kept)
+
+-- then the count that settling gives is the rise in the sum of current numbers
+pub settle-currents : (es : List Entry) → NextWaits es → sumCurrents (settle es .entries) ≡ sumCurrents es + settle es .applied
+settle-currents =
+    settle-induction
+    (λ es s. NextWaits es → sumCurrents (s .entries) ≡ sumCurrents es + s .applied)
+    (λ es e next. omega arith)
+    (λ es a at rest next.
+    let one = apply-currents es a (at .affords-it) (next a (at .affords-it .transfer) (at .affords-it .waits)) in
+    omega (arith, rest (apply-next es a (at .affords-it) next)))

@@ -70,6 +70,10 @@ setEntry es a e = set es (a .0) e
 abbrev pub sumBalances : List Entry → ℕ
 sumBalances es = sumOf (λ e. e .balance) es
 
+-- "the sum of all current numbers"
+abbrev pub sumCurrents : List Entry → ℕ
+sumCurrents es = sumOf (λ e. e .current) es
+
 -- a ledger just opened from a page
 abbrev pub freshLedger : Opening → Ledger
 freshLedger o =

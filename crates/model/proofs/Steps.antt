@@ -1,0 +1,143 @@
+-- What a call does, as one case per outcome with its evidence, for every ledger and message. Proofs about runs use `happens` and the
+-- laws after it in place of the definitions' text.
+use Prim.Native.Nat.{ℕ, _+_, _≤_, _<_}
+use native.Mathlib.Omega.{arith}
+use mathlib.Core.Path.{_≡_, refl, ap, sym, _∙_}
+use mathlib.Core.Bool.{Bool, true, false, cond, _||_}
+use mathlib.Core.List.{List}
+use mathlib.Core.Option.{Option, none, some}
+use lib.Dec.{eqb, ltb}
+use borrow.Author.Tests.{leb-false, ltb-false}
+use Rattle.model.specs.Types.{Seat, Account, Transfer, Slot, Empty, Full, Entry, Ledger, Settled, Refusal, Message, Request, Circulated, Ack, Decision, Inquiry, Reply, Circulate, Acknowledge, Accept, Propose, Note, Balance, Refuse}
+use Rattle.model.specs.Records.{entryOf, withEntry, withEntries, withAcked, withProposed}
+use Rattle.model.specs.Replies.{Allows}
+use Rattle.model.specs.Refusals.{firstRefusal, waitsAlready, ackFrom, transferRules, rulesOf, outOfRange, unknownAccount}
+use Rattle.model.specs.Acks.{holds, conflicts, acksFor, enough, hasMost}
+use Rattle.model.specs.Settling.{accept}
+use Rattle.model.specs.Calls.{unlessRefused, replies, accepted, mustPropose, entryWithAck, tallied, effect, step, Answers}
+use Rattle.model.proofs.Sums.{impossible}
+use Rattle.model.proofs.Refusing.{AllFail, none-holds, next-number}
+
+-- what a slip is that 5 to 8 do not refuse
+pub record Eligible (l : Ledger) (t : Transfer) : Type 0 where
+  pub account-known : t .account .0 < l .accounts
+  pub recipient-known : t .recipient .0 < l .accounts
+  pub is-next : t .number ≡ entryOf l (t .account) .current + 1
+  pub not-waiting : waitsAlready (entryOf l (t .account) .pending) t ≡ false
+
+neither : (a b : Bool) → (a || b) ≡ false → (a ≡ false) × (b ≡ false)
+neither true b e = impossible (cc)
+neither false b e = (refl, e)
+
+eligible : (l : Ledger) (t : Transfer)
+    → outOfRange l t ≡ false
+    → t .number ≡ entryOf l (t .account) .current + 1
+    → waitsAlready (entryOf l (t .account) .pending) t ≡ false
+    → Eligible l t
+eligible l t range next idle =
+    let number = eqb (t .number) 0 in
+    let value = eqb (t .value) 0 in
+    let accounts = unknownAccount l (t .account) || unknownAccount l (t .recipient) in
+    let four = neither (accounts || number || value) (ltb (l .total) (t .value)) range in
+    let three = neither (accounts || number) value (four .0) in
+    let known = neither (unknownAccount l (t .account)) (unknownAccount l (t .recipient)) (neither accounts number (three .0) .0) in
+    record {
+      account-known = omega (arith, leb-false (l .accounts) (t .account .0) (known .0));
+      recipient-known = omega (arith, leb-false (l .accounts) (t .recipient .0) (known .1));
+      is-next = next;
+      not-waiting = idle;
+    }
+
+-- an ack that 4, 9 and 10 do not refuse: its seat is one of the n, and the place of its ack holds no slip that is equal or conflicts
+pub record Recordable (l : Ledger) (s : Seat) (t : Transfer) : Type 0 where
+  pub seat-known : s .0 < l .seats
+  pub not-equal : holds t (ackFrom (entryOf l (t .account)) s) ≡ false
+  pub not-conflicting : conflicts t (ackFrom (entryOf l (t .account)) s) ≡ false
+
+-- the account's entry and what was accepted in it
+abbrev acceptedIn : Ledger → Entry → Transfer → Settled
+acceptedIn l e t = accept (l .entries) e t
+
+-- What happened: the message, the reply, the ledger after it, and why.
+pub data Happens (l : Ledger) (m : Message) (r : Reply) (next : Ledger) : Type 0 where
+  refused : (q : Refusal) → r ≡ Refuse q → next ≡ l → Happens l m r next
+  circulated : (t : Transfer) → m ≡ Request t → r ≡ Circulate → next ≡ l → Happens l m r next
+  acknowledged : (t : Transfer)
+      → m ≡ Circulated t → r ≡ Acknowledge → Eligible l t → entryOf l (t .account) .acked ≡ false
+      → next ≡ withEntry l (t .account) (withAcked (entryOf l (t .account)))
+      → Happens l m r next
+  accepted-by-acks : (s : Seat) (t : Transfer)
+      → m ≡ Ack s t → r ≡ Accept (acceptedIn l (entryWithAck l s t) t .applied) → Eligible l t → Recordable l s t
+      → enough (l .seats) (l .faults) (acksFor t (entryWithAck l s t .acks)) ≡ true
+      → next ≡ withEntries l (acceptedIn l (entryWithAck l s t) t .entries)
+      → Happens l m r next
+  proposed : (s : Seat) (t u : Transfer)
+      → m ≡ Ack s t → r ≡ Propose u → Eligible l t → Recordable l s t
+      → enough (l .seats) (l .faults) (acksFor t (entryWithAck l s t .acks)) ≡ false
+      → mustPropose l (entryWithAck l s t) ≡ true
+      → hasMost (entryWithAck l s t .acks) u ≡ true
+      → next ≡ withEntry l (t .account) (withProposed (entryWithAck l s t))
+      → Happens l m r next
+  noted : (s : Seat) (t : Transfer)
+      → m ≡ Ack s t → r ≡ Note → Eligible l t → Recordable l s t
+      → enough (l .seats) (l .faults) (acksFor t (entryWithAck l s t .acks)) ≡ false
+      → next ≡ withEntry l (t .account) (entryWithAck l s t)
+      → Happens l m r next
+  accepted-by-ruling : (t : Transfer)
+      → m ≡ Decision t → r ≡ Accept (acceptedIn l (entryOf l (t .account)) t .applied) → Eligible l t
+      → next ≡ withEntries l (acceptedIn l (entryOf l (t .account)) t .entries)
+      → Happens l m r next
+  told : (a : Account) → m ≡ Inquiry a → r ≡ Balance (entryOf l a .balance) → next ≡ l → Happens l m r next
+
+-- what the tally makes of a recorded ack
+tally-happens : (l : Ledger) (s : Seat) (t : Transfer) (r : Reply) → Eligible l t → Recordable l s t
+    → Allows (tallied l (entryWithAck l s t) t .choice) r → Happens l (Ack s t) r (tallied l (entryWithAck l s t) t .next)
+tally-happens l s t r ok new h =
+    go
+    (enough (l .seats) (l .faults) (acksFor t (e .acks))) refl
+    (mustPropose l e) refl
+    h
+  where
+    e : Entry
+    e = entryWithAck l s t
+
+    go : (full : Bool) → enough (l .seats) (l .faults) (acksFor t (e .acks)) ≡ full
+        → (split : Bool) → mustPropose l e ≡ split
+        → Allows (tallied l e t .choice) r → Happens l (Ack s t) r (tallied l e t .next)
+    go true full split must h = accepted-by-acks s t refl (rw full at h) ok new full (rw full)
+    go false full true must h =
+        let free = rw (full, must) at h in
+        proposed s t (free .0) refl (free .1) ok new full must (free .2) (rw (full, must))
+    go false full false must h = noted s t refl (rw (full, must) at h) ok new full (rw (full, must))
+
+-- what a message does that no rule refuses
+effect-happens : (l : Ledger) (m : Message) (r : Reply) → AllFail (rulesOf l m) → Allows (effect l m .choice) r
+    → Happens l m r (effect l m .next)
+unfolding effect rulesOf
+effect-happens l (Request t) r fail h = circulated t refl h refl
+effect-happens l (Circulated t) r fail h =
+    let next = next-number (entryOf l (t .account)) t (fail .1 .0) (fail .1 .1 .0) in
+    acknowledged t refl h (eligible l t (fail .0) next (fail .1 .1 .1 .0)) (fail .1 .1 .1 .1 .0) refl
+effect-happens l (Ack s t) r fail h =
+    let next = next-number (entryOf l (t .account)) t (fail .1 .1 .0) (fail .1 .1 .1 .0) in
+    let new : Recordable l s t =
+    record {
+      seat-known = omega (arith, leb-false (l .seats) (s .0) (fail .0));
+      not-equal = fail .1 .1 .1 .1 .1 .0;
+      not-conflicting = fail .1 .1 .1 .1 .1 .1 .0;
+    } in
+    tally-happens l s t r (eligible l t (fail .1 .0) next (fail .1 .1 .1 .1 .0)) new h
+effect-happens l (Decision t) r fail h =
+    let next = next-number (entryOf l (t .account)) t (fail .1 .0) (fail .1 .1 .0) in
+    accepted-by-ruling t refl h (eligible l t (fail .0) next (fail .1 .1 .1 .0)) refl
+effect-happens l (Inquiry a) r fail h = told a refl h refl
+
+-- every message that is answered, whatever the ledger
+pub happens : (l : Ledger) (m : Message) (r : Reply) → Answers l m r → Happens l m r (step l m .next)
+unfolding step
+happens l m r h = go (firstRefusal (rulesOf l m)) refl h
+  where
+    go : (o : Option Refusal) → firstRefusal (rulesOf l m) ≡ o → Allows (unlessRefused o l (effect l m) .choice) r
+        → Happens l m r (unlessRefused o l (effect l m) .next)
+    go none e h = effect-happens l m r (none-holds (rulesOf l m) e) h
+    go (some q) e h = refused q h refl

@@ -1,7 +1,6 @@
 -- Document 01, "A run, as demand 3 means it": calls, runs, the ledger of a seat at any place of a run, and what a call did.
 use Prim.Native.Nat.{ℕ, zero, suc, _+_, _<_, _≤_}
 use mathlib.Core.Path.{_≡_}
-use mathlib.Core.Logic.{_⊎_}
 use mathlib.Core.Bool.{Bool, true, false, cond, not, _&&_, _||_}
 use mathlib.Core.List.{List}
 use mathlib.Core.Option.{Option, none, some}
@@ -48,11 +47,11 @@ pub data Run : Type 0 where
   start : Run
   _▹_ : Run → Event → Run
 
--- a place in a run: its end, or a place in the run before its last event. `Within (p ▹ e) r`: e is an event of r, and p is all that
--- came before it
-abbrev pub Within : Run → Run → Type 0
-Within p start = p ≡ start
-Within p (r ▹ e) = (p ≡ r ▹ e) ⊎ Within p r
+-- A place in a run: its end, or a place in the run before its last event. `Within (p ▹ e) r`: e is an event of r, and p is all that
+-- came before it.
+pub data Within : Run → Run → Type 0 where
+  at-end : {r : Run} → Within r r
+  sooner : {p r : Run} {e : Event} → Within p r → Within p (r ▹ e)
 
 -- some event of the run passes the test
 abbrev pub happened : (Event → Bool) → Run → Bool

@@ -1,0 +1,117 @@
+-- Places in a run: how they are ordered, and what the tests over a run say at each of them.
+use mathlib.Core.Path.{_≡_, refl, ap, sym, _∙_}
+use mathlib.Core.Logic.{_⊎_, inl, inr}
+use mathlib.Core.Bool.{Bool, true, false, cond, _&&_, _||_, or-true}
+use borrow.Author.Tests.{eq-eqb, ne-eqb, eqb-true}
+use native.Mathlib.Decide.{ℕ-discrete}
+use Prim.Native.Nat.{ℕ}
+use mathlib.Core.List.{List}
+use Rattle.agreement.specs.Types.{Seat, Ledger, Opening, Message, Reply, ListReply}
+use Rattle.agreement.specs.Runs.{Call, message, waitingList, Event, Run, start, _▹_, Within, at-end, sooner, happened, throughout, sameSeat, nextLedger, ledgerAt, Conforms, Obeys}
+use Rattle.model.specs.Calls.{step, Answers}
+use Rattle.model.specs.Openings.{openLedger}
+use Rattle.model.proofs.Sums.{impossible, both}
+
+pub the-start : (r : Run) → Within start r
+the-start start = at-end
+the-start (r ▹ e) = sooner (the-start r)
+
+-- a place in what came before a place
+pub within-trans : {p q r : Run} → Within p q → Within q r → Within p r
+within-trans w at-end = w
+within-trans w (sooner v) = sooner (within-trans w v)
+
+-- what came before an event is a place
+pub before : {p r : Run} {e : Event} → Within (p ▹ e) r → Within p r
+before w = within-trans (sooner at-end) w
+
+-- nothing happened at the start
+pub nothing-yet : {A : Type 0} {p : Run} {e : Event} → Within (p ▹ e) start → A
+nothing-yet w = go w refl
+  where
+    go : {A : Type 0} {p r : Run} {e : Event} → Within (p ▹ e) r → r ≡ start → A
+    go at-end same = impossible (cc)
+    go (sooner w) same = impossible (cc)
+
+-- an event of a run with one more event is that one, or was there before
+pub last-or-sooner : {p r : Run} {e d : Event} → Within (p ▹ e) (r ▹ d) → ((p ≡ r) × (e ≡ d)) ⊎ Within (p ▹ e) r
+last-or-sooner w = go w refl
+  where
+    go : {p r q : Run} {e d : Event} → Within (p ▹ e) q → q ≡ r ▹ d → ((p ≡ r) × (e ≡ d)) ⊎ Within (p ▹ e) r
+    go at-end same = inl (cc, cc)
+    go {p} {r} {e} (sooner {r = x} w) same = let first : x ≡ r = cc in inr (rw first at w)
+
+-- two events of a run are one, or one came before the other
+pub data Order (p q : Run) (e d : Event) : Type 0 where
+  same-event : p ≡ q → e ≡ d → Order p q e d
+  earlier : Within (p ▹ e) q → Order p q e d
+  later : Within (q ▹ d) p → Order p q e d
+
+pub order : {p q : Run} {e d : Event} (r : Run) → Within (p ▹ e) r → Within (q ▹ d) r → Order p q e d
+order start w v = nothing-yet w
+order (r ▹ c) w v = go (last-or-sooner w) (last-or-sooner v) (order r)
+  where
+    go : {p q : Run} {e d : Event} → ((p ≡ r) × (e ≡ c)) ⊎ Within (p ▹ e) r → ((q ≡ r) × (d ≡ c)) ⊎ Within (q ▹ d) r
+        → (Within (p ▹ e) r → Within (q ▹ d) r → Order p q e d) → Order p q e d
+    go (inl w) (inl v) rest = same-event (cc (w .0, v .0)) (cc (w .1, v .1))
+    go (inl w) (inr v) rest = later (rw (sym (w .0)) at v)
+    go (inr w) (inl v) rest = earlier (rw (sym (v .0)) at w)
+    go (inr w) (inr v) rest = rest w v
+
+-- a test that some event passes: such an event
+pub happened-found : (test : Event → Bool) (r : Run) → happened test r ≡ true
+    → (p : Run) × (e : Event) × Within (p ▹ e) r × (test e ≡ true)
+happened-found test start h = impossible (cc)
+happened-found test (r ▹ e) h = go (happened test r) refl (happened-found test r)
+  where
+    go : (b : Bool) → happened test r ≡ b
+        → (happened test r ≡ true → (p : Run) × (d : Event) × Within (p ▹ d) r × (test d ≡ true))
+        → (p : Run) × (d : Event) × Within (p ▹ d) (r ▹ e) × (test d ≡ true)
+    go true yet rest = let found = rest yet in (found .0, found .1, sooner (found .2), found .3)
+    go false yet rest = (r, e, at-end, rw yet at h)
+
+-- and if an event passes it, some does
+pub happened-holds : (test : Event → Bool) {p r : Run} {e : Event} → Within (p ▹ e) r → test e ≡ true → happened test r ≡ true
+happened-holds test {p} at-end h = rw h (or-true (happened test p))
+happened-holds test (sooner w) h = rw (happened-holds test w h)
+
+-- a test that each event passes
+pub throughout-at : (test : Run → Event → Bool) {p r : Run} {e : Event} → throughout test r ≡ true → Within (p ▹ e) r → test p e ≡ true
+throughout-at test {p} {e = e} h at-end = both (throughout test p) (test p e) h .1
+throughout-at test h (sooner {r = r} {e = d} w) = throughout-at test (both (throughout test r) (test r d) h .0) w
+
+-- a run that obeys does so at each place
+pub obeys-before : (o : Opening) {p r : Run} → Obeys o r → Within p r → Obeys o p
+obeys-before o ok at-end = ok
+obeys-before o ok (sooner w) = obeys-before o (ok .0) w
+
+pub obeys-at : (o : Opening) {p r : Run} {e : Event} → Obeys o r → Within (p ▹ e) r → Conforms (ledgerAt o (e .at) p) (e .call)
+obeys-at o ok w = obeys-before o ok w .1
+
+-- To show P of a seat's ledger at every place of a run that obeys, show it of the opened ledger, and that it stays: at an event
+-- elsewhere, at a waiting list, and at a message.
+module _ (o : Opening) (s : Seat) (P : Run → Ledger → Type 0)
+    (opened : P start (openLedger o .ledger))
+    (elsewhere : (r : Run) (e : Event) (l : Ledger) → sameSeat (e .at) s ≡ false → P r l → P (r ▹ e) l)
+    (listed : (r : Run) (b a : List ℕ) (q : ListReply) (l : Ledger) → P r l → P (r ▹ record { at = s; call = waitingList b q a }) l)
+    (answered : (r : Run) (m : Message) (q : Reply) (l : Ledger)
+    → l ≡ ledgerAt o s r → Obeys o r → Answers l m q → P r l → P (r ▹ record { at = s; call = message m q }) (step l m .next))
+  where
+    at-seat : (r : Run) (e : Event) (c : Call) → e .call ≡ c → e .at ≡ s → Obeys o r → Conforms (ledgerAt o s r) c
+        → P r (ledgerAt o s r) → P (r ▹ record { at = s; call = c }) (nextLedger (ledgerAt o s r) c)
+    at-seat r e (message m q) same at obeys ok yet = answered r m q (ledgerAt o s r) refl obeys ok yet
+    at-seat r e (waitingList b q a) same at obeys ok yet = listed r b a q (ledgerAt o s r) yet
+
+    pub ledger-induction : (r : Run) → Obeys o r → P r (ledgerAt o s r)
+    unfolding ledgerAt
+    ledger-induction start ok = opened
+    ledger-induction (r ▹ e) ok = go (sameSeat (e .at) s) refl (ledger-induction r (ok .0))
+      where
+        go : (b : Bool) → sameSeat (e .at) s ≡ b → P r (ledgerAt o s r)
+            → P (r ▹ e) (cond b (nextLedger (ledgerAt o s r) (e .call)) (ledgerAt o s r))
+        go true here yet =
+            let seat : e .at ≡ s = ap (λ (n : ℕ). let z : Seat = record { 0 = n } in z) (eqb-true (e .at .0) (s .0) here) in
+            let this : (record { at = s; call = e .call }) ≡ e = λ i. record { at = sym seat i; call = e .call } in
+            rw (← this)
+            (at-seat r e (e .call) refl seat (ok .0) (rw seat at (ok .1)) yet)
+        go false there yet = elsewhere r e (ledgerAt o s r) there yet

@@ -1,2 +1,3 @@
 -- Demand 3, proved.
 pub mod Places
+pub mod Reachable

@@ -1,13 +1,15 @@
 -- Getter and setter laws of an account's entry, of the list of entries and of the ledger.
 use Prim.Native.Nat.{ℕ, _<_}
-use mathlib.Core.Path.{_≡_, refl}
+use native.Mathlib.Decide.{ℕ-discrete, decLt}
+use native.Mathlib.Omega.{arith}
+use mathlib.Core.Path.{_≡_, refl, ap}
 use mathlib.Core.Logic.{_≢_}
 use mathlib.Core.Bool.{Bool, true, false}
 use mathlib.Core.List.{List}
 use lib.ListN.{length, set, length-set}
-use lib.Seq.{getD-set-same, getD-set-other, set-getD, set-set}
+use lib.Seq.{getD-set-same, getD-set-other, set-getD, set-set, set-out}
 use Rattle.model.specs.Types.{Seat, Account, Transfer, Slot, Empty, Full, AckSlot, Entry, Ledger}
-use Rattle.model.specs.Records.{noAcks, noLedger, freshEntry, withBalance, withAcked, withAck, withProposed, withPending, withBooked, entryAt, setEntry, withEntries, entryOf, withEntry}
+use Rattle.model.specs.Records.{accountOf, noAcks, noLedger, freshEntry, withBalance, withAcked, withAck, withProposed, withPending, withBooked, entryAt, setEntry, withEntries, entryOf, withEntry}
 
 -- an entry's fields, all of them
 pub record Fields (e : Entry) (balance current : ℕ) (acked : Bool) (acks : List AckSlot) (proposed : Bool) (pending : Slot) : Type 0 where
@@ -76,6 +78,20 @@ module _ (es : List Entry) (a : Account) where
 
   pub set-entry-length : (e : Entry) → length (setEntry es a e) ≡ length es
   set-entry-length e = length-set es (a .0) e
+
+-- accounts with one number are one account
+pub same-account : (a b : Account) → a .0 ≡ b .0 → a ≡ b
+same-account a b same = ap accountOf same
+
+-- what holds of each account's entry, and of the one that is stored, holds of each after the store
+pub set-each : (I : Account → Entry → Type 0) (es : List Entry) (a : Account) (e : Entry)
+    → I a e → ((b : Account) → I b (entryAt es b)) → (b : Account) → I b (entryAt (setEntry es a e) b)
+set-each I es a e new old b = go (ℕ-discrete (b .0) (a .0)) (decLt (a .0) (length es))
+  where
+    go : Dec (b .0 ≡ a .0) → Dec (a .0 < length es) → I b (entryAt (setEntry es a e) b)
+    go (no other) d = rw (entry-set-other es a e b other) (old b)
+    go (yes same) (yes inside) = rw (same-account b a same, entry-set-same es a e inside) new
+    go (yes same) (no outside) = rw (set-out es (a .0) e (omega arith)) (old b)
 
 -- a ledger with other entries is the same ledger otherwise
 pub record SameGroup (l m : Ledger) : Type 0 where

@@ -177,6 +177,17 @@ settle-entry b =
         after (kept more) first = kept (rw (more, first))
         after (booked t waits done) first = booked t (ap (λ (e : Entry). e .pending) (sym first) ∙ waits) done
 
+-- what holds of each account's entry, and stays where the balance changes and where a slip is booked, holds of each after settling
+pub settle-each : (I : Account → Entry → Type 0)
+    → ((a : Account) (e e′ : Entry) → SameButBalance e e′ → I a e → I a e′)
+    → ((a : Account) (e e′ : Entry) (t : Transfer) → e .pending ≡ Full t → Cleared t e′ → I a e → I a e′)
+    → (es : List Entry) → ((a : Account) → I a (entryAt es a)) → (a : Account) → I a (entryAt (settle es .entries) a)
+settle-each I on-balance on-booked es each a = go (settle-entry a es)
+  where
+    go : Turned (entryAt es a) (entryAt (settle es .entries) a) → I a (entryAt (settle es .entries) a)
+    go (kept same) = on-balance a (entryAt es a) _ same (each a)
+    go (booked t waits clear) = on-booked a (entryAt es a) _ t waits clear (each a)
+
 -- each waiting slip has its account's next number
 abbrev pub NextWaits : List Entry → Type 0
 NextWaits es = (a : Account) (t : Transfer) → entryAt es a .pending ≡ Full t → t .number ≡ entryAt es a .current + 1

@@ -15,7 +15,7 @@ use Rattle.model.specs.Refusals.{firstRefusal, waitsAlready, ackFrom, tr
 use Rattle.model.specs.Acks.{holds, conflicts, acksFor, enough, hasMost}
 use Rattle.model.specs.Settling.{accept}
 use Rattle.model.specs.Calls.{unlessRefused, replies, accepted, mustPropose, entryWithAck, tallied, effect, step, Answers}
-use Rattle.model.proofs.Sums.{impossible}
+use Rattle.model.proofs.Sums.{impossible, neither}
 use Rattle.model.proofs.Refusing.{AllFail, none-holds, next-number}
 
 -- what a slip is that 5 to 8 do not refuse
@@ -24,10 +24,6 @@ pub record Eligible (l : Ledger) (t : Transfer) : Type 0 where
   pub recipient-known : t .recipient .0 < l .accounts
   pub is-next : t .number ≡ entryOf l (t .account) .current + 1
   pub not-waiting : waitsAlready (entryOf l (t .account) .pending) t ≡ false
-
-neither : (a b : Bool) → (a || b) ≡ false → (a ≡ false) × (b ≡ false)
-neither true b e = impossible (cc)
-neither false b e = (refl, e)
 
 eligible : (l : Ledger) (t : Transfer)
     → outOfRange l t ≡ false

@@ -107,7 +107,8 @@ some-list l before = go (firstRefusal (listRules before))
         (Listed (length accounts), accounts ++ drop (length accounts) before, (accounts, listed, refl, refl))
     go (some r) = (ListRefused r, before, (refl, refl))
 
-fresh-sum : (balances : List ℕ) → sumBalances (map freshEntry balances) ≡ sumOf (λ b. b) balances
+-- a just opened ledger's balances are the page's
+pub fresh-sum : (balances : List ℕ) → sumBalances (map freshEntry balances) ≡ sumOf (λ b. b) balances
 fresh-sum [] = refl
 fresh-sum (b ∷ bs) = ap (λ (n : ℕ). b + n) (fresh-sum bs)
 

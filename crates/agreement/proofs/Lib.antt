@@ -1,3 +1,4 @@
 -- Demand 3, proved.
 pub mod Places
 pub mod Reachable
+pub mod Entries

@@ -311,13 +311,13 @@ module _ (o : Opening) (l : Ledger) (t : Transfer) (g : Group o) (ok : Sound o l
       (rw (← ok .seats-same) (new .seat-known)) (free-place o l s t ok fit new) (found .none-waits)
       (rw (ok .seats-same, ok .faults-same) at few)
 
-  accepted-entry : (s : Seat) → Recordable l s t → SoundEntry o (t .account) (withPending (entryWithAck l s t) t)
+  pub accepted-entry : (s : Seat) → Recordable l s t → SoundEntry o (t .account) (withPending (entryWithAck l s t) t)
   accepted-entry s new =
       accepted-sound o (t .account) (entryOf l (t .account)) s t (g .seats-fit) (ok .each (t .account)) refl (fit .is-next)
       (rw (← ok .seats-same) (new .seat-known)) (free-place o l s t ok fit new) (found .none-waits)
       (found .payer-known) (found .recipient-known)
 
-  ruled-entry : SoundEntry o (t .account) (withPending (entryOf l (t .account)) t)
+  pub ruled-entry : SoundEntry o (t .account) (withPending (entryOf l (t .account)) t)
   ruled-entry =
       ruled-sound o (t .account) (entryOf l (t .account)) t (ok .each (t .account)) refl (fit .is-next) (found .none-waits)
       (found .payer-known) (found .recipient-known)

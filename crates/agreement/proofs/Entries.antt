@@ -1,0 +1,141 @@
+-- The laws of a step that the proofs about runs use, and all of them: what a call puts into an account's entry (`each-entry`), what it
+-- does to balances, current numbers and waiting slips (`turn`), and what its reply means (`answer-acknowledge` and so on). Later
+-- definitions of a step prove these again, and the rest stays.
+use Prim.Native.Nat.{ℕ, _+_, _≤_, _<_}
+use native.Mathlib.Omega.{arith}
+use mathlib.Core.Path.{_≡_, refl, ap, sym, _∙_}
+use mathlib.Core.Logic.{_⊎_, inl, inr}
+use mathlib.Core.Bool.{Bool, true, false}
+use mathlib.Core.Option.{none, some}
+use lib.ListN.{length}
+use Rattle.agreement.specs.Types.{Seat, Account, Transfer, Empty, Full, Entry, Ledger, Opening, Refusal, Message, Request, Circulated, Ack, Decision, Inquiry, Reply, Acknowledge, Accept, Refuse}
+use Rattle.agreement.specs.Runs.{message, accepted}
+use Rattle.agreement.proofs.Reachable.{Group, SoundEntry, Sound, Meets, meets, accepted-entry, ruled-entry, waits-sound}
+use Rattle.model.specs.Records.{withAcked, withProposed, withPending, entryAt, setEntry, withEntries, withEntry, entryOf}
+use Rattle.model.specs.Acks.{acksFor, enough}
+use Rattle.model.specs.Settling.{settle, accept}
+use Rattle.model.specs.Calls.{entryWithAck}
+use Rattle.model.proofs.Sums.{impossible}
+use Rattle.model.proofs.Access.{set-each}
+use Rattle.model.proofs.Booking.{SameButBalance, Cleared}
+use Rattle.model.proofs.Settles.{Turned, kept, booked, settle-entry}
+use Rattle.model.proofs.Steps.{Eligible, Recordable, Happens, refused, circulated, acknowledged, accepted-by-acks, proposed, noted, accepted-by-ruling, told}
+
+-- The entry x that a call puts in the place of the account's of slip t, before anything is settled.
+pub data Puts (l : Ledger) (m : Message) (r : Reply) (t : Transfer) (x : Entry) : Type 0 where
+  puts-mark : m ≡ Circulated t → r ≡ Acknowledge → Eligible l t → x ≡ withAcked (entryOf l (t .account)) → Puts l m r t x
+  puts-ack : (s : Seat) → m ≡ Ack s t → Eligible l t → Recordable l s t
+      → (x ≡ entryWithAck l s t) ⊎ (x ≡ withProposed (entryWithAck l s t))
+      → Puts l m r t x
+  puts-accepted : (s : Seat) (c : ℕ)
+      → m ≡ Ack s t → r ≡ Accept c → Eligible l t → Recordable l s t
+      → enough (l .seats) (l .faults) (acksFor t (entryWithAck l s t .acks)) ≡ true
+      → x ≡ withPending (entryWithAck l s t) t
+      → Puts l m r t x
+  puts-ruled : (c : ℕ) → m ≡ Decision t → r ≡ Accept c → Eligible l t → x ≡ withPending (entryOf l (t .account)) t → Puts l m r t x
+
+-- To show J of each account's entry after a call, from J of each before it: show it of what the call puts, and that it stays where
+-- the balance changes and where a slip is booked.
+module _ (o : Opening) (l next : Ledger) (m : Message) (r : Reply) (g : Group o) (ok : Sound o l)
+    (J : Account → Entry → Type 0)
+    (on-balance : (a : Account) (e e′ : Entry) → SameButBalance e e′ → J a e → J a e′)
+    (on-booked : (a : Account) (e e′ : Entry) (t : Transfer) → SoundEntry o a e → e .pending ≡ Full t → Cleared t e′ → J a e → J a e′)
+    (each : (a : Account) → J a (entryOf l a))
+    (puts : (t : Transfer) (x : Entry) → Puts l m r t x → J (t .account) x)
+  where
+    put : (t : Transfer) (x : Entry) → Puts l m r t x → (a : Account) → J a (entryOf (withEntry l (t .account) x) a)
+    put t x new = set-each J (l .entries) (t .account) x (puts t x new) each
+
+    settled : (t : Transfer) (e : Entry) → Puts l m r t (withPending e t) → Sound o (withEntry l (t .account) (withPending e t))
+        → (a : Account) → J a (entryOf (withEntries l (accept (l .entries) e t .entries)) a)
+    unfolding accept
+    settled t e new sound a = go (settle-entry a (setEntry (l .entries) (t .account) (withPending e t)))
+      where
+        waits : Ledger
+        waits = withEntry l (t .account) (withPending e t)
+
+        go : Turned (entryOf waits a) (entryAt (settle (waits .entries) .entries) a) → J a (entryAt (settle (waits .entries) .entries) a)
+        go (kept same) = on-balance a _ _ same (put t (withPending e t) new a)
+        go (booked u was clear) = on-booked a _ _ u (sound .each a) was clear (put t (withPending e t) new a)
+
+    pub each-entry : Happens l m r next → (a : Account) → J a (entryOf next a)
+    each-entry (refused q e same) = rw same each
+    each-entry (circulated t e f same) = rw same each
+    each-entry (acknowledged t e f fit clear same) = rw same (put t (withAcked (entryOf l (t .account))) (puts-mark e f fit refl))
+    each-entry (accepted-by-acks s t e f fit new full same) =
+        rw same
+        (settled t (entryWithAck l s t) (puts-accepted s _ e f fit new full refl)
+        (waits-sound o l t (entryWithAck l s t) g ok refl (accepted-entry o l t g ok fit s new)))
+    each-entry (proposed s t u e f fit new few must most same) =
+        rw same (put t (withProposed (entryWithAck l s t)) (puts-ack s e fit new (inr refl)))
+    each-entry (noted s t e f fit new few same) = rw same (put t (entryWithAck l s t) (puts-ack s e fit new (inl refl)))
+    each-entry (accepted-by-ruling t e f fit same) =
+        rw same
+        (settled t (entryOf l (t .account)) (puts-ruled _ e f fit refl)
+        (waits-sound o l t (entryOf l (t .account)) g ok refl (ruled-entry o l t g ok fit)))
+    each-entry (told a e f same) = rw same each
+
+-- balance, current and waiting slip are the same in both entries
+abbrev pub SameState : Entry → Entry → Type 0
+SameState e e′ = (e′ .balance ≡ e .balance) × (e′ .current ≡ e .current) × (e′ .pending ≡ e .pending)
+
+-- A slip t is accepted: it waits, in an entry that is otherwise as it was, and then settling begins.
+pub record Accepting (o : Opening) (l : Ledger) (r : Reply) (next : Ledger) (t : Transfer) : Type 0 where
+  pub entry : Entry
+  pub same-balance : entry .balance ≡ entryOf l (t .account) .balance
+  pub same-current : entry .current ≡ entryOf l (t .account) .current
+  pub fits : Meets o l t
+  pub waits-soundly : Sound o (withEntry l (t .account) (withPending entry t))
+  pub entries-are : next .entries ≡ settle (setEntry (l .entries) (t .account) (withPending entry t)) .entries
+  pub replied : r ≡ Accept (settle (setEntry (l .entries) (t .account) (withPending entry t)) .applied)
+
+-- an entry with the same state is put
+put-same : (l : Ledger) (a : Account) (x : Entry) → SameState (entryOf l a) x → (b : Account) → SameState (entryOf l b) (entryOf (withEntry l a x) b)
+put-same l a x same = set-each (λ b y. SameState (entryOf l b) y) (l .entries) a x same (λ b. (refl, refl, refl))
+
+-- a refusal accepts nothing
+refused-accepts : (m : Message) (r : Reply) (q : Refusal) → r ≡ Refuse q → accepted (message m r) ≡ none
+refused-accepts (Request t) r q e = refl
+refused-accepts (Circulated t) r q e = refl
+refused-accepts (Ack s t) r q e = rw e
+refused-accepts (Decision t) r q e = rw e
+refused-accepts (Inquiry a) r q e = refl
+
+-- What a call does to balances, current numbers and waiting slips: nothing, or its slip is accepted.
+pub data Turn (o : Opening) (l : Ledger) (m : Message) (r : Reply) (next : Ledger) : Type 0 where
+  keeps : ((a : Account) → SameState (entryOf l a) (entryOf next a)) → accepted (message m r) ≡ none → Turn o l m r next
+  accepts : (t : Transfer) → accepted (message m r) ≡ some t → Accepting o l r next t → Turn o l m r next
+
+pub turn : (o : Opening) (l next : Ledger) (m : Message) (r : Reply) → Group o → Sound o l → Happens l m r next → Turn o l m r next
+unfolding accept
+turn o l next m r g ok (refused q e same) = keeps (rw same (λ a. (refl, refl, refl))) (refused-accepts m r q e)
+turn o l next m r g ok (circulated t e f same) = keeps (rw same (λ a. (refl, refl, refl))) (rw e)
+turn o l next m r g ok (acknowledged t e f fit clear same) =
+    keeps (rw same (put-same l (t .account) (withAcked (entryOf l (t .account))) (refl, refl, refl))) (rw e)
+turn o l next m r g ok (accepted-by-acks s t e f fit new full same) =
+    accepts t (rw (e, f))
+    (record {
+      entry = entryWithAck l s t;
+      same-balance = refl;
+      same-current = refl;
+      fits = meets o l t g ok fit;
+      waits-soundly = waits-sound o l t (entryWithAck l s t) g ok refl (accepted-entry o l t g ok fit s new);
+      entries-are = ap (λ (x : Ledger). x .entries) same;
+      replied = f;
+    })
+turn o l next m r g ok (proposed s t u e f fit new few must most same) =
+    keeps (rw same (put-same l (t .account) (withProposed (entryWithAck l s t)) (refl, refl, refl))) (rw (e, f))
+turn o l next m r g ok (noted s t e f fit new few same) =
+    keeps (rw same (put-same l (t .account) (entryWithAck l s t) (refl, refl, refl))) (rw (e, f))
+turn o l next m r g ok (accepted-by-ruling t e f fit same) =
+    accepts t (rw (e, f))
+    (record {
+      entry = entryOf l (t .account);
+      same-balance = refl;
+      same-current = refl;
+      fits = meets o l t g ok fit;
+      waits-soundly = waits-sound o l t (entryOf l (t .account)) g ok refl (ruled-entry o l t g ok fit);
+      entries-are = ap (λ (x : Ledger). x .entries) same;
+      replied = f;
+    })
+turn o l next m r g ok (told a e f same) = keeps (rw same (λ b. (refl, refl, refl))) (rw e)

@@ -8,15 +8,15 @@ use mathlib.Core.Logic.{_⊎_, inl, inr}
 use mathlib.Core.Bool.{Bool, true, false}
 use mathlib.Core.Option.{none, some}
 use lib.ListN.{length}
-use Rattle.agreement.specs.Types.{Seat, Account, Transfer, Empty, Full, Entry, Ledger, Opening, Refusal, Message, Request, Circulated, Ack, Decision, Inquiry, Reply, Acknowledge, Accept, Refuse}
+use Rattle.agreement.specs.Types.{Seat, Account, Transfer, Empty, Full, Entry, Ledger, Opening, Refusal, Message, Request, Circulated, Ack, Decision, Inquiry, Reply, Acknowledge, Accept, Propose, Balance, Refuse}
 use Rattle.agreement.specs.Runs.{message, accepted}
 use Rattle.agreement.proofs.Reachable.{Group, SoundEntry, Sound, Meets, meets, accepted-entry, ruled-entry, waits-sound}
 use Rattle.model.specs.Records.{withAcked, withProposed, withPending, entryAt, setEntry, withEntries, withEntry, entryOf}
-use Rattle.model.specs.Acks.{acksFor, enough}
+use Rattle.model.specs.Acks.{acksFor, enough, hasMost}
 use Rattle.model.specs.Settling.{settle, accept}
-use Rattle.model.specs.Calls.{entryWithAck}
+use Rattle.model.specs.Calls.{mustPropose, entryWithAck}
 use Rattle.model.proofs.Sums.{impossible}
-use Rattle.model.proofs.Access.{set-each}
+use Rattle.model.proofs.Access.{set-each, with-entry-same}
 use Rattle.model.proofs.Booking.{SameButBalance, Cleared}
 use Rattle.model.proofs.Settles.{Turned, kept, booked, settle-entry}
 use Rattle.model.proofs.Steps.{Eligible, Recordable, Happens, refused, circulated, acknowledged, accepted-by-acks, proposed, noted, accepted-by-ruling, told}
@@ -139,3 +139,82 @@ turn o l next m r g ok (accepted-by-ruling t e f fit same) =
       replied = f;
     })
 turn o l next m r g ok (told a e f same) = keeps (rw same (λ b. (refl, refl, refl))) (rw e)
+
+-- A means: the slip's number is the next, the mark was clear, and now it is set.
+pub record Marks (l next : Ledger) (t : Transfer) : Type 0 where
+  pub is-next : t .number ≡ entryOf l (t .account) .current + 1
+  pub was-clear : entryOf l (t .account) .acked ≡ false
+  pub entry-is : entryOf next (t .account) ≡ withAcked (entryOf l (t .account))
+
+pub answer-acknowledge : (o : Opening) (l next : Ledger) (t : Transfer) → Group o → Sound o l
+    → Happens l (Circulated t) Acknowledge next → Marks l next t
+answer-acknowledge o l next t g ok (refused q e same) = impossible (cc)
+answer-acknowledge o l next t g ok (circulated u e f same) = impossible (cc)
+answer-acknowledge o l next t g ok (acknowledged u e f fit clear same) =
+    let this : t ≡ u = cc in
+    rw (this, same)
+    (record { is-next = fit .is-next; was-clear = clear; entry-is = with-entry-same l (u .account) _ (meets o l u g ok fit .inside) })
+answer-acknowledge o l next t g ok (accepted-by-acks s u e f fit new full same) = impossible (cc)
+answer-acknowledge o l next t g ok (proposed s u v e f fit new few must most same) = impossible (cc)
+answer-acknowledge o l next t g ok (noted s u e f fit new few same) = impossible (cc)
+answer-acknowledge o l next t g ok (accepted-by-ruling u e f fit same) = impossible (cc)
+answer-acknowledge o l next t g ok (told a e f same) = impossible (cc)
+
+-- an ack is recorded: what K and P rest on
+pub record Records (l : Ledger) (s : Seat) (t : Transfer) : Type 0 where
+  pub eligible : Eligible l t
+  pub recordable : Recordable l s t
+
+-- K to an ack means: with it, twice the count of acks for its slip exceeds n + 3f.
+pub answer-accept : (l next : Ledger) (s : Seat) (t : Transfer) (c : ℕ) → Happens l (Ack s t) (Accept c) next
+    → Records l s t × (enough (l .seats) (l .faults) (acksFor t (entryWithAck l s t .acks)) ≡ true)
+answer-accept l next s t c (refused q e same) = impossible (cc)
+answer-accept l next s t c (circulated u e f same) = impossible (cc)
+answer-accept l next s t c (acknowledged u e f fit clear same) = impossible (cc)
+answer-accept l next s t c (accepted-by-acks z u e f fit new full same) =
+    let seat : s ≡ z = cc in
+    let slip : t ≡ u = cc in
+    rw (seat, slip) (record { eligible = fit; recordable = new }, full)
+answer-accept l next s t c (proposed z u v e f fit new few must most same) = impossible (cc)
+answer-accept l next s t c (noted z u e f fit new few same) = impossible (cc)
+answer-accept l next s t c (accepted-by-ruling u e f fit same) = impossible (cc)
+answer-accept l next s t c (told a e f same) = impossible (cc)
+
+-- P u means: an ack, with which at least n - f are recorded, and no slip has more of them than u.
+pub record Proposes (l : Ledger) (m : Message) (u : Transfer) : Type 0 where
+  pub sender : Seat
+  pub slip : Transfer
+  pub is-ack : m ≡ Ack sender slip
+  pub records : Records l sender slip
+  pub must : mustPropose l (entryWithAck l sender slip) ≡ true
+  pub most : hasMost (entryWithAck l sender slip .acks) u ≡ true
+
+pub answer-propose : (l next : Ledger) (m : Message) (u : Transfer) → Happens l m (Propose u) next → Proposes l m u
+answer-propose l next m u (refused q e same) = impossible (cc)
+answer-propose l next m u (circulated t e f same) = impossible (cc)
+answer-propose l next m u (acknowledged t e f fit clear same) = impossible (cc)
+answer-propose l next m u (accepted-by-acks s t e f fit new full same) = impossible (cc)
+answer-propose l next m u (proposed s t v e f fit new few must most same) =
+    let slip : u ≡ v = cc in
+    record {
+      sender = s;
+      slip = t;
+      is-ack = e;
+      records = record { eligible = fit; recordable = new };
+      must = must;
+      most = rw slip most;
+    }
+answer-propose l next m u (noted s t e f fit new few same) = impossible (cc)
+answer-propose l next m u (accepted-by-ruling t e f fit same) = impossible (cc)
+answer-propose l next m u (told a e f same) = impossible (cc)
+
+-- B means: the account's balance.
+pub answer-balance : (l next : Ledger) (a : Account) (b : ℕ) → Happens l (Inquiry a) (Balance b) next → b ≡ entryOf l a .balance
+answer-balance l next a b (refused q e same) = impossible (cc)
+answer-balance l next a b (circulated t e f same) = impossible (cc)
+answer-balance l next a b (acknowledged t e f fit clear same) = impossible (cc)
+answer-balance l next a b (accepted-by-acks s t e f fit new full same) = impossible (cc)
+answer-balance l next a b (proposed s t u e f fit new few must most same) = impossible (cc)
+answer-balance l next a b (noted s t e f fit new few same) = impossible (cc)
+answer-balance l next a b (accepted-by-ruling t e f fit same) = impossible (cc)
+answer-balance l next a b (told c e f same) = let account : a ≡ c = cc in rw account (let told : b ≡ entryOf l c .balance = cc in told)

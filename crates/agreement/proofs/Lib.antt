@@ -1,4 +1,5 @@
 -- Demand 3, proved.
 pub mod Places
+pub mod Deeds
 pub mod Reachable
 pub mod Entries

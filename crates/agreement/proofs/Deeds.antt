@@ -1,0 +1,85 @@
+-- What a call did, read back: the call and the reply that "acks", "accepts", "puts forward" and "rules" stand for.
+use Prim.Native.Nat.{ℕ}
+use mathlib.Core.Path.{_≡_, refl, ap}
+use mathlib.Core.Logic.{_⊎_, inl, inr}
+use mathlib.Core.Bool.{Bool, true, false, cond}
+use mathlib.Core.Option.{Option, none, some}
+use Rattle.agreement.specs.Types.{Seat, Transfer, Message, Request, Circulated, Ack, Decision, Inquiry, Reply, Circulate, Acknowledge, Accept, Propose, Note, Balance, Refuse}
+use Rattle.agreement.specs.Runs.{Call, message, waitingList, isAcknowledge, isAccept, acked, accepted, proposal, proposed, ruled, passes}
+use Rattle.model.proofs.Sums.{impossible}
+
+is-acknowledge : (r : Reply) → isAcknowledge r ≡ true → r ≡ Acknowledge
+is-acknowledge Circulate e = impossible (cc)
+is-acknowledge Acknowledge e = refl
+is-acknowledge (Accept c) e = impossible (cc)
+is-acknowledge (Propose t) e = impossible (cc)
+is-acknowledge Note e = impossible (cc)
+is-acknowledge (Balance b) e = impossible (cc)
+is-acknowledge (Refuse q) e = impossible (cc)
+
+is-accept : (r : Reply) → isAccept r ≡ true → (c : ℕ) × (r ≡ Accept c)
+is-accept Circulate e = impossible (cc)
+is-accept Acknowledge e = impossible (cc)
+is-accept (Accept c) e = (c, refl)
+is-accept (Propose t) e = impossible (cc)
+is-accept Note e = impossible (cc)
+is-accept (Balance b) e = impossible (cc)
+is-accept (Refuse q) e = impossible (cc)
+
+-- a slip that is there only if a test holds
+only-if : (b : Bool) (t u : Transfer) → cond b (some t) none ≡ some u → (b ≡ true) × (t ≡ u)
+only-if true t u e = (refl, cc)
+only-if false t u e = impossible (cc)
+
+-- it acked t
+pub acked-is : (c : Call) (t : Transfer) → acked c ≡ some t → c ≡ message (Circulated t) Acknowledge
+acked-is (message (Request u) r) t e = impossible (cc)
+acked-is (message (Circulated u) r) t e =
+    let found = only-if (isAcknowledge r) u t e in
+    rw (is-acknowledge r (found .0), found .1) refl
+acked-is (message (Ack s u) r) t e = impossible (cc)
+acked-is (message (Decision u) r) t e = impossible (cc)
+acked-is (message (Inquiry a) r) t e = impossible (cc)
+acked-is (waitingList before r after) t e = impossible (cc)
+
+-- it accepted t: an ack or a ruling
+pub data Accepts (c : Call) (t : Transfer) : Type 0 where
+  by-ack : (s : Seat) (k : ℕ) → c ≡ message (Ack s t) (Accept k) → Accepts c t
+  by-ruling : (k : ℕ) → c ≡ message (Decision t) (Accept k) → Accepts c t
+
+pub accepted-is : (c : Call) (t : Transfer) → accepted c ≡ some t → Accepts c t
+accepted-is (message (Request u) r) t e = impossible (cc)
+accepted-is (message (Circulated u) r) t e = impossible (cc)
+accepted-is (message (Ack s u) r) t e =
+    let found = only-if (isAccept r) u t e in
+    let reply = is-accept r (found .0) in
+    by-ack s (reply .0) (λ i. message (Ack s (found .1 i)) (reply .1 i))
+accepted-is (message (Decision u) r) t e =
+    let found = only-if (isAccept r) u t e in
+    let reply = is-accept r (found .0) in
+    by-ruling (reply .0) (λ i. message (Decision (found .1 i)) (reply .1 i))
+accepted-is (message (Inquiry a) r) t e = impossible (cc)
+accepted-is (waitingList before r after) t e = impossible (cc)
+
+-- it put u forward
+proposal-is : (r : Reply) (u : Transfer) → proposal r ≡ some u → r ≡ Propose u
+proposal-is Circulate u e = impossible (cc)
+proposal-is Acknowledge u e = impossible (cc)
+proposal-is (Accept c) u e = impossible (cc)
+proposal-is (Propose t) u e = let same : t ≡ u = cc in ap Propose same
+proposal-is Note u e = impossible (cc)
+proposal-is (Balance b) u e = impossible (cc)
+proposal-is (Refuse q) u e = impossible (cc)
+
+pub proposed-is : (c : Call) (u : Transfer) → proposed c ≡ some u → (m : Message) × (c ≡ message m (Propose u))
+proposed-is (message m r) u e = (m, ap (message m) (proposal-is r u e))
+proposed-is (waitingList before r after) u e = impossible (cc)
+
+-- a ruling answered K is one
+pub ruling-ruled : (c : Call) (t : Transfer) (r : Reply) → c ≡ message (Decision t) r → ruled c ≡ some t
+ruling-ruled c t r e = rw e refl
+
+-- a slip that is there and passes the test
+pub passes-is : (test : Transfer → Bool) (x : Option Transfer) → passes test x ≡ true → (t : Transfer) × (x ≡ some t) × (test t ≡ true)
+passes-is test none e = impossible (cc)
+passes-is test (some t) e = (t, refl, e)

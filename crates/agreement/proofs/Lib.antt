@@ -3,3 +3,4 @@ pub mod Places
 pub mod Deeds
 pub mod Reachable
 pub mod Entries
+pub mod SlateSettles

@@ -43,6 +43,18 @@ equal-differ t u differ = go (equal t u) refl
     go true h = absurd (differ (equal-sound t u h))
     go false h = h
 
+-- whether slips are equal does not depend on their order
+pub equal-sym : (t u : Transfer) → equal t u ≡ equal u t
+equal-sym t u = go (equal t u) refl
+  where
+    go : (b : Bool) → equal t u ≡ b → equal t u ≡ equal u t
+    go true e = rw (equal-sound t u e)
+    go false e = rw (e, equal-differ u t (λ same. impossible (cc (e, equal-refl t, same))))
+
+-- slips of different accounts differ
+pub equal-apart : (t u : Transfer) → (t .account .0 ≡ u .account .0 → ⊥) → equal t u ≡ false
+equal-apart t u apart = equal-differ t u (λ same. apart (ap (λ (v : Transfer). v .account .0) same))
+
 -- slips that conflict have one account and one number, and are not equal
 pub record Conflict (t u : Transfer) : Type 0 where
   pub account : t .account ≡ u .account

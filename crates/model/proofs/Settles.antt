@@ -1,18 +1,19 @@
 -- Laws of settling. `settle-induction` is what other proofs use in place of the definition's text.
 use Prim.Native.Nat.{ℕ, zero, suc, _+_, _<_}
-use native.Mathlib.Decide.{ℕ-discrete}
+use native.Mathlib.Decide.{ℕ-discrete, decLt}
 use native.Mathlib.Omega.{arith}
 use mathlib.Core.Path.{_≡_, refl, ap, sym, _∙_}
+use mathlib.Core.Logic.{_≢_}
 use mathlib.Core.Bool.{Bool, true, false}
 use mathlib.Core.List.{List}
 use mathlib.Core.Option.{Option, none, some, Option·map}
-use lib.ListN.{length}
+use lib.ListN.{length, List·getD-eq-default}
 use borrow.Author.Tests.{leb-true}
 use Rattle.model.specs.Types.{Account, Transfer, Slot, Empty, Full, Entry, Settled}
-use Rattle.model.specs.Records.{accountOf, entryAt, sumBalances, sumCurrents}
+use Rattle.model.specs.Records.{accountOf, freshEntry, entryAt, sumBalances, sumCurrents}
 use Rattle.model.specs.Basics.{firstWhere}
 use Rattle.model.specs.Settling.{affordable, lowestAffordable, waiting, apply, oneMore, settleAtMost, settle}
-use Rattle.model.proofs.Sums.{Found, first-found, impossible}
+use Rattle.model.proofs.Sums.{Found, first-found, first-none, impossible}
 use Rattle.model.proofs.Booking.{SameButBalance, Cleared, cleared-kept, Affordable, apply-waiting, apply-currents, apply-sum, apply-length, apply-clears, apply-others}
 
 -- the search for the lowest affordable account finds one that is affordable, and none below it is
@@ -50,6 +51,22 @@ lowest-affordable es a e = found (firstWhere test (length es) 0) refl e
 
         number : a .0 ≡ n
         number = sym (ap (λ (b : Account). b .0) same)
+
+-- the search finds none: no account is affordable, also behind the last entry
+pub none-affordable : (es : List Entry) → lowestAffordable es ≡ none → (a : Account) → affordable (entryAt es a) ≡ false
+unfolding lowestAffordable
+none-affordable es e a = found (firstWhere test (length es) 0) refl e
+  where
+    test : ℕ → Bool
+    test b = affordable (entryAt es (accountOf b))
+
+    within : firstWhere test (length es) 0 ≡ none → Dec (a .0 < length es) → affordable (entryAt es a) ≡ false
+    within w (yes inside) = first-none test (length es) 0 w (a .0) (omega arith) (omega arith)
+    within w (no outside) = rw (List·getD-eq-default es (freshEntry 0) {n = a .0} (omega arith))
+
+    found : (o : Option ℕ) → firstWhere test (length es) 0 ≡ o → Option·map accountOf o ≡ none → affordable (entryAt es a) ≡ false
+    found none w e = within w (decLt (a .0) (length es))
+    found (some n) w e = impossible (cc)
 
 -- nothing is affordable: settling ends
 pub settle-none : (es : List Entry) → lowestAffordable es ≡ none → settle es ≡ record { applied = 0; entries = es }
@@ -116,24 +133,28 @@ pub record Bounded (es : List Entry) : Type 0 where
   pub sum-fits : sumBalances es < 4_294_967_296
   pub recipients : (a : Account) (t : Transfer) → entryAt es a .pending ≡ Full t → t .recipient .0 < length es
 
+-- a slip that waits after a booking waited before it, in another account
+pub waited : (es : List Entry) (a : Account) → Affordable es a → (b : Account) (t : Transfer)
+    → entryAt (apply es a) b .pending ≡ Full t → (b .0 ≢ a .0) × (entryAt es b .pending ≡ Full t)
+waited es a at b t h = go (ℕ-discrete (b .0) (a .0))
+  where
+    go : Dec (b .0 ≡ a .0) → (b .0 ≢ a .0) × (entryAt es b .pending ≡ Full t)
+    go (yes same) = impossible (cc (rw same at h, apply-clears es a at .none-pending))
+    go (no other) = (other, ap (λ (e : Entry). e .pending) (sym (apply-others es a at b other)) ∙ h)
+
 -- booking keeps the sum and the bounds
-apply-bounded : (es : List Entry) (a : Account) → Affordable es a → Bounded es
+pub apply-bounded : (es : List Entry) (a : Account) → Affordable es a → Bounded es
     → (sumBalances (apply es a) ≡ sumBalances es) × Bounded (apply es a)
 apply-bounded es a at b = (
   kept,
   record {
     sum-fits = rw kept (b .sum-fits);
-    recipients = λ c t h. rw (apply-length es a at) (still c t h (ℕ-discrete (c .0) (a .0)));
+    recipients = λ c t h. rw (apply-length es a at) (b .recipients c t (waited es a at c t h .1));
   },
 )
   where
     kept : sumBalances (apply es a) ≡ sumBalances es
     kept = apply-sum es a at (b .recipients a (at .transfer) (at .waits)) (b .sum-fits)
-
-    still : (c : Account) (t : Transfer) → entryAt (apply es a) c .pending ≡ Full t → Dec (c .0 ≡ a .0)
-        → t .recipient .0 < length es
-    still c t h (yes same) = impossible (cc (rw same at h, apply-clears es a at .none-pending))
-    still c t h (no other) = b .recipients c t (ap (λ (e : Entry). e .pending) (sym (apply-others es a at c other)) ∙ h)
 
 -- settling keeps the sum of balances, and the bounds
 pub settle-sum : (es : List Entry) → Bounded es → (sumBalances (settle es .entries) ≡ sumBalances es) × Bounded (settle es .entries)
@@ -192,15 +213,10 @@ settle-each I on-balance on-booked es each a = go (settle-entry a es)
 abbrev pub NextWaits : List Entry → Type 0
 NextWaits es = (a : Account) (t : Transfer) → entryAt es a .pending ≡ Full t → t .number ≡ entryAt es a .current + 1
 
-apply-next : (es : List Entry) (a : Account) → Affordable es a → NextWaits es → NextWaits (apply es a)
-apply-next es a at next b t h = go (ℕ-discrete (b .0) (a .0))
-  where
-    go : Dec (b .0 ≡ a .0) → t .number ≡ entryAt (apply es a) b .current + 1
-    go (yes same) = impossible (cc (rw same at h, apply-clears es a at .none-pending))
-    go (no other) =
-        let kept = apply-others es a at b other in
-        let waited = next b t (ap (λ (e : Entry). e .pending) (sym kept) ∙ h) in
-        waited ∙ ap (λ (e : Entry). e .current + 1) (sym kept)
+pub apply-next : (es : List Entry) (a : Account) → Affordable es a → NextWaits es → NextWaits (apply es a)
+apply-next es a at next b t h =
+    let before = waited es a at b t h in
+    next b t (before .1) ∙ ap (λ (e : Entry). e .current + 1) (sym (apply-others es a at b (before .0)))
 
 -- then the count that settling gives is the rise in the sum of current numbers
 pub settle-currents : (es : List Entry) → NextWaits es → sumCurrents (settle es .entries) ≡ sumCurrents es + settle es .applied

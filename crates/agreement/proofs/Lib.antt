@@ -4,3 +4,4 @@ pub mod Deeds
 pub mod Reachable
 pub mod Entries
 pub mod SlateSettles
+pub mod Slated

@@ -146,19 +146,19 @@ pub record Marks (l next : Ledger) (t : Transfer) : Type 0 where
   pub was-clear : entryOf l (t .account) .acked ≡ false
   pub entry-is : entryOf next (t .account) ≡ withAcked (entryOf l (t .account))
 
-pub answer-acknowledge : (o : Opening) (l next : Ledger) (t : Transfer) → Group o → Sound o l
-    → Happens l (Circulated t) Acknowledge next → Marks l next t
-answer-acknowledge o l next t g ok (refused q e same) = impossible (cc)
-answer-acknowledge o l next t g ok (circulated u e f same) = impossible (cc)
-answer-acknowledge o l next t g ok (acknowledged u e f fit clear same) =
+pub answer-acknowledge : (o : Opening) (l next : Ledger) (m : Message) (r : Reply) (t : Transfer) → Group o → Sound o l
+    → m ≡ Circulated t → r ≡ Acknowledge → Happens l m r next → Marks l next t
+answer-acknowledge o l next m r t g ok kind reply (refused q e same) = impossible (cc)
+answer-acknowledge o l next m r t g ok kind reply (circulated u e f same) = impossible (cc)
+answer-acknowledge o l next m r t g ok kind reply (acknowledged u e f fit clear same) =
     let this : t ≡ u = cc in
     rw (this, same)
     (record { is-next = fit .is-next; was-clear = clear; entry-is = with-entry-same l (u .account) _ (meets o l u g ok fit .inside) })
-answer-acknowledge o l next t g ok (accepted-by-acks s u e f fit new full same) = impossible (cc)
-answer-acknowledge o l next t g ok (proposed s u v e f fit new few must most same) = impossible (cc)
-answer-acknowledge o l next t g ok (noted s u e f fit new few same) = impossible (cc)
-answer-acknowledge o l next t g ok (accepted-by-ruling u e f fit same) = impossible (cc)
-answer-acknowledge o l next t g ok (told a e f same) = impossible (cc)
+answer-acknowledge o l next m r t g ok kind reply (accepted-by-acks s u e f fit new full same) = impossible (cc)
+answer-acknowledge o l next m r t g ok kind reply (proposed s u v e f fit new few must most same) = impossible (cc)
+answer-acknowledge o l next m r t g ok kind reply (noted s u e f fit new few same) = impossible (cc)
+answer-acknowledge o l next m r t g ok kind reply (accepted-by-ruling u e f fit same) = impossible (cc)
+answer-acknowledge o l next m r t g ok kind reply (told a e f same) = impossible (cc)
 
 -- an ack is recorded: what K and P rest on
 pub record Records (l : Ledger) (s : Seat) (t : Transfer) : Type 0 where
@@ -166,19 +166,20 @@ pub record Records (l : Ledger) (s : Seat) (t : Transfer) : Type 0 where
   pub recordable : Recordable l s t
 
 -- K to an ack means: with it, twice the count of acks for its slip exceeds n + 3f.
-pub answer-accept : (l next : Ledger) (s : Seat) (t : Transfer) (c : ℕ) → Happens l (Ack s t) (Accept c) next
+pub answer-accept : (l next : Ledger) (m : Message) (r : Reply) (s : Seat) (t : Transfer) (c : ℕ)
+    → m ≡ Ack s t → r ≡ Accept c → Happens l m r next
     → Records l s t × (enough (l .seats) (l .faults) (acksFor t (entryWithAck l s t .acks)) ≡ true)
-answer-accept l next s t c (refused q e same) = impossible (cc)
-answer-accept l next s t c (circulated u e f same) = impossible (cc)
-answer-accept l next s t c (acknowledged u e f fit clear same) = impossible (cc)
-answer-accept l next s t c (accepted-by-acks z u e f fit new full same) =
+answer-accept l next m r s t c kind reply (refused q e same) = impossible (cc)
+answer-accept l next m r s t c kind reply (circulated u e f same) = impossible (cc)
+answer-accept l next m r s t c kind reply (acknowledged u e f fit clear same) = impossible (cc)
+answer-accept l next m r s t c kind reply (accepted-by-acks z u e f fit new full same) =
     let seat : s ≡ z = cc in
     let slip : t ≡ u = cc in
     rw (seat, slip) (record { eligible = fit; recordable = new }, full)
-answer-accept l next s t c (proposed z u v e f fit new few must most same) = impossible (cc)
-answer-accept l next s t c (noted z u e f fit new few same) = impossible (cc)
-answer-accept l next s t c (accepted-by-ruling u e f fit same) = impossible (cc)
-answer-accept l next s t c (told a e f same) = impossible (cc)
+answer-accept l next m r s t c kind reply (proposed z u v e f fit new few must most same) = impossible (cc)
+answer-accept l next m r s t c kind reply (noted z u e f fit new few same) = impossible (cc)
+answer-accept l next m r s t c kind reply (accepted-by-ruling u e f fit same) = impossible (cc)
+answer-accept l next m r s t c kind reply (told a e f same) = impossible (cc)
 
 -- P u means: an ack, with which at least n - f are recorded, and no slip has more of them than u.
 pub record Proposes (l : Ledger) (m : Message) (u : Transfer) : Type 0 where
@@ -189,12 +190,12 @@ pub record Proposes (l : Ledger) (m : Message) (u : Transfer) : Type 0 where
   pub must : mustPropose l (entryWithAck l sender slip) ≡ true
   pub most : hasMost (entryWithAck l sender slip .acks) u ≡ true
 
-pub answer-propose : (l next : Ledger) (m : Message) (u : Transfer) → Happens l m (Propose u) next → Proposes l m u
-answer-propose l next m u (refused q e same) = impossible (cc)
-answer-propose l next m u (circulated t e f same) = impossible (cc)
-answer-propose l next m u (acknowledged t e f fit clear same) = impossible (cc)
-answer-propose l next m u (accepted-by-acks s t e f fit new full same) = impossible (cc)
-answer-propose l next m u (proposed s t v e f fit new few must most same) =
+pub answer-propose : (l next : Ledger) (m : Message) (r : Reply) (u : Transfer) → r ≡ Propose u → Happens l m r next → Proposes l m u
+answer-propose l next m r u reply (refused q e same) = impossible (cc)
+answer-propose l next m r u reply (circulated t e f same) = impossible (cc)
+answer-propose l next m r u reply (acknowledged t e f fit clear same) = impossible (cc)
+answer-propose l next m r u reply (accepted-by-acks s t e f fit new full same) = impossible (cc)
+answer-propose l next m r u reply (proposed s t v e f fit new few must most same) =
     let slip : u ≡ v = cc in
     record {
       sender = s;
@@ -204,17 +205,18 @@ answer-propose l next m u (proposed s t v e f fit new few must most same) =
       must = must;
       most = rw slip most;
     }
-answer-propose l next m u (noted s t e f fit new few same) = impossible (cc)
-answer-propose l next m u (accepted-by-ruling t e f fit same) = impossible (cc)
-answer-propose l next m u (told a e f same) = impossible (cc)
+answer-propose l next m r u reply (noted s t e f fit new few same) = impossible (cc)
+answer-propose l next m r u reply (accepted-by-ruling t e f fit same) = impossible (cc)
+answer-propose l next m r u reply (told a e f same) = impossible (cc)
 
 -- B means: the account's balance.
-pub answer-balance : (l next : Ledger) (a : Account) (b : ℕ) → Happens l (Inquiry a) (Balance b) next → b ≡ entryOf l a .balance
-answer-balance l next a b (refused q e same) = impossible (cc)
-answer-balance l next a b (circulated t e f same) = impossible (cc)
-answer-balance l next a b (acknowledged t e f fit clear same) = impossible (cc)
-answer-balance l next a b (accepted-by-acks s t e f fit new full same) = impossible (cc)
-answer-balance l next a b (proposed s t u e f fit new few must most same) = impossible (cc)
-answer-balance l next a b (noted s t e f fit new few same) = impossible (cc)
-answer-balance l next a b (accepted-by-ruling t e f fit same) = impossible (cc)
-answer-balance l next a b (told c e f same) = let account : a ≡ c = cc in rw account (let told : b ≡ entryOf l c .balance = cc in told)
+pub answer-balance : (l next : Ledger) (m : Message) (r : Reply) (a : Account) (b : ℕ)
+    → m ≡ Inquiry a → r ≡ Balance b → Happens l m r next → b ≡ entryOf l a .balance
+answer-balance l next m r a b kind reply (refused q e same) = impossible (cc)
+answer-balance l next m r a b kind reply (circulated t e f same) = impossible (cc)
+answer-balance l next m r a b kind reply (acknowledged t e f fit clear same) = impossible (cc)
+answer-balance l next m r a b kind reply (accepted-by-acks s t e f fit new full same) = impossible (cc)
+answer-balance l next m r a b kind reply (proposed s t u e f fit new few must most same) = impossible (cc)
+answer-balance l next m r a b kind reply (noted s t e f fit new few same) = impossible (cc)
+answer-balance l next m r a b kind reply (accepted-by-ruling t e f fit same) = impossible (cc)
+answer-balance l next m r a b kind reply (told c e f same) = let account : a ≡ c = cc in rw account (let told : b ≡ entryOf l c .balance = cc in told)

@@ -5,3 +5,5 @@ pub mod Reachable
 pub mod Entries
 pub mod SlateSettles
 pub mod Slated
+pub mod Counting
+pub mod Acked

@@ -8,6 +8,7 @@ use Prim.Native.Nat.{ℕ}
 use mathlib.Core.List.{List}
 use Rattle.agreement.specs.Types.{Seat, Ledger, Opening, Message, Reply, ListReply}
 use Rattle.agreement.specs.Runs.{Call, message, waitingList, Event, Run, start, _▹_, Within, at-end, sooner, happened, throughout, sameSeat, nextLedger, ledgerAt, Conforms, Obeys}
+use Rattle.model.specs.Records.{seatOf}
 use Rattle.model.specs.Calls.{step, Answers}
 use Rattle.model.specs.Openings.{openLedger}
 use Rattle.model.proofs.Sums.{impossible, both}
@@ -88,6 +89,13 @@ obeys-before o ok (sooner w) = obeys-before o (ok .0) w
 pub obeys-at : (o : Opening) {p r : Run} {e : Event} → Obeys o r → Within (p ▹ e) r → Conforms (ledgerAt o (e .at) p) (e .call)
 obeys-at o ok w = obeys-before o ok w .1
 
+-- a seat, from the test
+pub seat-is : (s z : Seat) → sameSeat s z ≡ true → s ≡ z
+seat-is s z e = ap seatOf (eqb-true (s .0) (z .0) e)
+
+pub seat-self : (s : Seat) → sameSeat s s ≡ true
+seat-self s = eq-eqb (s .0) (s .0) refl
+
 -- To show P of a seat's ledger at every place of a run that obeys, show it of the opened ledger, and that it stays: at an event
 -- elsewhere, at a waiting list, and at a message.
 module _ (o : Opening) (s : Seat) (P : Run → Ledger → Type 0)
@@ -110,8 +118,40 @@ module _ (o : Opening) (s : Seat) (P : Run → Ledger → Type 0)
         go : (b : Bool) → sameSeat (e .at) s ≡ b → P r (ledgerAt o s r)
             → P (r ▹ e) (cond b (nextLedger (ledgerAt o s r) (e .call)) (ledgerAt o s r))
         go true here yet =
-            let seat : e .at ≡ s = ap (λ (n : ℕ). let z : Seat = record { 0 = n } in z) (eqb-true (e .at .0) (s .0) here) in
+            let seat = seat-is (e .at) s here in
             let this : (record { at = s; call = e .call }) ≡ e = λ i. record { at = sym seat i; call = e .call } in
             rw (← this)
             (at-seat r e (e .call) refl seat (ok .0) (rw seat at (ok .1)) yet)
         go false there yet = elsewhere r e (ledgerAt o s r) there yet
+
+-- To show Q of every earlier call at a seat and of the seat's ledger now: show it of each call when it is made, and that later
+-- messages keep it.
+module _ (o : Opening) (s : Seat) (Q : Call → Ledger → Type 0)
+    (listed : (l : Ledger) (b a : List ℕ) (q : ListReply) → Q (waitingList b q a) l)
+    (made : (r : Run) (m : Message) (q : Reply) (l : Ledger)
+    → l ≡ ledgerAt o s r → Obeys o r → Answers l m q → Q (message m q) (step l m .next))
+    (kept : (r : Run) (m : Message) (q : Reply) (l : Ledger) (c : Call)
+    → l ≡ ledgerAt o s r → Obeys o r → Answers l m q → Q c l → Q c (step l m .next))
+  where
+    Past : Run → Ledger → Type 0
+    Past r l = (p : Run) (e : Event) → Within (p ▹ e) r → e .at ≡ s → Q (e .call) l
+
+    -- one more event d at the seat
+    one-more : (r : Run) (d : Event) (l : Ledger)
+        → ((p : Run) (e : Event) → Within (p ▹ e) r → e .at ≡ s → Q (e .call) l)
+        → (d .at ≡ s → Q (d .call) l)
+        → (p : Run) (e : Event) → Within (p ▹ e) (r ▹ d) → e .at ≡ s → Q (e .call) l
+    one-more r d l old new p e w at = go (last-or-sooner w)
+      where
+        go : ((p ≡ r) × (e ≡ d)) ⊎ Within (p ▹ e) r → Q (e .call) l
+        go (inl last) = rw (last .1) (new (sym (ap (λ (x : Event). x .at) (last .1)) ∙ at))
+        go (inr yet) = old p e yet at
+
+    pub past-calls : (r : Run) → Obeys o r → (p : Run) (e : Event) → Within (p ▹ e) r → e .at ≡ s → Q (e .call) (ledgerAt o s r)
+    unfolding Past
+    past-calls =
+        ledger-induction o s Past (λ p e w at. nothing-yet w)
+        (λ r d l other old. one-more r d l old (λ at. impossible (cc (other, seat-self s, at))))
+        (λ r b a q l old. one-more r _ l old (λ at. listed l b a q))
+        (λ r m q l is obeys h old.
+        one-more r _ (step l m .next) (λ p e w at. kept r m q l (e .call) is obeys h (old p e w at)) (λ at. made r m q l is obeys h))

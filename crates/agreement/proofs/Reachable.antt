@@ -76,7 +76,7 @@ pub record Sound (o : Opening) (l : Ledger) : Type 0 where
   pub each : (a : Account) → SoundEntry o a (entryOf l a)
 
 -- no ack is recorded
-no-acks : (s : Seat) → getD noAcks (s .0) (record { slot = Empty }) .slot ≡ Empty
+pub no-acks : (s : Seat) → getD noAcks (s .0) (record { slot = Empty }) .slot ≡ Empty
 unfolding noAcks
 no-acks s = ap (λ (a : AckSlot). a .slot) (all-same (record { slot = Empty }) 16 (s .0))
   where

@@ -67,4 +67,4 @@ pub told-slate : (o : Opening) (run p : Run) (e : Event) (a : Account) (b : ℕ)
 told-slate o run p e a b opens obeys w is =
     let l = ledgerAt o (e .at) p in
     let answer = happens l (Inquiry a) (Balance b) (rw is at (obeys-at o obeys w)) in
-    answer-balance l _ a b answer ∙ slated o opens (e .at) p (obeys-before o obeys (before w)) .balance-is a
+    answer-balance l _ (Inquiry a) (Balance b) a b refl refl answer ∙ slated o opens (e .at) p (obeys-before o obeys (before w)) .balance-is a

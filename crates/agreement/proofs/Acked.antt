@@ -6,16 +6,17 @@ use mathlib.Core.Logic.{_⊎_, inl, inr}
 use mathlib.Core.Bool.{Bool, true, false, _&&_}
 use mathlib.Core.List.{List}
 use mathlib.Core.Option.{some}
+use lib.ListN.{getD, List·getD-map}
 use borrow.Author.Tests.{eq-eqb, eqb-true}
 use Rattle.agreement.specs.Types.{Seat, Account, Transfer, Empty, Full, Entry, Ledger, Opening, Message, Circulated, Ack, Reply, Acknowledge, ListReply}
-use Rattle.agreement.specs.Runs.{Opens, honest, Call, message, waitingList, Event, Run, start, _▹_, Within, happened, throughout, sameSeat, ledgerAt, Obeys, acked, passes}
+use Rattle.agreement.specs.Runs.{Opens, honest, Call, message, waitingList, Event, Run, start, _▹_, Within, at-end, sooner, happened, throughout, sameSeat, ledgerAt, Obeys, acked, passes}
 use Rattle.agreement.specs.Premises.{implies, ackedBy, genuine}
 use Rattle.agreement.proofs.Places.{before, within-trans, nothing-yet, last-or-sooner, Order, same-event, earlier, later, order, happened-found, happened-holds, throughout-at, obeys-before, obeys-at, seat-is, seat-self, ledger-induction, past-calls}
 use Rattle.agreement.proofs.Deeds.{acked-is, passes-is}
 use Rattle.agreement.proofs.Reachable.{Group, group, SoundEntry, Sound, sound, no-acks, ack-read, free-place}
 use Rattle.agreement.proofs.Entries.{Puts, puts-mark, puts-ack, puts-accepted, puts-ruled, each-entry, Marks, answer-acknowledge, Records}
 use Rattle.model.specs.Basics.{bit}
-use Rattle.model.specs.Records.{seatOf, entryOf}
+use Rattle.model.specs.Records.{seatOf, freshEntry, entryOf}
 use Rattle.model.specs.Transfers.{equal}
 use Rattle.model.specs.Refusals.{ackFrom}
 use Rattle.model.specs.Openings.{openLedger}
@@ -76,3 +77,135 @@ module _ (o : Opening) (opens : Opens o) (s : Seat) where
       (λ r m q l is obeys h. just-reached l m q (sound-at r l is obeys) h)
       (λ r m q l c is obeys h yet t this.
       omega (arith, yet t this, rises o l (step l m .next) m q (group o opens) (sound-at r l is obeys) (happens l m q h) (t .account)))
+
+-- the call that acked a slip
+pub acked-by-found : (s : Seat) (t : Transfer) (r : Run) → ackedBy s t r ≡ true
+    → (p : Run) × (e : Event) × Within (p ▹ e) r × (e .at ≡ s) × (acked (e .call) ≡ some t)
+acked-by-found s t r h =
+    let found = happened-found (λ e. sameSeat (e .at) s && passes (equal t) (acked (e .call))) r h in
+    let e = found .1 in
+    let parts = both (sameSeat (e .at) s) (passes (equal t) (acked (e .call))) (found .3) in
+    let slip = passes-is (equal t) (acked (e .call)) (parts .1) in
+    (found .0, e, found .2, seat-is (e .at) s (parts .0), slip .1 ∙ ap some (sym (equal-sound t (slip .0) (slip .2))))
+
+-- what a seat has acked at a place, it has acked at each later one
+pub acked-by-later : (s : Seat) (t : Transfer) {p r : Run} → Within p r → ackedBy s t p ≡ true → ackedBy s t r ≡ true
+acked-by-later s t w h =
+    let test : Event → Bool = λ e. sameSeat (e .at) s && passes (equal t) (acked (e .call)) in
+    let found = happened-found test _ h in
+    happened-holds test (within-trans (found .2) w) (found .3)
+
+module _ (o : Opening) (opens : Opens o) (run : Run) (obeys : Obeys o run) where
+  -- a slip that is acked was not reached before
+  not-yet : (p : Run) (e : Event) (t : Transfer) → Within (p ▹ e) run → acked (e .call) ≡ some t
+      → reached (entryOf (ledgerAt o (e .at) p) (t .account)) < t .number
+  not-yet p e t w is =
+      let l = ledgerAt o (e .at) p in
+      let ok = sound o opens (e .at) p (obeys-before o obeys (before w)) in
+      let answer = happens l (Circulated t) Acknowledge (rw (acked-is (e .call) t is) at (obeys-at o obeys w)) in
+      let marks = answer-acknowledge o l _ (Circulated t) Acknowledge t (group o opens) ok refl refl answer in
+      omega (arith, marks .is-next, ap bit (marks .was-clear))
+
+  -- an earlier ack of the same number at the same seat cannot be
+  never-again : (p q : Run) (e d : Event) (t u : Transfer) → Within (q ▹ d) run → Within (p ▹ e) q → e .at ≡ d .at
+      → acked (e .call) ≡ some t → acked (d .call) ≡ some u → t .account ≡ u .account → t .number ≡ u .number → ⊥
+  unfolding Reached
+  never-again p q e d t u w first seat ist isu account number =
+      let past = all-reached o opens (d .at) q (obeys-before o obeys (before w)) p e first seat t ist in
+      omega (arith, not-yet q d u w isu, rw account at past)
+
+  -- a seat acks at most one slip per account and number
+  pub acked-once : (p q : Run) (e d : Event) (t u : Transfer) → Within (p ▹ e) run → Within (q ▹ d) run → e .at ≡ d .at
+      → acked (e .call) ≡ some t → acked (d .call) ≡ some u → t .account ≡ u .account → t .number ≡ u .number → t ≡ u
+  acked-once p q e d t u w v seat ist isu account number = go (order run w v)
+    where
+      go : Order p q e d → t ≡ u
+      go (same-event place event) = let both : some t ≡ some u = sym ist ∙ (ap (λ (x : Event). acked (x .call)) event ∙ isu) in cc
+      go (earlier first) = absurd (never-again p q e d t u v first seat ist isu account number)
+      go (later first) = absurd (never-again q p d e u t w first (sym seat) isu ist (sym account) (sym number))
+
+  pub acked-by-once : (s : Seat) (t u : Transfer) → ackedBy s t run ≡ true → ackedBy s u run ≡ true
+      → t .account ≡ u .account → t .number ≡ u .number → t ≡ u
+  acked-by-once s t u ht hu account number =
+      let one = acked-by-found s t run ht in
+      let two = acked-by-found s u run hu in
+      acked-once (one .0) (two .0) (one .1) (two .1) t u (one .2) (two .2) (one .3 ∙ sym (two .3)) (one .4) (two .4) account number
+
+-- Where acks are genuine, the acks that an entry holds from honest seats are slips that these acked, in this run.
+abbrev pub FromSenders : Opening → (Seat → Bool) → Run → Entry → Type 0
+FromSenders o bad r e = (i : Seat) (t : Transfer) → ackFrom e i ≡ Full t → honest o bad i ≡ true → ackedBy i t r ≡ true
+
+module _ (o : Opening) (bad : Seat → Bool) (opens : Opens o) where
+  -- of an entry with one more ack
+  recorded-from : (r : Run) (l : Ledger) (s : Seat) (t : Transfer) → Sound o l → Eligible l t → Recordable l s t
+      → (honest o bad s ≡ true → ackedBy s t r ≡ true)
+      → FromSenders o bad r (entryOf l (t .account)) → FromSenders o bad r (entryWithAck l s t)
+  recorded-from r l s t ok fit new genuinely old i u h fair =
+      go
+      (ack-read o (t .account) (entryOf l (t .account)) s t (group o opens .seats-fit) (ok .each (t .account)) refl (fit .is-next)
+      (rw (← ok .seats-same) (new .seat-known)) (free-place o l s t ok fit new) i u h)
+    where
+      go : ((i ≡ s) × (u ≡ t)) ⊎ (ackFrom (entryOf l (t .account)) i ≡ Full u) → ackedBy i u r ≡ true
+      go (inl this) = rw (this .0, this .1) (genuinely (rw (this .0) at fair))
+      go (inr before) = old i u before fair
+
+  -- the premise, at an ack
+  from-premise : (r : Run) (s : Seat) (t : Transfer) (b : Bool) → honest o bad s ≡ b → implies b (ackedBy s t r) ≡ true
+      → honest o bad s ≡ true → ackedBy s t r ≡ true
+  from-premise r s t true is h fair = h
+  from-premise r s t false is h fair = impossible (cc)
+
+  genuine-ack : (r : Run) (m : Message) (q : Reply) (s : Seat) (t : Transfer) → m ≡ Ack s t → genuine o bad r (message m q) ≡ true
+      → honest o bad s ≡ true → ackedBy s t r ≡ true
+  genuine-ack r m q s t kind h =
+      from-premise r s t (honest o bad s) refl (let this : genuine o bad r (message (Ack s t) q) ≡ true = rw kind at h in this)
+
+  -- one call keeps it
+  step-from : (r : Run) (l next : Ledger) (m : Message) (q : Reply) → Sound o l → genuine o bad r (message m q) ≡ true → Happens l m q next
+      → ((a : Account) → FromSenders o bad r (entryOf l a)) → (a : Account) → FromSenders o bad r (entryOf next a)
+  step-from r l next m q ok fair h old =
+      each-entry o l next m q (group o opens) ok (λ a x. FromSenders o bad r x)
+      (λ a e e′ same was i t at. was i t (ap (λ (x : Entry). ackFrom x i) (sym same) ∙ at))
+      (λ a e e′ t stands waits clear was i u at. impossible (cc (rw (clear .no-acks) at at, no-acks i)))
+      old puts h
+    where
+      puts : (t : Transfer) (x : Entry) → Puts l m q t x → FromSenders o bad r x
+      puts t x (puts-mark e f fit is) = rw is (old (t .account))
+      puts t x (puts-ack s e fit new (inl is)) = rw is (recorded-from r l s t ok fit new (genuine-ack r m q s t e fair) (old (t .account)))
+      puts t x (puts-ack s e fit new (inr is)) = rw is (recorded-from r l s t ok fit new (genuine-ack r m q s t e fair) (old (t .account)))
+      puts t x (puts-accepted s c e f fit new full is) =
+          rw is (recorded-from r l s t ok fit new (genuine-ack r m q s t e fair) (old (t .account)))
+      puts t x (puts-ruled c e f fit is) = rw is (old (t .account))
+
+  -- at every place of a run whose acks are genuine
+  pub all-from : (run : Run) → throughout (λ before e. genuine o bad before (e .call)) run ≡ true → (s : Seat) (r : Run) → Obeys o r → Within r run
+      → (a : Account) → FromSenders o bad r (entryOf (ledgerAt o s r) a)
+  all-from run fair s =
+      ledger-induction o s (λ r l. Within r run → (a : Account) → FromSenders o bad r (entryOf l a))
+      (λ w a i t h honestly. impossible (cc (h, ap (λ (e : Entry). ackFrom e i) (opened a), no-acks i)))
+      (λ r e l other old w a. more r e (entryOf l a) (old (before w) a))
+      (λ r b a q l old w c. more r (record { at = s; call = waitingList b q a }) (entryOf l c) (old (before w) c))
+      (λ r m q l is obeys h old w a.
+      let ok : Sound o l = rw is (sound o opens s r obeys) in
+      more r (record { at = s; call = message m q }) (entryOf (step l m .next) a)
+      (step-from r l (step l m .next) m q ok (throughout-at (λ p e. genuine o bad p (e .call)) fair w) (happens l m q h) (old (before w)) a))
+    where
+      opened : (a : Account) → entryOf (openLedger o .ledger) a ≡ freshEntry (getD (o .balances) (a .0) 0)
+      opened a = rw (group o opens .opened) (List·getD-map freshEntry (o .balances) (a .0) 0)
+
+      more : (r : Run) (d : Event) (e : Entry) → FromSenders o bad r e → FromSenders o bad (r ▹ d) e
+      more r d e old i t h honestly = acked-by-later i t {p = r} {r = r ▹ d} (sooner at-end) (old i t h honestly)
+
+  -- and of the acks as they are during a call: the new one recorded, and nothing cleared yet
+  pub call-from : (run : Run) → throughout (λ before e. genuine o bad before (e .call)) run ≡ true → Obeys o run
+      → (p : Run) (e : Event) (m : Message) (q : Reply) (s : Seat) (t : Transfer) → Within (p ▹ e) run → e .call ≡ message m q → m ≡ Ack s t
+      → Records (ledgerAt o (e .at) p) s t
+      → FromSenders o bad run (entryWithAck (ledgerAt o (e .at) p) s t)
+  call-from run fair obeys p e m q s t w call kind new i u h honestly =
+      let here = obeys-before o obeys (before w) in
+      let ok = sound o opens (e .at) p here in
+      let fairly : genuine o bad p (message m q) ≡ true = rw call at (throughout-at (λ p e. genuine o bad p (e .call)) fair w) in
+      let held =
+          recorded-from p (ledgerAt o (e .at) p) s t ok (new .eligible) (new .recordable) (genuine-ack p m q s t kind fairly)
+          (all-from run fair (e .at) p here (before w) (t .account)) in
+      acked-by-later i u (before w) (held i u h honestly)

@@ -7,3 +7,4 @@ pub mod SlateSettles
 pub mod Slated
 pub mod Counting
 pub mod Acked
+pub mod Votes

@@ -1,0 +1,184 @@
+-- The acks that K and P rest on, as votes of the seats: how they are counted, and that two tallies of one number agree off the bad seats.
+use Prim.Native.Nat.{ℕ, zero, suc, _+_, _-_, _*_, _≤_, _<_}
+use native.Mathlib.Decide.{decLe}
+use native.Mathlib.Omega.{arith}
+use mathlib.Core.Path.{_≡_, refl, ap, sym, _∙_}
+use mathlib.Core.Logic.{_⊎_, inl, inr}
+use mathlib.Core.Bool.{Bool, true, false, not, _&&_}
+use mathlib.Core.List.{List}
+use lib.Dec.{leb}
+use lib.ListN.{length, getD}
+use borrow.Author.Tests.{leb-true, ltb-true, lt-ltb}
+use Rattle.agreement.specs.Types.{Seat, Account, Transfer, Slot, Empty, Full, AckSlot, Entry, Ledger, Opening, Message, Ack}
+use Rattle.agreement.specs.Runs.{Opens, countBelow, FewBad, honest, Event, Run, _▹_, Within, throughout, ledgerAt, Obeys}
+use Rattle.agreement.specs.Premises.{genuine}
+use Rattle.agreement.proofs.Counting.{count-places, count-more, two-quorums, quorum-most}
+use Rattle.agreement.proofs.Reachable.{Group, group, Sound, accepted-entry, ack-counted, free-place}
+use Rattle.agreement.proofs.Entries.{Records, Proposes}
+use Rattle.agreement.proofs.Acked.{FromSenders, acked-by-once}
+use Rattle.model.specs.Basics.{bit, count}
+use Rattle.model.specs.Records.{seatOf, entryOf}
+use Rattle.model.specs.Transfers.{equal}
+use Rattle.model.specs.Acks.{holds, isFull, acksFor, acksRecorded, enough, twoConflict}
+use Rattle.model.specs.Refusals.{ackFrom}
+use Rattle.model.specs.Calls.{mustPropose, entryWithAck}
+use Rattle.model.proofs.Sums.{impossible, both}
+use Rattle.model.proofs.Equality.{equal-sound, equal-refl}
+use Rattle.model.proofs.Tallies.{most-sound}
+
+-- the vote of each seat in an entry
+abbrev pub vote : Entry → ℕ → Slot
+vote x i = ackFrom x (seatOf i)
+
+-- The acks of one account and number: one place per seat, filled only for seats of the group, and honest seats' acks are their own.
+pub record Tally (o : Opening) (bad : Seat → Bool) (run : Run) (a : Account) (m : ℕ) (x : Entry) : Type 0 where
+  pub size : length (x .acks) ≡ 16
+  pub stands : (s : Seat) (u : Transfer) → ackFrom x s ≡ Full u → (s .0 < o .seats) × (u .account ≡ a) × (u .number ≡ m)
+  pub from : FromSenders o bad run x
+
+module _ (o : Opening) (bad : Seat → Bool) (run : Run) (opens : Opens o) where
+  same-tally : (a b : Account) (m k : ℕ) (x : Entry) → a ≡ b → m ≡ k → Tally o bad run a m x → Tally o bad run b k x
+  same-tally a b m k x account number tally = rw (← account, ← number) tally
+
+  -- what K and P rest on is such a tally
+  pub tally-of : (l : Ledger) (s : Seat) (t : Transfer) → Sound o l → Records l s t → FromSenders o bad run (entryWithAck l s t)
+      → Tally o bad run (t .account) (t .number) (entryWithAck l s t)
+  tally-of l s t ok new from =
+      let entry = accepted-entry o l t (group o opens) ok (new .eligible) s (new .recordable) in
+      record {
+        size = entry .acks-size;
+        stands = λ z u h.
+            let stand = entry .acks-stand z u h in
+            (stand .0, stand .1, stand .2 ∙ sym (new .eligible .is-next));
+        from = from;
+      }
+
+  -- counting the acks is counting the votes of the n seats
+  module _ (a : Account) (m : ℕ) (x : Entry) (tally : Tally o bad run a m x) where
+    unheard : (test : Slot → Bool) → test Empty ≡ false → (i : ℕ) → o .seats ≤ i → test (vote x i) ≡ false
+    unheard test none i above = go (vote x i) refl
+      where
+        go : (s : Slot) → vote x i ≡ s → test s ≡ false
+        go Empty h = none
+        go (Full u) h = absurd (omega (arith, tally .stands (seatOf i) u h .0))
+
+    pub votes-counted : (test : Slot → Bool) → test Empty ≡ false
+        → count (λ (k : AckSlot). test (k .slot)) (x .acks) ≡ countBelow (λ i. test (vote x i)) (o .seats)
+    votes-counted test none =
+        sym (count-places (λ (k : AckSlot). test (k .slot)) (x .acks) (record { slot = Empty }))
+        ∙ (ap (countBelow (λ i. test (vote x i))) (tally .size)
+        ∙ count-more (λ i. test (vote x i)) (o .seats) 16 (group o opens .seats-fit) (unheard test none))
+
+  -- two tallies of one account and number agree off the bad seats
+  pub votes-agree : Obeys o run → (a : Account) (m : ℕ) (x y : Entry) → Tally o bad run a m x → Tally o bad run a m y
+      → (i : ℕ) (t u : Transfer) → i < o .seats → bad (seatOf i) ≡ false → vote x i ≡ Full t → vote y i ≡ Full u → t ≡ u
+  votes-agree obeys a m x y first second i t u below fair ht hu =
+      let honestly : honest o bad (seatOf i) ≡ true = rw (lt-ltb i (o .seats) below, fair) in
+      let one = first .stands (seatOf i) t ht in
+      let two = second .stands (seatOf i) u hu in
+      acked-by-once o opens run obeys (seatOf i) t u (first .from (seatOf i) t ht honestly) (second .from (seatOf i) u hu honestly)
+      (one .1 ∙ sym (two .1)) (one .2 ∙ sym (two .2))
+
+-- a count that is not 0 counts some number
+some-counted : (p : ℕ → Bool) (n : ℕ) → 1 ≤ countBelow p n → (i : ℕ) × (p i ≡ true)
+some-counted p zero h = absurd (omega arith)
+some-counted p (suc n) h = go (p n) refl (some-counted p n)
+  where
+    go : (b : Bool) → p n ≡ b → (1 ≤ countBelow p n → (i : ℕ) × (p i ≡ true)) → (i : ℕ) × (p i ≡ true)
+    go true e rest = (n, e)
+    go false e rest = rest (omega (arith, ap bit e))
+
+-- More than (n + 3f)/2 votes for a slip.
+pub record Quorum (o : Opening) (bad : Seat → Bool) (run : Run) (t : Transfer) : Type 0 where
+  pub entry : Entry
+  pub tally : Tally o bad run (t .account) (t .number) entry
+  pub many : o .seats + 3 * o .faults < 2 * countBelow (λ i. holds t (vote entry i)) (o .seats)
+
+-- At least n - f votes, of which no slip has more than this one.
+pub record Majority (o : Opening) (bad : Seat → Bool) (run : Run) (u : Transfer) : Type 0 where
+  pub entry : Entry
+  pub tally : Tally o bad run (u .account) (u .number) entry
+  pub recorded : o .seats ≤ countBelow (λ i. isFull (vote entry i)) (o .seats) + o .faults
+  pub most : (t : Transfer) → countBelow (λ i. holds t (vote entry i)) (o .seats) ≤ countBelow (λ i. holds u (vote entry i)) (o .seats)
+
+module _ (o : Opening) (bad : Seat → Bool) (run : Run) (opens : Opens o) (few : FewBad o bad) (obeys : Obeys o run) where
+  -- two slips with quorums for one account and number are equal
+  pub quorums-agree : (t u : Transfer) → Quorum o bad run t → Quorum o bad run u → t .account ≡ u .account → t .number ≡ u .number → t ≡ u
+  quorums-agree t u first second account number =
+      let one = same-tally o bad run opens _ _ _ _ (first .entry) account number (first .tally) in
+      two-quorums (λ i. bad (seatOf i)) (o .seats) (o .faults) (vote (first .entry)) (vote (second .entry)) few
+      (votes-agree o bad run opens obeys (u .account) (u .number) (first .entry) (second .entry) one (second .tally))
+      t u (first .many) (second .many)
+
+  -- a slip with a quorum is the one that is put forward
+  pub quorum-proposed : (t u : Transfer) → Quorum o bad run t → Majority o bad run u → t .account ≡ u .account → t .number ≡ u .number → t ≡ u
+  quorum-proposed t u first second account number =
+      let one = same-tally o bad run opens _ _ _ _ (first .entry) account number (first .tally) in
+      quorum-most (λ i. bad (seatOf i)) (o .seats) (o .faults) (vote (first .entry)) (vote (second .entry)) few
+      (votes-agree o bad run opens obeys (u .account) (u .number) (first .entry) (second .entry) one (second .tally))
+      t u (first .many) (second .recorded) (second .most t)
+
+-- K rests on a quorum, and P on a majority
+module _ (o : Opening) (bad : Seat → Bool) (run : Run) (opens : Opens o) (l : Ledger) (ok : Sound o l) where
+  pub accept-quorum : (s : Seat) (t : Transfer) → Records l s t → FromSenders o bad run (entryWithAck l s t)
+      → enough (l .seats) (l .faults) (acksFor t (entryWithAck l s t .acks)) ≡ true → Quorum o bad run t
+  accept-quorum s t new from full =
+      let tally = tally-of o bad run opens l s t ok new from in
+      let counted = votes-counted o bad run opens (t .account) (t .number) (entryWithAck l s t) tally (holds t) refl in
+      let many = ltb-true (l .seats + 3 * l .faults) (2 * acksFor t (entryWithAck l s t .acks)) full in
+      record { entry = entryWithAck l s t; tally = tally; many = omega (arith, rw (ok .seats-same, ok .faults-same) at many) }
+
+  pub propose-majority : (m : Message) (u : Transfer) (p : Proposes l m u) → FromSenders o bad run (entryWithAck l (p .sender) (p .slip))
+      → Majority o bad run u
+  propose-majority m u p from =
+      record {
+        entry = x;
+        tally = same-tally o bad run opens _ _ _ _ x (sym (found .0)) (sym (found .1)) tally;
+        recorded = omega (arith, counted isFull refl, enough-recorded);
+        most = λ v. omega (arith, counted (holds v) refl, counted (holds u) refl, most-sound (x .acks) u (p .most) v);
+      }
+    where
+      t : Transfer
+      t = p .slip
+
+      x : Entry
+      x = entryWithAck l (p .sender) t
+
+      tally : Tally o bad run (t .account) (t .number) x
+      tally = tally-of o bad run opens l (p .sender) t ok (p .records) from
+
+      counted : (test : Slot → Bool) → test Empty ≡ false
+          → count (λ (k : AckSlot). test (k .slot)) (x .acks) ≡ countBelow (λ i. test (vote x i)) (o .seats)
+      counted = votes-counted o bad run opens (t .account) (t .number) x tally
+
+      -- "at least n - f seats' acks are recorded"
+      enough-recorded : o .seats ≤ acksRecorded (x .acks) + o .faults
+      enough-recorded =
+          let split = twoConflict (x .acks) in
+          let first = leb (l .seats - l .faults) (acksRecorded (x .acks)) in
+          let parts = both (first && split) (not (x .proposed)) (p .must) in
+          let least = leb-true (l .seats - l .faults) (acksRecorded (x .acks)) (both first split (parts .0) .0) in
+          omega (arith, ok .seats-same, ok .faults-same)
+
+      -- the ack of this call is one, so the slip with the most has one
+      has-one : 1 ≤ acksFor u (x .acks)
+      has-one =
+          let fit = p .records .eligible in
+          let new = p .records .recordable in
+          let more =
+              ack-counted o (t .account) (entryOf l (t .account)) (p .sender) t (group o opens .seats-fit) (ok .each (t .account)) refl
+              (fit .is-next) (rw (← ok .seats-same) (new .seat-known)) (free-place o l (p .sender) t ok fit new) t in
+          omega (arith, rw (equal-refl t) at more, most-sound (x .acks) u (p .most) t)
+
+      -- and its account and number are the tally's
+      found : (u .account ≡ t .account) × (u .number ≡ t .number)
+      found =
+          let one = some-counted (λ i. holds u (vote x i)) (o .seats) (omega (arith, has-one, counted (holds u) refl)) in
+          go (one .0) (vote x (one .0)) refl (one .1)
+        where
+          go : (i : ℕ) (s : Slot) → vote x i ≡ s → holds u s ≡ true → (u .account ≡ t .account) × (u .number ≡ t .number)
+          go i Empty h e = impossible (cc)
+          go i (Full v) h e =
+              let stands = tally .stands (seatOf i) v h in
+              let same = equal-sound v u e in
+              (ap (λ (w : Transfer). w .account) (sym same) ∙ stands .1, ap (λ (w : Transfer). w .number) (sym same) ∙ stands .2)

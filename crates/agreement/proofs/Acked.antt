@@ -206,6 +206,6 @@ module _ (o : Opening) (bad : Seat → Bool) (opens : Opens o) where
       let ok = sound o opens (e .at) p here in
       let fairly : genuine o bad p (message m q) ≡ true = rw call at (throughout-at (λ p e. genuine o bad p (e .call)) fair w) in
       let held =
-          recorded-from p (ledgerAt o (e .at) p) s t ok (new .eligible) (new .recordable) (genuine-ack p m q s t kind fairly)
-          (all-from run fair (e .at) p here (before w) (t .account)) in
+      recorded-from p (ledgerAt o (e .at) p) s t ok (new .eligible) (new .recordable) (genuine-ack p m q s t kind fairly)
+      (all-from run fair (e .at) p here (before w) (t .account)) in
       acked-by-later i u (before w) (held i u h honestly)

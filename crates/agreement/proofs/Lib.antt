@@ -8,3 +8,4 @@ pub mod Slated
 pub mod Counting
 pub mod Acked
 pub mod Votes
+pub mod Agree

@@ -38,7 +38,7 @@ turn-matches o l next m r s g ok (accepts t this done) match =
     let es = setEntry (l .entries) (t .account) (withPending (done .entry) t) in
     let waits = done .waits-soundly in
     let joined =
-        join-matches (l .entries) s (done .entry) t (done .fits .inside) (done .fits .none-waits) (done .same-balance) (done .same-current) match in
+    join-matches (l .entries) s (done .entry) t (done .fits .inside) (done .fits .none-waits) (done .same-balance) (done .same-current) match in
     rw (this, done .entries-are)
     (settle-matches es (join s t) (bounded o (withEntry l (t .account) (withPending (done .entry) t)) g waits)
     (λ a u h. waits .each a .pending-stands u h .1)

@@ -166,8 +166,8 @@ module _ (o : Opening) (bad : Seat → Bool) (run : Run) (opens : Opens o) (l : 
           let fit = p .records .eligible in
           let new = p .records .recordable in
           let more =
-              ack-counted o (t .account) (entryOf l (t .account)) (p .sender) t (group o opens .seats-fit) (ok .each (t .account)) refl
-              (fit .is-next) (rw (← ok .seats-same) (new .seat-known)) (free-place o l (p .sender) t ok fit new) t in
+          ack-counted o (t .account) (entryOf l (t .account)) (p .sender) t (group o opens .seats-fit) (ok .each (t .account)) refl
+          (fit .is-next) (rw (← ok .seats-same) (new .seat-known)) (free-place o l (p .sender) t ok fit new) t in
           omega (arith, rw (equal-refl t) at more, most-sound (x .acks) u (p .most) t)
 
       -- and its account and number are the tally's

@@ -1,1 +1,2 @@
 -- Demand 3, proved.
+pub mod Examples

@@ -9,3 +9,4 @@ pub mod Counting
 pub mod Acked
 pub mod Votes
 pub mod Agree
+pub mod Examples

@@ -9,4 +9,5 @@ pub mod Counting
 pub mod Acked
 pub mod Votes
 pub mod Agree
+pub mod Counts
 pub mod Examples

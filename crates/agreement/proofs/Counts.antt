@@ -1,0 +1,138 @@
+-- The third point of demand 3: counts determine balances. What an account has, and has paid for its numbers up to its count, is what
+-- it opened with and what the numbers of all accounts up to their counts brought it; and by agreement one slip answers to each number.
+use Prim.Native.Nat.{ℕ, zero, suc, _+_, _≤_, _<_}
+use native.Mathlib.Decide.{ℕ-discrete}
+use native.Mathlib.Omega.{arith}
+use mathlib.Core.Path.{_≡_, refl, ap, sym, _∙_}
+use mathlib.Core.Logic.{_≢_, _⊎_, inl, inr}
+use mathlib.Core.Bool.{Bool, true, false, cond}
+use mathlib.Core.List.{List}
+use mathlib.Core.Option.{Option, none, some}
+use lib.ListN.{length, getD, List·getD-map}
+use borrow.Author.Tests.{eq-eqb, ne-eqb}
+use Rattle.agreement.specs.Types.{Seat, Account, Transfer, Slot, Empty, Full, Entry, Ledger, Opening, Message, Reply}
+use Rattle.agreement.specs.Runs.{Opens, message, Event, Run, start, _▹_, Within, ledgerAt, Obeys, accepted}
+use Rattle.agreement.proofs.Places.{before, ledger-induction}
+use Rattle.agreement.proofs.Reachable.{Group, group, Sound, bounded, sound}
+use Rattle.agreement.proofs.Entries.{Turn, keeps, accepts, Accepting, turn, SameState, Puts, puts-mark, puts-ack, puts-accepted, puts-ruled, each-entry}
+use Rattle.model.specs.Records.{accountOf, freshEntry, withPending, entryAt, setEntry, withEntry, entryOf}
+use Rattle.model.specs.Openings.{openLedger}
+use Rattle.model.specs.Settling.{apply, settle}
+use Rattle.model.specs.Calls.{step}
+use Rattle.model.proofs.Sums.{impossible}
+use Rattle.model.proofs.Access.{set-each, same-account}
+use Rattle.model.proofs.Booking.{Affordable, share, apply-clears, apply-others, apply-balance, apply-length}
+use Rattle.model.proofs.Settles.{Bounded, NextWaits, settle-induction, waited, apply-bounded, apply-next}
+use Rattle.model.proofs.Steps.{happens}
+
+-- the sum of f over the numbers below n, and over the numbers from 1 to n
+abbrev below : (ℕ → ℕ) → ℕ → ℕ
+below f zero = 0
+below f (suc n) = f n + below f n
+
+abbrev upTo : (ℕ → ℕ) → ℕ → ℕ
+upTo f zero = 0
+upTo f (suc n) = f (suc n) + upTo f n
+
+below-same : (f g : ℕ → ℕ) (n : ℕ) → ((i : ℕ) → i < n → g i ≡ f i) → below g n ≡ below f n
+below-same f g zero h = refl
+below-same f g (suc n) h = omega (arith, h n (omega arith), below-same f g n (λ i lower. h i (omega arith)))
+
+-- one number of the sum changes
+below-change : (f g : ℕ → ℕ) (n a : ℕ) → a < n → ((i : ℕ) → i ≢ a → g i ≡ f i) → below g n + f a ≡ below f n + g a
+below-change f g zero a lower h = absurd (omega arith)
+below-change f g (suc n) a lower h = go (ℕ-discrete n a) (below-change f g n a)
+  where
+    go : Dec (n ≡ a) → (a < n → ((i : ℕ) → i ≢ a → g i ≡ f i) → below g n + f a ≡ below f n + g a)
+        → below g (suc n) + f a ≡ below f (suc n) + g a
+    go (yes same) rest =
+        let others = below-same f g n (λ i lower. h i (λ is. absurd (omega arith))) in
+        rw (← same) (omega arith)
+    go (no other) rest = omega (arith, h n other, rest (omega arith) h)
+
+-- what a slip takes, and what it brings to account b; nothing where there is none
+abbrev taken : Option Transfer → ℕ
+taken none = 0
+taken (some t) = t .value
+
+abbrev brought : Account → Option Transfer → ℕ
+brought b none = 0
+brought b (some t) = share b (t .recipient) (t .value)
+
+-- Given the slip of each account and number.
+module _ (slipOf : Account → ℕ → Option Transfer) (o : Opening) where
+  -- what account b paid for its first c numbers
+  paid : Account → ℕ → ℕ
+  paid b c = upTo (λ m. taken (slipOf b m)) c
+
+  -- what the first c numbers of account a brought to account b
+  broughtBy : Account → Account → ℕ → ℕ
+  broughtBy b a c = upTo (λ m. brought b (slipOf a m)) c
+
+  -- .. and of all accounts, each up to its count
+  received : Account → (Account → ℕ) → ℕ
+  received b counts = below (λ i. broughtBy b (accountOf i) (counts (accountOf i))) (length (o .balances))
+
+  -- The entries' waiting slips are the slips of their numbers, and the entries balance.
+  record Balanced (es : List Entry) : Type 0 where
+    waits-are : (a : Account) (t : Transfer) → entryAt es a .pending ≡ Full t → slipOf a (t .number) ≡ some t
+    equation : (b : Account)
+        → entryAt es b .balance + paid b (entryAt es b .current)
+        ≡ getD (o .balances) (b .0) 0 + received b (λ a. entryAt es a .current)
+
+  -- one slip is booked
+  module _ (es : List Entry) (a : Account) (at : Affordable es a)
+      (fits : Bounded es) (next : NextWaits es) (size : length es ≡ length (o .balances)) (bal : Balanced es)
+    where
+      abbrev t : Transfer
+      t = at .transfer
+
+      number : suc (entryAt es a .current) ≡ t .number
+      number = omega (arith, next a t (at .waits))
+
+      this : slipOf a (suc (entryAt es a .current)) ≡ some t
+      this = ap (slipOf a) number ∙ bal .waits-are a t (at .waits)
+
+      current-here : entryAt (apply es a) a .current ≡ suc (entryAt es a .current)
+      current-here = omega (arith, apply-clears es a at .current-is, next a t (at .waits))
+
+      current-there : (b : Account) → b .0 ≢ a .0 → entryAt (apply es a) b .current ≡ entryAt es b .current
+      current-there b other = ap (λ (e : Entry). e .current) (apply-others es a at b other)
+
+      paid-more : (b : Account) → paid b (entryAt (apply es a) b .current) ≡ paid b (entryAt es b .current) + share b a (t .value)
+      unfolding paid
+      paid-more b = go (ℕ-discrete (b .0) (a .0))
+        where
+          go : Dec (b .0 ≡ a .0) → paid b (entryAt (apply es a) b .current) ≡ paid b (entryAt es b .current) + share b a (t .value)
+          go (yes same) =
+              rw (eq-eqb (b .0) (a .0) same, same-account b a same, current-here, this) (omega arith)
+          go (no other) = rw (ne-eqb (b .0) (a .0) other, current-there b other) (omega arith)
+
+      received-more : (b : Account)
+          → received b (λ c. entryAt (apply es a) c .current) ≡ received b (λ c. entryAt es c .current) + share b (t .recipient) (t .value)
+      unfolding received broughtBy
+      received-more b =
+          let f : ℕ → ℕ = λ i. broughtBy b (accountOf i) (entryAt es (accountOf i) .current) in
+          let g : ℕ → ℕ = λ i. broughtBy b (accountOf i) (entryAt (apply es a) (accountOf i) .current) in
+          let change = below-change f g (length (o .balances)) (a .0) (omega (arith, at .inside)) (λ i other. ap (broughtBy b (accountOf i)) (current-there (accountOf i) other)) in
+          let more : g (a .0) ≡ f (a .0) + share b (t .recipient) (t .value) = rw (current-here, this) (omega arith) in
+          omega arith
+
+      apply-balanced : Balanced (apply es a)
+      apply-balanced =
+          record {
+            waits-are = λ c u h. bal .waits-are c u (waited es a at c u h .1);
+            equation = λ b.
+                let moved = apply-balance es a at b (fits .recipients a (at .transfer) (at .waits)) (fits .sum-fits) in
+                omega (arith, bal .equation b, paid-more b, received-more b);
+          }
+
+  -- settling keeps the entries balanced
+  settle-balanced : (es : List Entry) → Bounded es → NextWaits es → length es ≡ length (o .balances) → Balanced es → Balanced (settle es .entries)
+  settle-balanced =
+      settle-induction (λ es s. Bounded es → NextWaits es → length es ≡ length (o .balances) → Balanced es → Balanced (s .entries))
+      (λ es e fits next size bal. bal)
+      (λ es a at rest fits next size bal.
+      let once = at .affords-it in
+      rest (apply-bounded es a once fits .1) (apply-next es a once next) (apply-length es a once ∙ size)
+      (apply-balanced es a once fits next size bal))

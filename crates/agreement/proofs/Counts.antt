@@ -15,7 +15,7 @@ use Rattle.agreement.specs.Runs.{Opens, message, Event, Run, start, _▹
 use Rattle.agreement.proofs.Places.{before, ledger-induction}
 use Rattle.agreement.proofs.Reachable.{Group, group, Sound, bounded, sound}
 use Rattle.agreement.proofs.Entries.{Turn, keeps, accepts, Accepting, turn, SameState, Puts, puts-mark, puts-ack, puts-accepted, puts-ruled, each-entry}
-use Rattle.model.specs.Records.{accountOf, freshEntry, withPending, entryAt, setEntry, withEntry, entryOf}
+use Rattle.model.specs.Records.{accountOf, freshEntry, freshLedger, withPending, entryAt, setEntry, withEntry, entryOf}
 use Rattle.model.specs.Openings.{openLedger}
 use Rattle.model.specs.Settling.{apply, settle}
 use Rattle.model.specs.Calls.{step}
@@ -136,3 +136,75 @@ module _ (slipOf : Account → ℕ → Option Transfer) (o : Opening) where
       let once = at .affords-it in
       rest (apply-bounded es a once fits .1) (apply-next es a once next) (apply-length es a once ∙ size)
       (apply-balanced es a once fits next size bal))
+
+  -- entries with the same balances and current numbers, whose waiting slips are the slips of their numbers
+  restated : (es es′ : List Entry)
+      → ((a : Account) → (entryAt es′ a .balance ≡ entryAt es a .balance) × (entryAt es′ a .current ≡ entryAt es a .current))
+      → ((a : Account) (t : Transfer) → entryAt es′ a .pending ≡ Full t → slipOf a (t .number) ≡ some t)
+      → Balanced es → Balanced es′
+  unfolding received
+  restated es es′ same waits bal =
+      record {
+        waits-are = waits;
+        equation = λ b.
+            let numbers =
+                below-same (λ i. broughtBy b (accountOf i) (entryAt es (accountOf i) .current)) (λ i. broughtBy b (accountOf i) (entryAt es′ (accountOf i) .current)) (length (o .balances))
+                (λ i lower. ap (broughtBy b (accountOf i)) (same (accountOf i) .1)) in
+            omega (arith, bal .equation b, same b .0, ap (paid b) (same b .1));
+      }
+
+  -- a just opened ledger is balanced
+  opened-balanced : Opens o → Balanced (openLedger o .ledger .entries)
+  unfolding paid received broughtBy
+  opened-balanced opens =
+      rw (group o opens .opened)
+      (record {
+        waits-are = λ a t h. impossible (cc (h, ap (λ (e : Entry). e .pending) (read a)));
+        equation = λ b.
+            let nothing = below-same (λ i. 0) (λ i. broughtBy b (accountOf i) (entryOf (freshLedger o) (accountOf i) .current)) (length (o .balances))
+                (λ i lower. rw (read (accountOf i)) refl) in
+            rw (read b) (omega (arith, all-zero (length (o .balances))));
+      })
+    where
+      read : (a : Account) → entryOf (freshLedger o) a ≡ freshEntry (getD (o .balances) (a .0) 0)
+      read a = List·getD-map freshEntry (o .balances) (a .0) 0
+
+      all-zero : (n : ℕ) → below (λ i. 0) n ≡ 0
+      all-zero zero = refl
+      all-zero (suc n) = omega (arith, all-zero n)
+
+  -- a call keeps the entries balanced, if an accepted slip is the slip of its number
+  turn-balanced : (l next : Ledger) (m : Message) (r : Reply) → Opens o → Sound o l → Turn o l m r next
+      → ((t : Transfer) → accepted (message m r) ≡ some t → slipOf (t .account) (t .number) ≡ some t)
+      → Balanced (l .entries) → Balanced (next .entries)
+  turn-balanced l next m r opens ok (keeps same none-accepted) slips bal =
+      restated (l .entries) (next .entries) (λ a. (same a .0, same a .1))
+      (λ a t h. bal .waits-are a t (sym (same a .2) ∙ h)) bal
+  turn-balanced l next m r opens ok (accepts t this done) slips bal =
+      let g = group o opens in
+      let joined = setEntry (l .entries) (t .account) (withPending (done .entry) t) in
+      let waits = done .waits-soundly in
+      let states =
+          set-each (λ a x. (x .balance ≡ entryOf l a .balance) × (x .current ≡ entryOf l a .current)) (l .entries) (t .account)
+          (withPending (done .entry) t) (done .same-balance, done .same-current) (λ a. (refl, refl)) in
+      let pending =
+          set-each (λ a x. (u : Transfer) → x .pending ≡ Full u → slipOf a (u .number) ≡ some u) (l .entries) (t .account)
+          (withPending (done .entry) t) (λ u h. let same : t ≡ u = cc in rw (← same) (slips t this)) (bal .waits-are) in
+      rw (done .entries-are)
+      (settle-balanced joined (bounded o (withEntry l (t .account) (withPending (done .entry) t)) g waits)
+      (λ a u h. waits .each a .pending-stands u h .1)
+      (waits .size ∙ sym (opens .full-page))
+      (restated (l .entries) joined states pending bal))
+
+  -- so at every place of a run in which each accepted slip is the slip of its number
+  all-balanced : Opens o → (run : Run)
+      → ((p : Run) (e : Event) (t : Transfer) → Within (p ▹ e) run → accepted (e .call) ≡ some t → slipOf (t .account) (t .number) ≡ some t)
+      → (s : Seat) (r : Run) → Obeys o r → Within r run → Balanced (ledgerAt o s r .entries)
+  all-balanced opens run slips s =
+      ledger-induction o s (λ r l. Within r run → Balanced (l .entries)) (λ w. opened-balanced opens)
+      (λ r e l other bal w. bal (before w))
+      (λ r b a q l bal w. bal (before w))
+      (λ r m q l is obeys h bal w.
+      let ok : Sound o l = rw is (sound o opens s r obeys) in
+      turn-balanced l (step l m .next) m q opens ok (turn o l (step l m .next) m q (group o opens) ok (happens l m q h))
+      (λ t this. slips r _ t w this) (bal (before w)))

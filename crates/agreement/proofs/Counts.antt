@@ -1,20 +1,23 @@
 -- The third point of demand 3: counts determine balances. What an account has, and has paid for its numbers up to its count, is what
 -- it opened with and what the numbers of all accounts up to their counts brought it; and by agreement one slip answers to each number.
 use Prim.Native.Nat.{ℕ, zero, suc, _+_, _≤_, _<_}
-use native.Mathlib.Decide.{ℕ-discrete}
+use native.Mathlib.Decide.{ℕ-discrete, decLt}
 use native.Mathlib.Omega.{arith}
 use mathlib.Core.Path.{_≡_, refl, ap, sym, _∙_}
 use mathlib.Core.Logic.{_≢_, _⊎_, inl, inr}
-use mathlib.Core.Bool.{Bool, true, false, cond}
+use mathlib.Core.Bool.{Bool, true, false, cond, _&&_}
 use mathlib.Core.List.{List}
 use mathlib.Core.Option.{Option, none, some}
+use lib.Dec.{eqb}
 use lib.ListN.{length, getD, List·getD-map}
 use borrow.Author.Tests.{eq-eqb, ne-eqb}
 use Rattle.agreement.specs.Types.{Seat, Account, Transfer, Slot, Empty, Full, Entry, Ledger, Opening, Message, Reply}
-use Rattle.agreement.specs.Runs.{Opens, message, Event, Run, start, _▹_, Within, ledgerAt, Obeys, accepted}
-use Rattle.agreement.proofs.Places.{before, ledger-induction}
-use Rattle.agreement.proofs.Reachable.{Group, group, Sound, bounded, sound}
+use Rattle.agreement.specs.Runs.{Opens, message, Event, Run, start, _▹_, Within, at-end, ledgerAt, Obeys, accepted}
+use Rattle.agreement.proofs.Places.{before, within-trans, nothing-yet, last-or-sooner, obeys-before, ledger-induction}
+use Rattle.agreement.proofs.Reachable.{Group, group, SoundEntry, Sound, bounded, sound}
 use Rattle.agreement.proofs.Entries.{Turn, keeps, accepts, Accepting, turn, SameState, Puts, puts-mark, puts-ack, puts-accepted, puts-ruled, each-entry}
+use Rattle.agreement.proofs.Agree.{same-number, number-same}
+use Rattle.model.specs.Transfers.{sameAccount}
 use Rattle.model.specs.Records.{accountOf, freshEntry, freshLedger, withPending, entryAt, setEntry, withEntry, entryOf}
 use Rattle.model.specs.Openings.{openLedger}
 use Rattle.model.specs.Settling.{apply, settle}
@@ -148,8 +151,8 @@ module _ (slipOf : Account → ℕ → Option Transfer) (o : Opening) where
         waits-are = waits;
         equation = λ b.
             let numbers =
-                below-same (λ i. broughtBy b (accountOf i) (entryAt es (accountOf i) .current)) (λ i. broughtBy b (accountOf i) (entryAt es′ (accountOf i) .current)) (length (o .balances))
-                (λ i lower. ap (broughtBy b (accountOf i)) (same (accountOf i) .1)) in
+            below-same (λ i. broughtBy b (accountOf i) (entryAt es (accountOf i) .current)) (λ i. broughtBy b (accountOf i) (entryAt es′ (accountOf i) .current)) (length (o .balances))
+            (λ i lower. ap (broughtBy b (accountOf i)) (same (accountOf i) .1)) in
             omega (arith, bal .equation b, same b .0, ap (paid b) (same b .1));
       }
 
@@ -162,7 +165,7 @@ module _ (slipOf : Account → ℕ → Option Transfer) (o : Opening) where
         waits-are = λ a t h. impossible (cc (h, ap (λ (e : Entry). e .pending) (read a)));
         equation = λ b.
             let nothing = below-same (λ i. 0) (λ i. broughtBy b (accountOf i) (entryOf (freshLedger o) (accountOf i) .current)) (length (o .balances))
-                (λ i lower. rw (read (accountOf i)) refl) in
+            (λ i lower. rw (read (accountOf i)) refl) in
             rw (read b) (omega (arith, all-zero (length (o .balances))));
       })
     where
@@ -185,11 +188,11 @@ module _ (slipOf : Account → ℕ → Option Transfer) (o : Opening) where
       let joined = setEntry (l .entries) (t .account) (withPending (done .entry) t) in
       let waits = done .waits-soundly in
       let states =
-          set-each (λ a x. (x .balance ≡ entryOf l a .balance) × (x .current ≡ entryOf l a .current)) (l .entries) (t .account)
-          (withPending (done .entry) t) (done .same-balance, done .same-current) (λ a. (refl, refl)) in
+      set-each (λ a x. (x .balance ≡ entryOf l a .balance) × (x .current ≡ entryOf l a .current)) (l .entries) (t .account)
+      (withPending (done .entry) t) (done .same-balance, done .same-current) (λ a. (refl, refl)) in
       let pending =
-          set-each (λ a x. (u : Transfer) → x .pending ≡ Full u → slipOf a (u .number) ≡ some u) (l .entries) (t .account)
-          (withPending (done .entry) t) (λ u h. let same : t ≡ u = cc in rw (← same) (slips t this)) (bal .waits-are) in
+      set-each (λ a x. (u : Transfer) → x .pending ≡ Full u → slipOf a (u .number) ≡ some u) (l .entries) (t .account)
+      (withPending (done .entry) t) (λ u h. let same : t ≡ u = cc in rw (← same) (slips t this)) (bal .waits-are) in
       rw (done .entries-are)
       (settle-balanced joined (bounded o (withEntry l (t .account) (withPending (done .entry) t)) g waits)
       (λ a u h. waits .each a .pending-stands u h .1)
@@ -208,3 +211,113 @@ module _ (slipOf : Account → ℕ → Option Transfer) (o : Opening) where
       let ok : Sound o l = rw is (sound o opens s r obeys) in
       turn-balanced l (step l m .next) m q opens ok (turn o l (step l m .next) m q (group o opens) ok (happens l m q h))
       (λ t this. slips r _ t w this) (bal (before w)))
+
+-- an account behind the k-th never books anything
+behind : (o : Opening) → Opens o → (s : Seat) (r : Run) → Obeys o r → (a : Account) → o .accounts ≤ a .0 → entryOf (ledgerAt o s r) a .current ≡ 0
+behind o opens s r obeys a = all r obeys a
+  where
+    Unused : Account → Entry → Type 0
+    Unused a e = o .accounts ≤ a .0 → e .current ≡ 0
+
+    all : (r : Run) → Obeys o r → (a : Account) → Unused a (entryOf (ledgerAt o s r) a)
+    all =
+        ledger-induction o s (λ r l. (a : Account) → Unused a (entryOf l a)) (λ a above. rw (opened a) refl)
+        (λ r e l other old. old)
+        (λ r b a q l old. old)
+        (λ r m q l is obeys h old.
+        let ok : Sound o l = rw is (sound o opens s r obeys) in
+        each-entry o l (step l m .next) m q (group o opens) ok Unused
+        (λ a e e′ same was above. ap (λ (x : Entry). x .current) same ∙ was above)
+        (λ a e e′ t stands waits clear was above. absurd (within-accounts a e t stands waits above))
+        old (λ t x put. puts l m q t x old put) (happens l m q h))
+      where
+        opened : (a : Account) → entryOf (openLedger o .ledger) a ≡ freshEntry (getD (o .balances) (a .0) 0)
+        opened a = rw (group o opens .opened) (List·getD-map freshEntry (o .balances) (a .0) 0)
+
+        within-accounts : (a : Account) (e : Entry) (t : Transfer) → SoundEntry o a e → e .pending ≡ Full t → o .accounts ≤ a .0 → ⊥
+        within-accounts a e t stands waits above =
+            let found = stands .pending-stands t waits in
+            omega (arith, found .2, ap (λ (b : Account). b .0) (found .0))
+
+        puts : (l : Ledger) (m : Message) (q : Reply) (t : Transfer) (x : Entry) → ((a : Account) → Unused a (entryOf l a))
+            → Puts l m q t x → Unused (t .account) x
+        puts l m q t x old (puts-mark e f fit is) = rw is (old (t .account))
+        puts l m q t x old (puts-ack z e fit new (inl is)) = rw is (old (t .account))
+        puts l m q t x old (puts-ack z e fit new (inr is)) = rw is (old (t .account))
+        puts l m q t x old (puts-accepted z c e f fit new full is) = rw is (old (t .account))
+        puts l m q t x old (puts-ruled c e f fit is) = rw is (old (t .account))
+
+-- The slip that a run accepted for an account and number, by whichever seat.
+isOf : Account → ℕ → Transfer → Bool
+isOf a m t = sameAccount (t .account) a && eqb (t .number) m
+
+firstOf : Account → ℕ → Option Transfer → Option Transfer → Option Transfer
+firstOf a m none other = other
+firstOf a m (some t) other = cond (isOf a m t) (some t) other
+
+acceptedFor : Run → Account → ℕ → Option Transfer
+acceptedFor start a m = none
+acceptedFor (r ▹ e) a m = firstOf a m (accepted (e .call)) (acceptedFor r a m)
+
+-- where accepted slips of one account and number are equal, it is each of them
+found-slip : (run : Run)
+    → ((p q : Run) (e d : Event) (t u : Transfer)
+    → Within (p ▹ e) run → accepted (e .call) ≡ some t
+    → Within (q ▹ d) run → accepted (d .call) ≡ some u
+    → t .account ≡ u .account → t .number ≡ u .number → t ≡ u)
+    → (r : Run) → Within r run → (p : Run) (e : Event) (t : Transfer) → Within (p ▹ e) r → accepted (e .call) ≡ some t
+    → acceptedFor r (t .account) (t .number) ≡ some t
+unfolding acceptedFor firstOf isOf
+found-slip run agree start w p e t v is = nothing-yet v
+found-slip run agree (r ▹ d) w p e t v is =
+    go (accepted (d .call)) refl (last-or-sooner v) (found-slip run agree r (before w) p e t)
+  where
+    go : (x : Option Transfer) → accepted (d .call) ≡ x
+        → ((p ≡ r) × (e ≡ d)) ⊎ Within (p ▹ e) r
+        → (Within (p ▹ e) r → accepted (e .call) ≡ some t → acceptedFor r (t .account) (t .number) ≡ some t)
+        → firstOf (t .account) (t .number) x (acceptedFor r (t .account) (t .number)) ≡ some t
+    go none isd (inl last) rest = impossible (cc (is, isd, last .1))
+    go none isd (inr yet) rest = rest yet is
+    go (some u) isd place rest = pick (isOf (t .account) (t .number) u) refl place
+      where
+        pick : (b : Bool) → isOf (t .account) (t .number) u ≡ b → ((p ≡ r) × (e ≡ d)) ⊎ Within (p ▹ e) r
+            → cond b (some u) (acceptedFor r (t .account) (t .number)) ≡ some t
+        pick true same place =
+            let alike = number-same u t same in
+            ap some (agree r p d e u t w isd (within-trans v w) is (alike .0) (alike .1))
+        pick false other (inl last) =
+            let both : some u ≡ some t = sym isd ∙ (ap (λ (x : Event). accepted (x .call)) (sym (last .1)) ∙ is) in
+            let same : u ≡ t = cc in
+            impossible (cc (other, same-number t t refl refl, same))
+        pick false other (inr yet) = rest yet is
+
+-- equal counts, equal balances
+pub counts-balances : (o : Opening) (run : Run) → Opens o → Obeys o run
+    → ((p q : Run) (e d : Event) (t u : Transfer)
+    → Within (p ▹ e) run → accepted (e .call) ≡ some t
+    → Within (q ▹ d) run → accepted (d .call) ≡ some u
+    → t .account ≡ u .account → t .number ≡ u .number → t ≡ u)
+    → (p q : Run) (s z : Seat) → Within p run → Within q run
+    → ((a : Account) → a .0 < o .accounts → entryOf (ledgerAt o s p) a .current ≡ entryOf (ledgerAt o z q) a .current)
+    → (a : Account) → entryOf (ledgerAt o s p) a .balance ≡ entryOf (ledgerAt o z q) a .balance
+unfolding received
+counts-balances o run opens obeys agree p q s z w v equal b =
+    let slips = acceptedFor run in
+    let known : (r : Run) (e : Event) (t : Transfer) → Within (r ▹ e) run → accepted (e .call) ≡ some t → acceptedFor run (t .account) (t .number) ≡ some t =
+    λ r e t. found-slip run agree run at-end r e t in
+    let one = all-balanced slips o opens run known s p (obeys-before o obeys w) w in
+    let two = all-balanced slips o opens run known z q (obeys-before o obeys v) v in
+    let numbers =
+    below-same (λ i. broughtBy slips o b (accountOf i) (entryOf (ledgerAt o z q) (accountOf i) .current))
+    (λ i. broughtBy slips o b (accountOf i) (entryOf (ledgerAt o s p) (accountOf i) .current)) (length (o .balances))
+    (λ i lower. ap (broughtBy slips o b (accountOf i)) (same (accountOf i))) in
+    omega (arith, one .equation b, two .equation b, ap (paid slips o b) (same b))
+  where
+    same : (a : Account) → entryOf (ledgerAt o s p) a .current ≡ entryOf (ledgerAt o z q) a .current
+    same a = go (decLt (a .0) (o .accounts))
+      where
+        go : Dec (a .0 < o .accounts) → entryOf (ledgerAt o s p) a .current ≡ entryOf (ledgerAt o z q) a .current
+        go (yes known) = equal a known
+        go (no above) =
+            behind o opens s p (obeys-before o obeys w) a (omega arith)
+            ∙ sym (behind o opens z q (obeys-before o obeys v) a (omega arith))

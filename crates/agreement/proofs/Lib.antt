@@ -1,4 +1,4 @@
--- Demand 3, proved.
+-- Demand 3, proved: `demand3`, in Demand3.antt. The files before it are its steps.
 pub mod Places
 pub mod Deeds
 pub mod Reachable
@@ -10,4 +10,5 @@ pub mod Acked
 pub mod Votes
 pub mod Agree
 pub mod Counts
+pub mod Demand3
 pub mod Examples

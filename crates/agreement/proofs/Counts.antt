@@ -180,7 +180,7 @@ module _ (slipOf : Account → ℕ → Option Transfer) (o : Opening) where
   turn-balanced : (l next : Ledger) (m : Message) (r : Reply) → Opens o → Sound o l → Turn o l m r next
       → ((t : Transfer) → accepted (message m r) ≡ some t → slipOf (t .account) (t .number) ≡ some t)
       → Balanced (l .entries) → Balanced (next .entries)
-  turn-balanced l next m r opens ok (keeps same none-accepted) slips bal =
+  turn-balanced l next m r opens ok (keeps same none-accepted not-k) slips bal =
       restated (l .entries) (next .entries) (λ a. (same a .0, same a .1))
       (λ a t h. bal .waits-are a t (sym (same a .2) ∙ h)) bal
   turn-balanced l next m r opens ok (accepts t this done) slips bal =

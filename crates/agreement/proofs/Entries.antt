@@ -9,7 +9,7 @@ use mathlib.Core.Bool.{Bool, true, false}
 use mathlib.Core.Option.{none, some}
 use lib.ListN.{length}
 use Rattle.agreement.specs.Types.{Seat, Account, Transfer, Empty, Full, Entry, Ledger, Opening, Refusal, Message, Request, Circulated, Ack, Decision, Inquiry, Reply, Acknowledge, Accept, Propose, Balance, Refuse}
-use Rattle.agreement.specs.Runs.{message, accepted}
+use Rattle.agreement.specs.Runs.{message, isAccept, accepted}
 use Rattle.agreement.proofs.Reachable.{Group, SoundEntry, Sound, Meets, meets, accepted-entry, ruled-entry, waits-sound}
 use Rattle.model.specs.Records.{withAcked, withProposed, withPending, entryAt, setEntry, withEntries, withEntry, entryOf}
 use Rattle.model.specs.Acks.{acksFor, enough, hasMost}
@@ -103,15 +103,15 @@ refused-accepts (Inquiry a) r q e = refl
 
 -- What a call does to balances, current numbers and waiting slips: nothing, or its slip is accepted.
 pub data Turn (o : Opening) (l : Ledger) (m : Message) (r : Reply) (next : Ledger) : Type 0 where
-  keeps : ((a : Account) → SameState (entryOf l a) (entryOf next a)) → accepted (message m r) ≡ none → Turn o l m r next
+  keeps : ((a : Account) → SameState (entryOf l a) (entryOf next a)) → accepted (message m r) ≡ none → isAccept r ≡ false → Turn o l m r next
   accepts : (t : Transfer) → accepted (message m r) ≡ some t → Accepting o l r next t → Turn o l m r next
 
 pub turn : (o : Opening) (l next : Ledger) (m : Message) (r : Reply) → Group o → Sound o l → Happens l m r next → Turn o l m r next
 unfolding accept
-turn o l next m r g ok (refused q e same) = keeps (rw same (λ a. (refl, refl, refl))) (refused-accepts m r q e)
-turn o l next m r g ok (circulated t e f same) = keeps (rw same (λ a. (refl, refl, refl))) (rw e)
+turn o l next m r g ok (refused q e same) = keeps (rw same (λ a. (refl, refl, refl))) (refused-accepts m r q e) (rw e)
+turn o l next m r g ok (circulated t e f same) = keeps (rw same (λ a. (refl, refl, refl))) (rw e) (rw f)
 turn o l next m r g ok (acknowledged t e f fit clear same) =
-    keeps (rw same (put-same l (t .account) (withAcked (entryOf l (t .account))) (refl, refl, refl))) (rw e)
+    keeps (rw same (put-same l (t .account) (withAcked (entryOf l (t .account))) (refl, refl, refl))) (rw e) (rw f)
 turn o l next m r g ok (accepted-by-acks s t e f fit new full same) =
     accepts t (rw (e, f))
     (record {
@@ -124,9 +124,9 @@ turn o l next m r g ok (accepted-by-acks s t e f fit new full same) =
       replied = f;
     })
 turn o l next m r g ok (proposed s t u e f fit new few must most same) =
-    keeps (rw same (put-same l (t .account) (withProposed (entryWithAck l s t)) (refl, refl, refl))) (rw (e, f))
+    keeps (rw same (put-same l (t .account) (withProposed (entryWithAck l s t)) (refl, refl, refl))) (rw (e, f)) (rw f)
 turn o l next m r g ok (noted s t e f fit new few same) =
-    keeps (rw same (put-same l (t .account) (entryWithAck l s t) (refl, refl, refl))) (rw (e, f))
+    keeps (rw same (put-same l (t .account) (entryWithAck l s t) (refl, refl, refl))) (rw (e, f)) (rw f)
 turn o l next m r g ok (accepted-by-ruling t e f fit same) =
     accepts t (rw (e, f))
     (record {
@@ -138,7 +138,7 @@ turn o l next m r g ok (accepted-by-ruling t e f fit same) =
       entries-are = ap (λ (x : Ledger). x .entries) same;
       replied = f;
     })
-turn o l next m r g ok (told a e f same) = keeps (rw same (λ b. (refl, refl, refl))) (rw e)
+turn o l next m r g ok (told a e f same) = keeps (rw same (λ b. (refl, refl, refl))) (rw e) (rw f)
 
 -- A means: the slip's number is the next, the mark was clear, and now it is set.
 pub record Marks (l next : Ledger) (t : Transfer) : Type 0 where

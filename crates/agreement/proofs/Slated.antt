@@ -32,7 +32,7 @@ opened-matches o opens =
 -- a call keeps the ledger its slate's
 turn-matches : (o : Opening) (l next : Ledger) (m : Message) (r : Reply) (s : Slate) → Group o → Sound o l → Turn o l m r next
     → Matches (l .entries) s → Matches (next .entries) (nextSlate s (accepted (message m r)))
-turn-matches o l next m r s g ok (keeps same none-accepted) match =
+turn-matches o l next m r s g ok (keeps same none-accepted not-k) match =
     rw none-accepted (quiet-matches (l .entries) (next .entries) s same match)
 turn-matches o l next m r s g ok (accepts t this done) match =
     let es = setEntry (l .entries) (t .account) (withPending (done .entry) t) in

@@ -11,8 +11,8 @@ use borrow.Author.Tests.{eq-eqb, eqb-true}
 use Rattle.agreement.specs.Types.{Seat, Account, Transfer, Empty, Full, Entry, Ledger, Opening, Message, Circulated, Ack, Reply, Acknowledge, ListReply}
 use Rattle.agreement.specs.Runs.{Opens, honest, Call, message, waitingList, Event, Run, start, _▹_, Within, at-end, sooner, happened, throughout, sameSeat, ledgerAt, Obeys, acked, passes}
 use Rattle.agreement.specs.Premises.{implies, ackedBy, genuine}
-use Rattle.agreement.proofs.Places.{before, within-trans, nothing-yet, last-or-sooner, Order, same-event, earlier, later, order, happened-found, happened-holds, throughout-at, obeys-before, obeys-at, seat-is, seat-self, ledger-induction, past-calls}
-use Rattle.agreement.proofs.Deeds.{acked-is, passes-is}
+use Rattle.agreement.proofs.Places.{before, Order, same-event, earlier, later, order, happened-found, happened-later, throughout-at, obeys-before, obeys-at, seat-is, seat-self, ledger-induction, past-calls}
+use Rattle.agreement.proofs.Deeds.{acked-is, deed-found}
 use Rattle.agreement.proofs.Reachable.{Group, group, SoundEntry, Sound, sound, no-acks, ack-read, free-place}
 use Rattle.agreement.proofs.Entries.{Puts, puts-mark, puts-ack, puts-accepted, puts-ruled, each-entry, Marks, answer-acknowledge, Records}
 use Rattle.model.specs.Basics.{bit}
@@ -81,19 +81,11 @@ module _ (o : Opening) (opens : Opens o) (s : Seat) where
 -- the call that acked a slip
 pub acked-by-found : (s : Seat) (t : Transfer) (r : Run) → ackedBy s t r ≡ true
     → (p : Run) × (e : Event) × Within (p ▹ e) r × (e .at ≡ s) × (acked (e .call) ≡ some t)
-acked-by-found s t r h =
-    let found = happened-found (λ e. sameSeat (e .at) s && passes (equal t) (acked (e .call))) r h in
-    let e = found .1 in
-    let parts = both (sameSeat (e .at) s) (passes (equal t) (acked (e .call))) (found .3) in
-    let slip = passes-is (equal t) (acked (e .call)) (parts .1) in
-    (found .0, e, found .2, seat-is (e .at) s (parts .0), slip .1 ∙ ap some (sym (equal-sound t (slip .0) (slip .2))))
+acked-by-found = deed-found acked
 
 -- what a seat has acked at a place, it has acked at each later one
 pub acked-by-later : (s : Seat) (t : Transfer) {p r : Run} → Within p r → ackedBy s t p ≡ true → ackedBy s t r ≡ true
-acked-by-later s t w h =
-    let test : Event → Bool = λ e. sameSeat (e .at) s && passes (equal t) (acked (e .call)) in
-    let found = happened-found test _ h in
-    happened-holds test (within-trans (found .2) w) (found .3)
+acked-by-later s t w h = happened-later (λ e. sameSeat (e .at) s && passes (equal t) (acked (e .call))) w h
 
 module _ (o : Opening) (opens : Opens o) (run : Run) (obeys : Obeys o run) where
   -- a slip that is acked was not reached before

@@ -1,12 +1,15 @@
 -- What a call did, read back: the call and the reply that "acks", "accepts", "puts forward" and "rules" stand for.
 use Prim.Native.Nat.{ℕ}
-use mathlib.Core.Path.{_≡_, refl, ap}
+use mathlib.Core.Path.{_≡_, refl, ap, sym}
 use mathlib.Core.Logic.{_⊎_, inl, inr}
-use mathlib.Core.Bool.{Bool, true, false, cond}
+use mathlib.Core.Bool.{Bool, true, false, cond, _&&_}
 use mathlib.Core.Option.{Option, none, some}
 use Rattle.agreement.specs.Types.{Seat, Transfer, Message, Request, Circulated, Ack, Decision, Inquiry, Reply, Circulate, Acknowledge, Accept, Propose, Note, Balance, Refuse}
-use Rattle.agreement.specs.Runs.{Call, message, waitingList, isAcknowledge, isAccept, acked, accepted, proposal, proposed, ruled, passes}
-use Rattle.model.proofs.Sums.{impossible}
+use Rattle.agreement.specs.Runs.{Call, message, waitingList, Event, Run, _▹_, Within, happened, sameSeat, isAcknowledge, isAccept, acked, accepted, proposal, proposed, ruled, passes}
+use Rattle.agreement.proofs.Places.{happened-found, seat-is}
+use Rattle.model.specs.Transfers.{equal}
+use Rattle.model.proofs.Sums.{impossible, both}
+use Rattle.model.proofs.Equality.{equal-sound}
 
 is-acknowledge : (r : Reply) → isAcknowledge r ≡ true → r ≡ Acknowledge
 is-acknowledge Circulate e = impossible (cc)
@@ -79,7 +82,22 @@ proposed-is (waitingList before r after) u e = impossible (cc)
 pub ruling-ruled : (c : Call) (t : Transfer) (r : Reply) → c ≡ message (Decision t) r → ruled c ≡ some t
 ruling-ruled c t r e = rw e refl
 
+-- a slip that is equal to t is t
+pub that-slip : (t : Transfer) (x : Option Transfer) → passes (equal t) x ≡ true → x ≡ some t
+that-slip t none e = impossible (cc)
+that-slip t (some u) e = ap some (sym (equal-sound t u e))
+
 -- a slip that is there and passes the test
 pub passes-is : (test : Transfer → Bool) (x : Option Transfer) → passes test x ≡ true → (t : Transfer) × (x ≡ some t) × (test t ≡ true)
 passes-is test none e = impossible (cc)
 passes-is test (some t) e = (t, refl, e)
+
+-- the call at a seat that did it with slip t
+pub deed-found : (did : Call → Option Transfer) (s : Seat) (t : Transfer) (r : Run)
+    → happened (λ e. sameSeat (e .at) s && passes (equal t) (did (e .call))) r ≡ true
+    → (p : Run) × (e : Event) × Within (p ▹ e) r × (e .at ≡ s) × (did (e .call) ≡ some t)
+deed-found did s t r h =
+    let found = happened-found (λ e. sameSeat (e .at) s && passes (equal t) (did (e .call))) r h in
+    let e = found .1 in
+    let parts = both (sameSeat (e .at) s) (passes (equal t) (did (e .call))) (found .3) in
+    (found .0, e, found .2, seat-is (e .at) s (parts .0), that-slip t (did (e .call)) (parts .1))

@@ -27,6 +27,7 @@ use Rattle.model.specs.Acks.{hasMost}
 use Rattle.model.specs.Settling.{isWaiting, lowestAffordable, apply, settleAtMost, settle, accept}
 use Rattle.model.specs.Calls.{effect, step}
 use Rattle.agreement.proofs.Places.{happened-found}
+use Rattle.agreement.proofs.Deeds.{that-slip}
 use Rattle.model.proofs.Rows.{slip, pageWith}
 use Rattle.model.proofs.Sums.{impossible, both}
 use Rattle.model.proofs.Equality.{equal-sound, conflict-sound}
@@ -86,11 +87,6 @@ rulingsRightful run = throughout (λ before e. rightful before (ruled (e .call))
 -- some call accepted the slip
 abbrev accepts : Transfer → Run → Bool
 accepts t run = happened (λ e. passes (equal t) (accepted (e .call))) run
-
--- a slip that is equal to t is t
-that-slip : (t : Transfer) (o : Option Transfer) → passes (equal t) o ≡ true → o ≡ some t
-that-slip t none h = impossible (cc)
-that-slip t (some u) h = cc (equal-sound t u h)
 
 -- where two accepted slips conflict, demand 3's claim fails
 pub no-claim : (o : Opening) (bad : Seat → Bool) (run : Run) (t u : Transfer)

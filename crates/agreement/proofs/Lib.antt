@@ -11,4 +11,5 @@ pub mod Votes
 pub mod Agree
 pub mod Counts
 pub mod Demand3
+pub mod Always
 pub mod Examples

@@ -76,6 +76,10 @@ pub happened-holds : (test : Event → Bool) {p r : Run} {e : Event} → Within 
 happened-holds test {p} at-end h = rw h (or-true (happened test p))
 happened-holds test (sooner w) h = rw (happened-holds test w h)
 
+-- what has happened at a place has happened at each later one
+pub happened-later : (test : Event → Bool) {p r : Run} → Within p r → happened test p ≡ true → happened test r ≡ true
+happened-later test {p} w h = let found = happened-found test p h in happened-holds test (within-trans (found .2) w) (found .3)
+
 -- a test that each event passes
 pub throughout-at : (test : Run → Event → Bool) {p r : Run} {e : Event} → throughout test r ≡ true → Within (p ▹ e) r → test p e ≡ true
 throughout-at test {p} {e = e} h at-end = both (throughout test p) (test p e) h .1

@@ -1,0 +1,352 @@
+-- What holds of every run that obeys the definitions, premises or not: the statement is `Always` in specs/Claims.antt.
+use Prim.Native.Nat.{ℕ, _+_, _≤_, _<_}
+use native.Mathlib.Omega.{arith}
+use mathlib.Core.Path.{_≡_, refl, ap, sym, _∙_}
+use mathlib.Core.Logic.{_⊎_, inl, inr}
+use mathlib.Core.Bool.{Bool, true, false, not, cond, _&&_, _||_, or-true}
+use mathlib.Core.List.{List}
+use mathlib.Core.Option.{none, some}
+use lib.ListN.{getD, List·getD-map}
+use Rattle.agreement.specs.Types.{Seat, Account, Transfer, Slot, Empty, Full, Entry, Ledger, Opening, Refusal, Message, Request, Circulated, Ack, Decision, Inquiry, Reply, Accept, Refuse}
+use Rattle.agreement.specs.Runs.{Opens, Call, message, waitingList, Event, Run, start, _▹_, Within, at-end, sooner, happened, sameSeat, nextLedger, ledgerAt, Conforms, Obeys, isAccept, accepted, ruled, passes}
+use Rattle.agreement.specs.Claims.{isRefusal, answeredK, mustAccept, acceptedBy, taken, ruledFor, Facts, Always}
+use Rattle.agreement.proofs.Places.{before, within-trans, happened-found, happened-holds, happened-later, obeys-before, obeys-at, seat-is, seat-self, ledger-induction, past-calls}
+use Rattle.agreement.proofs.Deeds.{that-slip, deed-found}
+use Rattle.agreement.proofs.Reachable.{Group, group, SoundEntry, Sound, Meets, meets, sound}
+use Rattle.agreement.proofs.Entries.{Puts, puts-mark, puts-ack, puts-accepted, puts-ruled, each-entry, Turn, keeps, accepts, Accepting, turn}
+use Rattle.agreement.proofs.Slated.{slated}
+use Rattle.agreement.proofs.Acked.{acked-once}
+use Rattle.model.specs.Records.{freshEntry, withPending, sumCurrents, entryAt, setEntry, withEntry, entryOf}
+use Rattle.model.specs.Transfers.{equal}
+use Rattle.model.specs.Acks.{holds, acksFor, enough}
+use Rattle.model.specs.Openings.{openLedger}
+use Rattle.model.specs.Settling.{settle}
+use Rattle.model.specs.Calls.{step, Answers, entryWithAck}
+use Rattle.model.proofs.Sums.{impossible, both, sum-set-same}
+use Rattle.model.proofs.Equality.{equal-sound, equal-refl}
+use Rattle.model.proofs.Access.{entry-set-same}
+use Rattle.model.proofs.Booking.{SameButBalance, Cleared}
+use Rattle.model.proofs.Settles.{Turned, kept, booked, settle-entry, settle-currents}
+use Rattle.model.proofs.Steps.{Eligible, Happens, refused, circulated, acknowledged, accepted-by-acks, proposed, noted, accepted-by-ruling, told, happens}
+
+-- tests that hold of the same
+same-test : (a b : Bool) → (a ≡ true → b ≡ true) → (b ≡ true → a ≡ true) → a ≡ b
+same-test true b forth back = sym (forth refl)
+same-test false true forth back = impossible (cc (back refl))
+same-test false false forth back = refl
+
+-- A call accepts exactly if it must.
+refused-must : (l : Ledger) (m : Message) (r : Reply) (q : Refusal) → r ≡ Refuse q → isAccept r ≡ mustAccept l (message m r)
+refused-must l (Request t) r q e = rw e
+refused-must l (Circulated t) r q e = rw e
+refused-must l (Ack s t) r q e = rw e
+refused-must l (Decision t) r q e = rw e
+refused-must l (Inquiry a) r q e = rw e
+
+must-accept : (l next : Ledger) (m : Message) (r : Reply) → Happens l m r next → isAccept r ≡ mustAccept l (message m r)
+must-accept l next m r (refused q e same) = refused-must l m r q e
+must-accept l next m r (circulated t e f same) = rw (e, f)
+must-accept l next m r (acknowledged t e f fit clear same) = rw (e, f)
+must-accept l next m r (accepted-by-acks s t e f fit new full same) = rw (e, f, full)
+must-accept l next m r (proposed s t u e f fit new few must most same) = rw (e, f, few)
+must-accept l next m r (noted s t e f fit new few same) = rw (e, f, few)
+must-accept l next m r (accepted-by-ruling t e f fit same) = rw (e, f)
+must-accept l next m r (told a e f same) = rw (e, f)
+
+call-accepts : (l : Ledger) (c : Call) → Conforms l c → answeredK c ≡ mustAccept l c
+call-accepts l (message m r) h = must-accept l _ m r (happens l m r h)
+call-accepts l (waitingList b q a) h = refl
+
+-- a ruling that is not refused accepts its slip
+ruling-accepts : (l : Ledger) (c : Call) (t : Transfer) → Conforms l c → ruled c ≡ some t → taken c ≡ true → accepted c ≡ some t
+ruling-accepts l (message (Request u) r) t h is ok = impossible (cc)
+ruling-accepts l (message (Circulated u) r) t h is ok = impossible (cc)
+ruling-accepts l (message (Ack s u) r) t h is ok = impossible (cc)
+ruling-accepts l (message (Decision u) r) t h is ok = rw (call-accepts l (message (Decision u) r) h, ok) is
+ruling-accepts l (message (Inquiry a) r) t h is ok = impossible (cc)
+ruling-accepts l (waitingList b q a) t h is ok = impossible (cc)
+
+-- K's count is the rise in the sum of current numbers
+turn-count : (o : Opening) (l next : Ledger) (m : Message) (r : Reply) (c : ℕ) → Sound o l → r ≡ Accept c → Turn o l m r next
+    → sumCurrents (next .entries) ≡ sumCurrents (l .entries) + c
+turn-count o l next m r c ok is (keeps same none-accepted not-k) = impossible (cc (rw is at not-k))
+turn-count o l next m r c ok is (accepts t this done) =
+    let joined = setEntry (l .entries) (t .account) (withPending (done .entry) t) in
+    let waits = done .waits-soundly in
+    let before = sum-set-same (λ e. e .current) (l .entries) (t .account .0) (withPending (done .entry) t) (freshEntry 0) (done .same-current) in
+    let count : c ≡ settle joined .applied = cc (is, done .replied) in
+    rw (done .entries-are) (omega (arith, settle-currents joined (λ a u h. waits .each a .pending-stands u h .1)))
+
+-- What a call keeps of each entry: current numbers never fall, and a slip that has been booked or waits stays so.
+abbrev Settled : Transfer → Entry → Type 0
+Settled t e = (t .number ≤ e .current) ⊎ (e .pending ≡ Full t)
+
+module _ (o : Opening) (l next : Ledger) (m : Message) (r : Reply) (g : Group o) (ok : Sound o l) (h : Happens l m r next) where
+  current-rises : (a : Account) → entryOf l a .current ≤ entryOf next a .current
+  current-rises =
+      each-entry o l next m r g ok (λ a x. entryOf l a .current ≤ x .current)
+      (λ a e e′ same le. rw same le)
+      (λ a e e′ t stands waits clear le. omega (arith, clear .current-is, stands .pending-stands t waits .1))
+      (λ a. omega arith)
+      puts h
+    where
+      puts : (t : Transfer) (x : Entry) → Puts l m r t x → entryOf l (t .account) .current ≤ x .current
+      puts t x (puts-mark e f fit is) = rw is (omega arith)
+      puts t x (puts-ack s e fit new (inl is)) = rw is (omega arith)
+      puts t x (puts-ack s e fit new (inr is)) = rw is (omega arith)
+      puts t x (puts-accepted s c e f fit new full is) = rw is (omega arith)
+      puts t x (puts-ruled c e f fit is) = rw is (omega arith)
+
+  stays-settled : (t : Transfer) (a : Account) → Settled t (entryOf l a) → Settled t (entryOf next a)
+  stays-settled t =
+      each-entry o l next m r g ok (λ a x. Settled t (entryOf l a) → Settled t x)
+      (λ a e e′ same was old. on-balance e e′ same (was old))
+      (λ a e e′ u stands waits clear was old. on-booked a e e′ u stands waits clear (was old))
+      (λ a old. old)
+      puts h
+    where
+      on-balance : (e e′ : Entry) → SameButBalance e e′ → Settled t e → Settled t e′
+      on-balance e e′ same (inl past) = inl (rw same past)
+      on-balance e e′ same (inr waits) = inr (rw same waits)
+
+      on-booked : (a : Account) (e e′ : Entry) (u : Transfer) → SoundEntry o a e → e .pending ≡ Full u → Cleared u e′ → Settled t e → Settled t e′
+      on-booked a e e′ u stands waits clear (inl past) = inl (omega (arith, clear .current-is, stands .pending-stands u waits .1))
+      on-booked a e e′ u stands waits clear (inr this) =
+          let same : t ≡ u = cc in
+          inl (omega (arith, clear .current-is, ap (λ (x : Transfer). x .number) same))
+
+      -- where nothing waits, it has been booked
+      past : (u : Transfer) (x : Entry) → Eligible l u → x .current ≡ entryOf l (u .account) .current
+          → Settled t (entryOf l (u .account)) → Settled t x
+      past u x fit same (inl done) = inl (omega arith)
+      past u x fit same (inr waits) = impossible (cc (waits, meets o l u g ok fit .none-waits))
+
+      puts : (u : Transfer) (x : Entry) → Puts l m r u x → Settled t (entryOf l (u .account)) → Settled t x
+      puts u x (puts-mark e f fit is) = past u x fit (rw is refl)
+      puts u x (puts-ack s e fit new (inl is)) = past u x fit (rw is refl)
+      puts u x (puts-ack s e fit new (inr is)) = past u x fit (rw is refl)
+      puts u x (puts-accepted s c e f fit new full is) = past u x fit (rw is refl)
+      puts u x (puts-ruled c e f fit is) = past u x fit (rw is refl)
+
+  -- and the accepted slip has been booked, or waits
+  just-settled : (t : Transfer) → accepted (message m r) ≡ some t → Settled t (entryOf next (t .account))
+  just-settled t is = go (turn o l next m r g ok h)
+    where
+      go : Turn o l m r next → Settled t (entryOf next (t .account))
+      go (keeps same none-accepted not-k) = impossible (cc)
+      go (accepts u this done) = after (settle-entry (u .account) joined)
+        where
+          joined : List Entry
+          joined = setEntry (l .entries) (u .account) (withPending (done .entry) u)
+
+          read : entryAt joined (u .account) ≡ withPending (done .entry) u
+          read = entry-set-same (l .entries) (u .account) (withPending (done .entry) u) (done .fits .inside)
+
+          slip : t ≡ u
+          slip = cc
+
+          after : Turned (entryAt joined (u .account)) (entryAt (settle joined .entries) (u .account)) → Settled t (entryOf next (t .account))
+          after (kept same) = rw (slip, done .entries-are) (inr (rw same (ap (λ (e : Entry). e .pending) read)))
+          after (booked w waits clear) =
+              let that : w ≡ u = cc (waits, ap (λ (e : Entry). e .pending) read) in
+              rw (slip, done .entries-are) (inl (omega (arith, clear .current-is, ap (λ (x : Transfer). x .number) that)))
+
+-- Why a slip waits: it was accepted, and it has enough acks or a ruling named it.
+module _ (o : Opening) (opens : Opens o) (s : Seat) where
+  abbrev isAccepted : Transfer → Event → Bool
+  isAccepted t e = sameSeat (e .at) s && passes (equal t) (accepted (e .call))
+
+  abbrev isRuled : Transfer → Event → Bool
+  isRuled t e = sameSeat (e .at) s && (passes (equal t) (ruled (e .call)) && taken (e .call))
+
+  record Reason (r : Run) (e : Entry) (t : Transfer) : Type 0 where
+    was-accepted : acceptedBy s t r ≡ true
+    by-what : (enough (o .seats) (o .faults) (acksFor t (e .acks)) ≡ true) ⊎ (ruledFor s t r ≡ true)
+
+  abbrev Reasons : Run → Entry → Type 0
+  Reasons r e = (t : Transfer) → e .pending ≡ Full t → Reason r e t
+
+  -- a reason stays one where the acks stay, at the same place or later
+  reason-stays : (r r′ : Run) (e e′ : Entry) (t : Transfer) → Within r r′ → e′ .acks ≡ e .acks → Reason r e t → Reason r′ e′ t
+  reason-stays r r′ e e′ t w acks why =
+      record { was-accepted = happened-later (isAccepted t) w (why .was-accepted); by-what = go (why .by-what) }
+    where
+      go : (enough (o .seats) (o .faults) (acksFor t (e .acks)) ≡ true) ⊎ (ruledFor s t r ≡ true)
+          → (enough (o .seats) (o .faults) (acksFor t (e′ .acks)) ≡ true) ⊎ (ruledFor s t r′ ≡ true)
+      go (inl full) = inl (rw acks full)
+      go (inr ruling) = inr (happened-later (isRuled t) {p = r} {r = r′} w ruling)
+
+  -- this call accepts t
+  now-accepted : (r : Run) (m : Message) (q : Reply) (t : Transfer) → accepted (message m q) ≡ some t
+      → acceptedBy s t (r ▹ record { at = s; call = message m q }) ≡ true
+  now-accepted r m q t is =
+      happened-holds (isAccepted t) {p = r} {r = r ▹ record { at = s; call = message m q }} {e = record { at = s; call = message m q }} at-end
+      (rw (seat-self s, is, equal-refl t))
+
+  now-ruled : (r : Run) (m : Message) (q : Reply) (t : Transfer) (c : ℕ) → m ≡ Decision t → q ≡ Accept c
+      → ruledFor s t (r ▹ record { at = s; call = message m q }) ≡ true
+  now-ruled r m q t c kind reply =
+      happened-holds (isRuled t) {p = r} {r = r ▹ record { at = s; call = message m q }} {e = record { at = s; call = message m q }} at-end
+      (rw (seat-self s, kind, reply, equal-refl t))
+
+  step-reasons : (r : Run) (l next : Ledger) (m : Message) (q : Reply) → Sound o l → Happens l m q next
+      → ((a : Account) → Reasons r (entryOf l a))
+      → (a : Account) → Reasons (r ▹ record { at = s; call = message m q }) (entryOf next a)
+  step-reasons r l next m q ok h old =
+      each-entry o l next m q (group o opens) ok (λ a x. Reasons now x)
+      (λ a e e′ same was t waits.
+      reason-stays now now e e′ t at-end (ap (λ (x : Entry). x .acks) same) (was t (sym (ap (λ (x : Entry). x .pending) same) ∙ waits)))
+      (λ a e e′ t stands waits clear was u this. impossible (cc (clear .none-pending, this)))
+      (λ a t waits. reason-stays r now (entryOf l a) (entryOf l a) t (sooner at-end) refl (old a t waits))
+      puts h
+    where
+      now : Run
+      now = r ▹ record { at = s; call = message m q }
+
+      -- nothing waits in an entry with one more ack
+      idle-still : (t u : Transfer) (x : Entry) → Eligible l t → x .pending ≡ entryOf l (t .account) .pending → x .pending ≡ Full u → Reason now x u
+      idle-still t u x fit same waits = impossible (cc (meets o l t (group o opens) ok fit .none-waits))
+
+      puts : (t : Transfer) (x : Entry) → Puts l m q t x → Reasons now x
+      puts t x (puts-mark e f fit is) u waits = idle-still t u x fit (rw is refl) waits
+      puts t x (puts-ack z e fit new (inl is)) u waits = idle-still t u x fit (rw is refl) waits
+      puts t x (puts-ack z e fit new (inr is)) u waits = idle-still t u x fit (rw is refl) waits
+      puts t x (puts-accepted z c e f fit new full is) u waits =
+          let this : t ≡ u = cc (waits, ap (λ (y : Entry). y .pending) is) in
+          rw (← this, is)
+          (record {
+            was-accepted = now-accepted r m q t (rw (e, f));
+            by-what = inl (rw (← ok .seats-same, ← ok .faults-same) full);
+          })
+      puts t x (puts-ruled c e f fit is) u waits =
+          let this : t ≡ u = cc (waits, ap (λ (y : Entry). y .pending) is) in
+          rw (← this) (record { was-accepted = now-accepted r m q t (rw (e, f)); by-what = inr (now-ruled r m q t c e f) })
+
+  all-reasons : (r : Run) → Obeys o r → (a : Account) → Reasons r (entryOf (ledgerAt o s r) a)
+  all-reasons =
+      ledger-induction o s (λ r l. (a : Account) → Reasons r (entryOf l a))
+      (λ a t waits. impossible (cc (waits, ap (λ (e : Entry). e .pending) (opened a))))
+      (λ r e l other old a t waits. reason-stays r (r ▹ e) (entryOf l a) (entryOf l a) t (sooner at-end) refl (old a t waits))
+      (λ r b a q l old c t waits. reason-stays r (r ▹ record { at = s; call = waitingList b q a }) (entryOf l c) (entryOf l c) t (sooner at-end) refl (old c t waits))
+      (λ r m q l is obeys h old.
+      let ok : Sound o l = rw is (sound o opens s r obeys) in
+      step-reasons r l (step l m .next) m q ok (happens l m q h) old)
+    where
+      opened : (a : Account) → entryOf (openLedger o .ledger) a ≡ freshEntry (getD (o .balances) (a .0) 0)
+      opened a = rw (group o opens .opened) (List·getD-map freshEntry (o .balances) (a .0) 0)
+
+  -- every accepted slip has been booked, or waits
+  abbrev SettledCall : Call → Ledger → Type 0
+  SettledCall c l = (t : Transfer) → accepted c ≡ some t → Settled t (entryOf l (t .account))
+
+  all-settled : (r : Run) → Obeys o r → (p : Run) (e : Event) → Within (p ▹ e) r → e .at ≡ s → SettledCall (e .call) (ledgerAt o s r)
+  all-settled =
+      past-calls o s SettledCall (λ l b a q t is. impossible (cc))
+      (λ r m q l is obeys h.
+      just-settled o l (step l m .next) m q (group o opens) (rw is (sound o opens s r obeys)) (happens l m q h))
+      (λ r m q l c is obeys h old t this.
+      stays-settled o l (step l m .next) m q (group o opens) (rw is (sound o opens s r obeys)) (happens l m q h) t (t .account) (old t this))
+
+  -- a slip of the next number that was accepted waits
+  accepted-waits : (r : Run) → Obeys o r → (t : Transfer) → t .number ≡ entryOf (ledgerAt o s r) (t .account) .current + 1
+      → acceptedBy s t r ≡ true → entryOf (ledgerAt o s r) (t .account) .pending ≡ Full t
+  accepted-waits r obeys t next h =
+      let found = deed-found accepted s t r h in
+      go (all-settled r obeys (found .0) (found .1) (found .2) (found .3) t (found .4))
+    where
+      go : Settled t (entryOf (ledgerAt o s r) (t .account)) → entryOf (ledgerAt o s r) (t .account) .pending ≡ Full t
+      go (inl past) = absurd (omega arith)
+      go (inr waits) = waits
+
+  -- a slip that a ruling named which was not refused was accepted
+  ruled-accepted : (r : Run) → Obeys o r → (t : Transfer) → ruledFor s t r ≡ true → acceptedBy s t r ≡ true
+  ruled-accepted r obeys t h =
+      let found = happened-found (isRuled t) r h in
+      let e = found .1 in
+      let parts = both (sameSeat (e .at) s) _ (found .3) in
+      let both-parts = both (passes (equal t) (ruled (e .call))) (taken (e .call)) (parts .1) in
+      let slip = that-slip t (ruled (e .call)) (both-parts .0) in
+      let accepts-it = ruling-accepts (ledgerAt o (e .at) (found .0)) (e .call) t (obeys-at o obeys (found .2)) slip (both-parts .1) in
+      happened-holds (isAccepted t) (found .2) (rw (parts .0, accepts-it, equal-refl t))
+
+  accepted-iff : (r : Run) → Obeys o r → (t : Transfer) → t .number ≡ entryOf (ledgerAt o s r) (t .account) .current + 1
+      → acceptedBy s t r ≡ enough (o .seats) (o .faults) (acksFor t (entryOf (ledgerAt o s r) (t .account) .acks)) || ruledFor s t r
+  accepted-iff r obeys t next = same-test _ _ forth back
+    where
+      full : Bool
+      full = enough (o .seats) (o .faults) (acksFor t (entryOf (ledgerAt o s r) (t .account) .acks))
+
+      forth : acceptedBy s t r ≡ true → full || ruledFor s t r ≡ true
+      forth h = go (all-reasons r obeys (t .account) t (accepted-waits r obeys t next h) .by-what)
+        where
+          go : (full ≡ true) ⊎ (ruledFor s t r ≡ true) → full || ruledFor s t r ≡ true
+          go (inl is) = rw is
+          go (inr is) = rw is (or-true full)
+
+      back : full || ruledFor s t r ≡ true → acceptedBy s t r ≡ true
+      back h = go full refl h
+        where
+          go : (b : Bool) → full ≡ b → b || ruledFor s t r ≡ true → acceptedBy s t r ≡ true
+          go true is h =
+              all-reasons r obeys (t .account) t (sound o opens s r obeys .each (t .account) .decided t is) .was-accepted
+          go false is h = ruled-accepted r obeys t h
+
+  waits-iff : (r : Run) → Obeys o r → (t : Transfer) → t .number ≡ entryOf (ledgerAt o s r) (t .account) .current + 1
+      → acceptedBy s t r ≡ holds t (entryOf (ledgerAt o s r) (t .account) .pending)
+  waits-iff r obeys t next =
+      same-test _ _ (λ h. rw (accepted-waits r obeys t next h) (equal-refl t)) (λ h. back (entryOf (ledgerAt o s r) (t .account) .pending) refl h)
+    where
+      back : (x : Slot) → entryOf (ledgerAt o s r) (t .account) .pending ≡ x → holds t x ≡ true → acceptedBy s t r ≡ true
+      back Empty is h = impossible (cc)
+      back (Full u) is h =
+          all-reasons r obeys (t .account) t (is ∙ ap Full (equal-sound u t h)) .was-accepted
+
+  -- current numbers never fall, at one event and from any place to a later one
+  one-event : (r : Run) (e : Event) (a : Account) → Obeys o (r ▹ e)
+      → entryOf (ledgerAt o s r) a .current ≤ entryOf (ledgerAt o s (r ▹ e)) a .current
+  unfolding ledgerAt
+  one-event r e a obeys = go (sameSeat (e .at) s) refl
+    where
+      call : (c : Call) → Conforms (ledgerAt o s r) c → entryOf (ledgerAt o s r) a .current ≤ entryOf (nextLedger (ledgerAt o s r) c) a .current
+      call (message m q) h =
+          current-rises o (ledgerAt o s r) (step (ledgerAt o s r) m .next) m q (group o opens) (sound o opens s r (obeys .0))
+          (happens (ledgerAt o s r) m q h) a
+      call (waitingList b q c) h = omega arith
+
+      go : (b : Bool) → sameSeat (e .at) s ≡ b
+          → entryOf (ledgerAt o s r) a .current ≤ entryOf (cond b (nextLedger (ledgerAt o s r) (e .call)) (ledgerAt o s r)) a .current
+      go true here = call (e .call) (rw (seat-is (e .at) s here) at (obeys .1))
+      go false there = omega arith
+
+  never-falls : (a : Account) {p q : Run} → Obeys o q → Within p q → entryOf (ledgerAt o s p) a .current ≤ entryOf (ledgerAt o s q) a .current
+  never-falls a obeys at-end = omega arith
+  never-falls a obeys (sooner {r = r} {e = e} w) = omega (arith, never-falls a (obeys .0) w, one-event r e a obeys)
+
+-- K's count, in a run
+run-count : (o : Opening) (run p : Run) (e : Event) (m : Message) (c : ℕ) → Opens o → Obeys o run → Within (p ▹ e) run
+    → e .call ≡ message m (Accept c)
+    → sumCurrents (ledgerAt o (e .at) (p ▹ e) .entries) ≡ sumCurrents (ledgerAt o (e .at) p .entries) + c
+unfolding ledgerAt
+run-count o run p e m c opens obeys w is =
+    let l = ledgerAt o (e .at) p in
+    let ok = sound o opens (e .at) p (obeys-before o obeys (before w)) in
+    let h = happens l m (Accept c) (rw is at (obeys-at o obeys w)) in
+    rw (seat-self (e .at), is)
+    (turn-count o l (step l m .next) m (Accept c) c ok refl (turn o l (step l m .next) m (Accept c) (group o opens) ok h))
+
+pub always : Always
+always o run opens obeys =
+    record {
+      sums = λ p s w.
+          let ok = sound o opens s p (obeys-before o obeys w) in
+          (ok .sum-same, rw (ok .sum-same) (group o opens .sum-fits));
+      plain = λ p s a w. slated o opens s p (obeys-before o obeys w) .balance-is a;
+      currents-rise = λ p q s a w v. never-falls o opens s a (obeys-before o obeys v) w;
+      count-is-rise = λ p e m c w is. run-count o run p e m c opens obeys w is;
+      acked-once = acked-once o opens run obeys;
+      accepts-exactly = λ p e w. call-accepts (ledgerAt o (e .at) p) (e .call) (obeys-at o obeys w);
+      accepted-exactly = λ p s t w next. accepted-iff o opens s p (obeys-before o obeys w) t next;
+      waits-exactly = λ p s t w next. waits-iff o opens s p (obeys-before o obeys w) t next;
+      acks-stand = λ p s i a t w. sound o opens s p (obeys-before o obeys w) .each a .acks-stand i t;
+      pending-stands = λ p s a t w. sound o opens s p (obeys-before o obeys w) .each a .pending-stands t;
+    }

@@ -235,6 +235,13 @@ module _ (o : Opening) (opens : Opens o) (s : Seat) where
       opened : (a : Account) → entryOf (openLedger o .ledger) a ≡ freshEntry (getD (o .balances) (a .0) 0)
       opened a = rw (group o opens .opened) (List·getD-map freshEntry (o .balances) (a .0) 0)
 
+  -- a slip with enough recorded acks was accepted
+  pub decided-accepted : (r : Run) → Obeys o r → (t : Transfer)
+      → enough (o .seats) (o .faults) (acksFor t (entryOf (ledgerAt o s r) (t .account) .acks)) ≡ true
+      → acceptedBy s t r ≡ true
+  decided-accepted r obeys t full =
+      all-reasons r obeys (t .account) t (sound o opens s r obeys .each (t .account) .decided t full) .was-accepted
+
   -- every accepted slip has been booked, or waits
   abbrev SettledCall : Call → Ledger → Type 0
   SettledCall c l = (t : Transfer) → accepted c ≡ some t → Settled t (entryOf l (t .account))
@@ -287,8 +294,7 @@ module _ (o : Opening) (opens : Opens o) (s : Seat) where
       back h = go full refl h
         where
           go : (b : Bool) → full ≡ b → b || ruledFor s t r ≡ true → acceptedBy s t r ≡ true
-          go true is h =
-              all-reasons r obeys (t .account) t (sound o opens s r obeys .each (t .account) .decided t is) .was-accepted
+          go true is h = decided-accepted r obeys t is
           go false is h = ruled-accepted r obeys t h
 
   waits-iff : (r : Run) → Obeys o r → (t : Transfer) → t .number ≡ entryOf (ledgerAt o s r) (t .account) .current + 1

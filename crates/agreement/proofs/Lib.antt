@@ -12,4 +12,5 @@ pub mod Agree
 pub mod Counts
 pub mod Demand3
 pub mod Always
+pub mod Theorem1
 pub mod Examples

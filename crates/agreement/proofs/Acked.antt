@@ -4,26 +4,21 @@ use native.Mathlib.Omega.{arith}
 use mathlib.Core.Path.{_≡_, refl, ap, sym, _∙_}
 use mathlib.Core.Logic.{_⊎_, inl, inr}
 use mathlib.Core.Bool.{Bool, true, false, _&&_}
-use mathlib.Core.List.{List}
 use mathlib.Core.Option.{some}
-use lib.ListN.{getD, List·getD-map}
-use borrow.Author.Tests.{eq-eqb, eqb-true}
-use Rattle.agreement.specs.Types.{Seat, Account, Transfer, Empty, Full, Entry, Ledger, Opening, Message, Circulated, Ack, Reply, Acknowledge, ListReply}
-use Rattle.agreement.specs.Runs.{Opens, honest, Call, message, waitingList, Event, Run, start, _▹_, Within, at-end, sooner, happened, throughout, sameSeat, ledgerAt, Obeys, acked, passes}
+use Rattle.agreement.specs.Types.{Seat, Account, Transfer, Full, Entry, Ledger, Opening, Message, Circulated, Ack, Reply, Acknowledge}
+use Rattle.agreement.specs.Runs.{Opens, honest, Call, message, waitingList, Event, Run, _▹_, Within, at-end, sooner, throughout, sameSeat, ledgerAt, Obeys, acked, passes}
 use Rattle.agreement.specs.Premises.{implies, ackedBy, genuine}
-use Rattle.agreement.proofs.Places.{before, Order, same-event, earlier, later, order, happened-found, happened-later, throughout-at, obeys-before, obeys-at, seat-is, seat-self, ledger-induction, past-calls}
+use Rattle.agreement.proofs.Places.{before, Order, same-event, earlier, later, order, happened-later, throughout-at, obeys-before, obeys-at, ledger-induction, past-calls}
 use Rattle.agreement.proofs.Deeds.{acked-is, deed-found}
-use Rattle.agreement.proofs.Reachable.{Group, group, SoundEntry, Sound, sound, no-acks, ack-read, free-place}
-use Rattle.agreement.proofs.Entries.{Puts, puts-mark, puts-ack, puts-accepted, puts-ruled, each-entry, Marks, answer-acknowledge, Records}
+use Rattle.agreement.proofs.Soundness.{opened-entry, Group, group, Sound, no-acks, ack-read, free-place}
+use Rattle.agreement.proofs.Reachable.{sound}
+use Rattle.agreement.proofs.StepLaws.{Puts, puts-mark, puts-ack, puts-accepted, puts-ruled, each-entry, answer-acknowledge, Records}
 use Rattle.model.specs.Basics.{bit}
-use Rattle.model.specs.Records.{seatOf, freshEntry, entryOf}
+use Rattle.model.specs.Records.{entryOf}
 use Rattle.model.specs.Transfers.{equal}
 use Rattle.model.specs.Refusals.{ackFrom}
-use Rattle.model.specs.Openings.{openLedger}
 use Rattle.model.specs.Calls.{step, Answers, entryWithAck}
 use Rattle.model.proofs.Sums.{impossible, both}
-use Rattle.model.proofs.Equality.{equal-sound, equal-refl}
-use Rattle.model.proofs.Booking.{SameButBalance, Cleared}
 use Rattle.model.proofs.Steps.{Eligible, Recordable, Happens, happens}
 
 -- the last number of an account that this entry has booked or acked
@@ -174,7 +169,7 @@ module _ (o : Opening) (bad : Seat → Bool) (opens : Opens o) where
       → (a : Account) → FromSenders o bad r (entryOf (ledgerAt o s r) a)
   all-from run fair s =
       ledger-induction o s (λ r l. Within r run → (a : Account) → FromSenders o bad r (entryOf l a))
-      (λ w a i t h honestly. impossible (cc (h, ap (λ (e : Entry). ackFrom e i) (opened a), no-acks i)))
+      (λ w a i t h honestly. impossible (cc (h, ap (λ (e : Entry). ackFrom e i) (opened-entry o opens a), no-acks i)))
       (λ r e l other old w a. more r e (entryOf l a) (old (before w) a))
       (λ r b a q l old w c. more r (record { at = s; call = waitingList b q a }) (entryOf l c) (old (before w) c))
       (λ r m q l is obeys h old w a.
@@ -182,9 +177,6 @@ module _ (o : Opening) (bad : Seat → Bool) (opens : Opens o) where
       more r (record { at = s; call = message m q }) (entryOf (step l m .next) a)
       (step-from r l (step l m .next) m q ok (throughout-at (λ p e. genuine o bad p (e .call)) fair w) (happens l m q h) (old (before w)) a))
     where
-      opened : (a : Account) → entryOf (openLedger o .ledger) a ≡ freshEntry (getD (o .balances) (a .0) 0)
-      opened a = rw (group o opens .opened) (List·getD-map freshEntry (o .balances) (a .0) 0)
-
       more : (r : Run) (d : Event) (e : Entry) → FromSenders o bad r e → FromSenders o bad (r ▹ d) e
       more r d e old i t h honestly = acked-by-later i t {p = r} {r = r ▹ d} (sooner at-end) (old i t h honestly)
 

@@ -1,18 +1,17 @@
 -- The first point of demand 3: any two accepted slips with equal account and number are equal.
 use Prim.Native.Nat.{ℕ}
 use mathlib.Core.Path.{_≡_, refl, ap, sym, _∙_}
-use mathlib.Core.Logic.{_⊎_, inl, inr}
-use mathlib.Core.Bool.{Bool, true, false, not, cond, _&&_, _||_}
+use mathlib.Core.Bool.{Bool, true, false, not, cond}
 use mathlib.Core.List.{List, [], _∷_, _++_}
 use mathlib.Core.Option.{Option, none, some}
 use borrow.Author.Tests.{eq-eqb, eqb-true}
-use Rattle.agreement.specs.Types.{Seat, Account, Transfer, Ledger, Opening, Message, Ack, Decision, Reply, Accept, Propose}
-use Rattle.agreement.specs.Runs.{Opens, FewBad, Call, message, Event, Run, start, _▹_, Within, at-end, sooner, happened, ledgerAt, Obeys, accepted, proposed, ruled, passes}
-use Rattle.agreement.specs.Premises.{implies, ruledOn, ruledOtherwise, likewise, proposals, someSlip, allEqual, founded, rightful, Premises}
-use Rattle.agreement.proofs.Places.{before, within-trans, last-or-sooner, Order, same-event, earlier, later, order, happened-found, happened-holds, throughout-at, obeys-before, obeys-at}
+use Rattle.agreement.specs.Types.{Seat, Account, Transfer, Opening, Ack, Accept, Propose}
+use Rattle.agreement.specs.Runs.{Opens, FewBad, message, Event, Run, start, _▹_, Within, at-end, sooner, ledgerAt, Obeys, accepted, proposed, ruled, passes}
+use Rattle.agreement.specs.Premises.{ruledOn, ruledOtherwise, likewise, proposals, founded, rightful, Premises}
+use Rattle.agreement.proofs.Places.{before, within-trans, Order, same-event, earlier, later, order, happened-holds, throughout-at, obeys-before, obeys-at}
 use Rattle.agreement.proofs.Deeds.{Accepts, by-ack, by-ruling, accepted-is, proposed-is, passes-is}
 use Rattle.agreement.proofs.Reachable.{sound}
-use Rattle.agreement.proofs.Entries.{answer-accept, answer-propose}
+use Rattle.agreement.proofs.StepLaws.{answer-accept, answer-propose}
 use Rattle.agreement.proofs.Acked.{call-from}
 use Rattle.agreement.proofs.Votes.{Quorum, Majority, quorums-agree, quorum-proposed, accept-quorum, propose-majority}
 use Rattle.model.specs.Basics.{every}
@@ -99,7 +98,7 @@ founded-on t u (w ∷ ws) all h =
 
 module _ (o : Opening) (bad : Seat → Bool) (run : Run) (opens : Opens o) (few : FewBad o bad) (obeys : Obeys o run) (kept : Premises o bad run) where
   -- an ack answered K: its slip has a quorum
-  acks-quorum : (p : Run) (e : Event) (s : Seat) (t : Transfer) (k : ℕ) → Within (p ▹ e) run → e .call ≡ message (Ack s t) (Accept k)
+  pub acks-quorum : (p : Run) (e : Event) (s : Seat) (t : Transfer) (k : ℕ) → Within (p ▹ e) run → e .call ≡ message (Ack s t) (Accept k)
       → Quorum o bad run t
   acks-quorum p e s t k w is =
       let l = ledgerAt o (e .at) p in
@@ -151,10 +150,13 @@ module _ (o : Opening) (bad : Seat → Bool) (run : Run) (opens : Opens o) (few 
       go (earlier first) = earlier-ruling p q e d t u v first ist isu account number
       go (later first) = sym (earlier-ruling q p d e u t w first isu ist (sym account) (sym number))
 
-  -- a slip with a quorum is the one that a ruling for its account and number carries
-  pub quorum-ruled : (t u : Transfer) → Quorum o bad run t → (q : Run) (d : Event) → Within (q ▹ d) run → ruled (d .call) ≡ some u
+  -- where only t is put forward for its account and number, a ruling for them is for t
+  pub ruled-only : (t u : Transfer)
+      → ((q : Run) (d : Event) (w : Transfer) → Within (q ▹ d) run → proposed (d .call) ≡ some w
+      → t .account ≡ w .account → t .number ≡ w .number → t ≡ w)
+      → (q : Run) (d : Event) → Within (q ▹ d) run → ruled (d .call) ≡ some u
       → t .account ≡ u .account → t .number ≡ u .number → u ≡ t
-  quorum-ruled t u quorum q d w is account number =
+  ruled-only t u only q d w is account number =
       let test : Event → Bool = λ e. passes (sameNumber u) (ruled (e .call)) in
       let first = first-ruling u run (happened-holds test w (rw is (same-number u u refl refl))) in
       let alike = number-same u (first .slip) (first .likewise-it) in
@@ -167,9 +169,14 @@ module _ (o : Opening) (bad : Seat → Bool) (run : Run) (opens : Opens o) (few 
       all-t p within =
           proposals-all t u p
           (λ q d w v isw alike.
-          let place = within-trans v within in
           let same = number-same u w alike in
-          quorum-proposed o bad run opens few obeys t w quorum (proposed-majority q d w place isw) (account ∙ same .0) (number ∙ same .1))
+          only q d w (within-trans v within) isw (account ∙ same .0) (number ∙ same .1))
+
+  -- so it is for a slip with a quorum
+  quorum-ruled : (t u : Transfer) → Quorum o bad run t → (q : Run) (d : Event) → Within (q ▹ d) run → ruled (d .call) ≡ some u
+      → t .account ≡ u .account → t .number ≡ u .number → u ≡ t
+  quorum-ruled t u quorum =
+      ruled-only t u (λ q d w v is. quorum-proposed o bad run opens few obeys t w quorum (proposed-majority q d w v is))
 
   -- any two accepted slips with equal account and number are equal
   pub accepted-agree : (p q : Run) (e d : Event) (t u : Transfer)

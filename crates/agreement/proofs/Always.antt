@@ -1,33 +1,32 @@
 -- What holds of every run that obeys the definitions, premises or not: the statement is `Always` in specs/Claims.antt.
-use Prim.Native.Nat.{ℕ, _+_, _≤_, _<_}
+use Prim.Native.Nat.{ℕ, _+_, _≤_}
 use native.Mathlib.Omega.{arith}
 use mathlib.Core.Path.{_≡_, refl, ap, sym, _∙_}
 use mathlib.Core.Logic.{_⊎_, inl, inr}
-use mathlib.Core.Bool.{Bool, true, false, not, cond, _&&_, _||_, or-true}
+use mathlib.Core.Bool.{Bool, true, false, cond, _&&_, _||_, or-true}
 use mathlib.Core.List.{List}
-use mathlib.Core.Option.{none, some}
-use lib.ListN.{getD, List·getD-map}
-use Rattle.agreement.specs.Types.{Seat, Account, Transfer, Slot, Empty, Full, Entry, Ledger, Opening, Refusal, Message, Request, Circulated, Ack, Decision, Inquiry, Reply, Accept, Refuse}
-use Rattle.agreement.specs.Runs.{Opens, Call, message, waitingList, Event, Run, start, _▹_, Within, at-end, sooner, happened, sameSeat, nextLedger, ledgerAt, Conforms, Obeys, isAccept, accepted, ruled, passes}
-use Rattle.agreement.specs.Claims.{isRefusal, answeredK, mustAccept, acceptedBy, taken, ruledFor, Facts, Always}
-use Rattle.agreement.proofs.Places.{before, within-trans, happened-found, happened-holds, happened-later, obeys-before, obeys-at, seat-is, seat-self, ledger-induction, past-calls}
+use mathlib.Core.Option.{some}
+use Rattle.agreement.specs.Types.{Seat, Account, Transfer, Slot, Empty, Full, Entry, Ledger, Opening, Message, Request, Circulated, Ack, Decision, Inquiry, Reply, Accept}
+use Rattle.agreement.specs.Runs.{Opens, Call, message, waitingList, Event, Run, _▹_, Within, at-end, sooner, sameSeat, nextLedger, ledgerAt, Conforms, Obeys, accepted, ruled, passes}
+use Rattle.agreement.specs.Claims.{answeredK, mustAccept, acceptedBy, taken, ruledFor, Always}
+use Rattle.agreement.proofs.Places.{before, happened-found, happened-holds, happened-later, obeys-before, obeys-at, seat-is, seat-self, ledger-induction, past-calls}
 use Rattle.agreement.proofs.Deeds.{that-slip, deed-found}
-use Rattle.agreement.proofs.Reachable.{Group, group, SoundEntry, Sound, Meets, meets, sound}
-use Rattle.agreement.proofs.Entries.{Puts, puts-mark, puts-ack, puts-accepted, puts-ruled, each-entry, Turn, keeps, accepts, Accepting, turn}
+use Rattle.agreement.proofs.Soundness.{opened-entry, Group, group, SoundEntry, Sound, meets}
+use Rattle.agreement.proofs.Reachable.{sound}
+use Rattle.agreement.proofs.StepLaws.{answer-exactly, Puts, puts-mark, puts-ack, puts-accepted, puts-ruled, each-entry, Turn, keeps, accepts, turn}
 use Rattle.agreement.proofs.Slated.{slated}
 use Rattle.agreement.proofs.Acked.{acked-once}
-use Rattle.model.specs.Records.{freshEntry, withPending, sumCurrents, entryAt, setEntry, withEntry, entryOf}
+use Rattle.model.specs.Records.{freshEntry, withPending, sumCurrents, entryAt, setEntry, entryOf}
 use Rattle.model.specs.Transfers.{equal}
 use Rattle.model.specs.Acks.{holds, acksFor, enough}
-use Rattle.model.specs.Openings.{openLedger}
 use Rattle.model.specs.Settling.{settle}
-use Rattle.model.specs.Calls.{step, Answers, entryWithAck}
+use Rattle.model.specs.Calls.{step}
 use Rattle.model.proofs.Sums.{impossible, both, sum-set-same}
 use Rattle.model.proofs.Equality.{equal-sound, equal-refl}
 use Rattle.model.proofs.Access.{entry-set-same}
 use Rattle.model.proofs.Booking.{SameButBalance, Cleared}
 use Rattle.model.proofs.Settles.{Turned, kept, booked, settle-entry, settle-currents}
-use Rattle.model.proofs.Steps.{Eligible, Happens, refused, circulated, acknowledged, accepted-by-acks, proposed, noted, accepted-by-ruling, told, happens}
+use Rattle.model.proofs.Steps.{Eligible, Happens, happens}
 
 -- tests that hold of the same
 same-test : (a b : Bool) → (a ≡ true → b ≡ true) → (b ≡ true → a ≡ true) → a ≡ b
@@ -35,26 +34,9 @@ same-test true b forth back = sym (forth refl)
 same-test false true forth back = impossible (cc (back refl))
 same-test false false forth back = refl
 
--- A call accepts exactly if it must.
-refused-must : (l : Ledger) (m : Message) (r : Reply) (q : Refusal) → r ≡ Refuse q → isAccept r ≡ mustAccept l (message m r)
-refused-must l (Request t) r q e = rw e
-refused-must l (Circulated t) r q e = rw e
-refused-must l (Ack s t) r q e = rw e
-refused-must l (Decision t) r q e = rw e
-refused-must l (Inquiry a) r q e = rw e
-
-must-accept : (l next : Ledger) (m : Message) (r : Reply) → Happens l m r next → isAccept r ≡ mustAccept l (message m r)
-must-accept l next m r (refused q e same) = refused-must l m r q e
-must-accept l next m r (circulated t e f same) = rw (e, f)
-must-accept l next m r (acknowledged t e f fit clear same) = rw (e, f)
-must-accept l next m r (accepted-by-acks s t e f fit new full same) = rw (e, f, full)
-must-accept l next m r (proposed s t u e f fit new few must most same) = rw (e, f, few)
-must-accept l next m r (noted s t e f fit new few same) = rw (e, f, few)
-must-accept l next m r (accepted-by-ruling t e f fit same) = rw (e, f)
-must-accept l next m r (told a e f same) = rw (e, f)
-
+-- a call accepts exactly if it must
 call-accepts : (l : Ledger) (c : Call) → Conforms l c → answeredK c ≡ mustAccept l c
-call-accepts l (message m r) h = must-accept l _ m r (happens l m r h)
+call-accepts l (message m r) h = answer-exactly l _ m r (happens l m r h)
 call-accepts l (waitingList b q a) h = refl
 
 -- a ruling that is not refused accepts its slip
@@ -225,15 +207,12 @@ module _ (o : Opening) (opens : Opens o) (s : Seat) where
   all-reasons : (r : Run) → Obeys o r → (a : Account) → Reasons r (entryOf (ledgerAt o s r) a)
   all-reasons =
       ledger-induction o s (λ r l. (a : Account) → Reasons r (entryOf l a))
-      (λ a t waits. impossible (cc (waits, ap (λ (e : Entry). e .pending) (opened a))))
+      (λ a t waits. impossible (cc (waits, ap (λ (e : Entry). e .pending) (opened-entry o opens a))))
       (λ r e l other old a t waits. reason-stays r (r ▹ e) (entryOf l a) (entryOf l a) t (sooner at-end) refl (old a t waits))
       (λ r b a q l old c t waits. reason-stays r (r ▹ record { at = s; call = waitingList b q a }) (entryOf l c) (entryOf l c) t (sooner at-end) refl (old c t waits))
       (λ r m q l is obeys h old.
       let ok : Sound o l = rw is (sound o opens s r obeys) in
       step-reasons r l (step l m .next) m q ok (happens l m q h) old)
-    where
-      opened : (a : Account) → entryOf (openLedger o .ledger) a ≡ freshEntry (getD (o .balances) (a .0) 0)
-      opened a = rw (group o opens .opened) (List·getD-map freshEntry (o .balances) (a .0) 0)
 
   -- a slip with enough recorded acks was accepted
   pub decided-accepted : (r : Run) → Obeys o r → (t : Transfer)

@@ -9,16 +9,17 @@ use mathlib.Core.Bool.{Bool, true, false, cond, _&&_}
 use mathlib.Core.List.{List}
 use mathlib.Core.Option.{Option, none, some}
 use lib.Dec.{eqb}
-use lib.ListN.{length, getD, List·getD-map}
+use lib.ListN.{length, getD}
 use borrow.Author.Tests.{eq-eqb, ne-eqb}
-use Rattle.agreement.specs.Types.{Seat, Account, Transfer, Slot, Empty, Full, Entry, Ledger, Opening, Message, Reply}
+use Rattle.agreement.specs.Types.{Seat, Account, Transfer, Full, Entry, Ledger, Opening, Message, Reply}
 use Rattle.agreement.specs.Runs.{Opens, message, Event, Run, start, _▹_, Within, at-end, ledgerAt, Obeys, accepted}
 use Rattle.agreement.proofs.Places.{before, within-trans, nothing-yet, last-or-sooner, obeys-before, ledger-induction}
-use Rattle.agreement.proofs.Reachable.{Group, group, SoundEntry, Sound, bounded, sound}
-use Rattle.agreement.proofs.Entries.{Turn, keeps, accepts, Accepting, turn, SameState, Puts, puts-mark, puts-ack, puts-accepted, puts-ruled, each-entry}
+use Rattle.agreement.proofs.Soundness.{opened-entry, group, SoundEntry, Sound, bounded}
+use Rattle.agreement.proofs.Reachable.{sound}
+use Rattle.agreement.proofs.StepLaws.{Turn, keeps, accepts, turn, Puts, puts-mark, puts-ack, puts-accepted, puts-ruled, each-entry}
 use Rattle.agreement.proofs.Agree.{same-number, number-same}
 use Rattle.model.specs.Transfers.{sameAccount}
-use Rattle.model.specs.Records.{accountOf, freshEntry, freshLedger, withPending, entryAt, setEntry, withEntry, entryOf}
+use Rattle.model.specs.Records.{accountOf, withPending, entryAt, setEntry, withEntry, entryOf}
 use Rattle.model.specs.Openings.{openLedger}
 use Rattle.model.specs.Settling.{apply, settle}
 use Rattle.model.specs.Calls.{step}
@@ -160,18 +161,14 @@ module _ (slipOf : Account → ℕ → Option Transfer) (o : Opening) where
   opened-balanced : Opens o → Balanced (openLedger o .ledger .entries)
   unfolding paid received broughtBy
   opened-balanced opens =
-      rw (group o opens .opened)
-      (record {
-        waits-are = λ a t h. impossible (cc (h, ap (λ (e : Entry). e .pending) (read a)));
+      record {
+        waits-are = λ a t h. impossible (cc (h, ap (λ (e : Entry). e .pending) (opened-entry o opens a)));
         equation = λ b.
-            let nothing = below-same (λ i. 0) (λ i. broughtBy b (accountOf i) (entryOf (freshLedger o) (accountOf i) .current)) (length (o .balances))
-            (λ i lower. rw (read (accountOf i)) refl) in
-            rw (read b) (omega (arith, all-zero (length (o .balances))));
-      })
+            let nothing = below-same (λ i. 0) (λ i. broughtBy b (accountOf i) (entryOf (openLedger o .ledger) (accountOf i) .current)) (length (o .balances))
+            (λ i lower. rw (opened-entry o opens (accountOf i)) refl) in
+            rw (opened-entry o opens b) (omega (arith, all-zero (length (o .balances))));
+      }
     where
-      read : (a : Account) → entryOf (freshLedger o) a ≡ freshEntry (getD (o .balances) (a .0) 0)
-      read a = List·getD-map freshEntry (o .balances) (a .0) 0
-
       all-zero : (n : ℕ) → below (λ i. 0) n ≡ 0
       all-zero zero = refl
       all-zero (suc n) = omega (arith, all-zero n)
@@ -221,7 +218,7 @@ behind o opens s r obeys a = all r obeys a
 
     all : (r : Run) → Obeys o r → (a : Account) → Unused a (entryOf (ledgerAt o s r) a)
     all =
-        ledger-induction o s (λ r l. (a : Account) → Unused a (entryOf l a)) (λ a above. rw (opened a) refl)
+        ledger-induction o s (λ r l. (a : Account) → Unused a (entryOf l a)) (λ a above. rw (opened-entry o opens a) refl)
         (λ r e l other old. old)
         (λ r b a q l old. old)
         (λ r m q l is obeys h old.
@@ -231,9 +228,6 @@ behind o opens s r obeys a = all r obeys a
         (λ a e e′ t stands waits clear was above. absurd (within-accounts a e t stands waits above))
         old (λ t x put. puts l m q t x old put) (happens l m q h))
       where
-        opened : (a : Account) → entryOf (openLedger o .ledger) a ≡ freshEntry (getD (o .balances) (a .0) 0)
-        opened a = rw (group o opens .opened) (List·getD-map freshEntry (o .balances) (a .0) 0)
-
         within-accounts : (a : Account) (e : Entry) (t : Transfer) → SoundEntry o a e → e .pending ≡ Full t → o .accounts ≤ a .0 → ⊥
         within-accounts a e t stands waits above =
             let found = stands .pending-stands t waits in

@@ -6,7 +6,7 @@ use native.Mathlib.Omega.{arith}
 use mathlib.Core.Path.{_≡_, refl}
 use mathlib.Core.Bool.{Bool, true, false, not, _&&_, _||_, false≢true}
 use mathlib.Core.List.{List, [], _∷_}
-use mathlib.Core.Option.{Option, none, some}
+use mathlib.Core.Option.{some}
 use lib.Dec.{eqb, lit≤}
 use lib.ListN.{drop, replicate}
 use borrow.Author.Tests.{ne-eqb}
@@ -30,7 +30,7 @@ use Rattle.agreement.proofs.Places.{happened-found}
 use Rattle.agreement.proofs.Deeds.{that-slip}
 use Rattle.model.proofs.Rows.{slip, pageWith}
 use Rattle.model.proofs.Sums.{impossible, both}
-use Rattle.model.proofs.Equality.{equal-sound, conflict-sound}
+use Rattle.model.proofs.Equality.{conflict-sound}
 
 -- n 6, f 1: 5 acks accept, and 5 recorded acks that conflict put forward
 abbrev page : Opening
@@ -461,7 +461,7 @@ unfolding slateAt leaveAll leaveAtMost equal
 slate-facts = (refl, refl, refl, refl, refl, refl, refl, refl, refl)
 
 -- "the one with the lowest account leaves", in whichever order they came
-pub lowest-leaves :
+pub lowest-first :
     (lowest (λ s. true) (t ∷ v ∷ []) ≡ some t)
     × (lowest (λ s. true) (v ∷ t ∷ []) ≡ some t)
-lowest-leaves = (refl, refl)
+lowest-first = (refl, refl)

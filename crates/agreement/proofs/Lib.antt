@@ -1,8 +1,9 @@
 -- Demand 3, proved: `demand3`, in Demand3.antt. The files before it are its steps.
 pub mod Places
 pub mod Deeds
+pub mod Soundness
+pub mod StepLaws
 pub mod Reachable
-pub mod Entries
 pub mod SlateSettles
 pub mod Slated
 pub mod Counting

@@ -1,9 +1,8 @@
 -- Places in a run: how they are ordered, and what the tests over a run say at each of them.
 use mathlib.Core.Path.{_≡_, refl, ap, sym, _∙_}
 use mathlib.Core.Logic.{_⊎_, inl, inr}
-use mathlib.Core.Bool.{Bool, true, false, cond, _&&_, _||_, or-true}
-use borrow.Author.Tests.{eq-eqb, ne-eqb, eqb-true}
-use native.Mathlib.Decide.{ℕ-discrete}
+use mathlib.Core.Bool.{Bool, true, false, cond, or-true}
+use borrow.Author.Tests.{eq-eqb, eqb-true}
 use Prim.Native.Nat.{ℕ}
 use mathlib.Core.List.{List}
 use Rattle.agreement.specs.Types.{Seat, Ledger, Opening, Message, Reply, ListReply}

@@ -1,33 +1,28 @@
 -- Each ledger is its slate, at every place of a run that obeys: the second point of demand 3. It needs no premises.
 use Prim.Native.Nat.{ℕ}
-use mathlib.Core.Path.{_≡_, refl, ap, sym, _∙_}
+use mathlib.Core.Path.{_≡_, refl, ap, _∙_}
 use mathlib.Core.Bool.{true}
-use mathlib.Core.Option.{Option, none, some}
-use lib.ListN.{getD, List·getD-map}
 use borrow.Author.Tests.{eq-eqb}
-use Rattle.agreement.specs.Types.{Seat, Account, Transfer, Entry, Ledger, Opening, Message, Reply, Balance, Inquiry}
-use Rattle.agreement.specs.Runs.{Opens, Call, message, Event, Run, start, _▹_, Within, sameSeat, ledgerAt, Obeys, accepted}
+use Rattle.agreement.specs.Types.{Seat, Account, Entry, Ledger, Opening, Message, Reply, Balance, Inquiry}
+use Rattle.agreement.specs.Runs.{Opens, message, Event, Run, _▹_, Within, sameSeat, ledgerAt, Obeys, accepted}
 use Rattle.agreement.specs.Slates.{Slate, freshSlate, nextSlate, slateAt, join}
 use Rattle.agreement.proofs.Places.{before, obeys-before, obeys-at, ledger-induction}
-use Rattle.agreement.proofs.Reachable.{Group, group, Sound, bounded, sound}
-use Rattle.agreement.proofs.Entries.{Turn, keeps, accepts, Accepting, turn, answer-balance}
+use Rattle.agreement.proofs.Soundness.{opened-entry, Group, group, Sound, bounded}
+use Rattle.agreement.proofs.Reachable.{sound}
+use Rattle.agreement.proofs.StepLaws.{Turn, keeps, accepts, turn, answer-balance}
 use Rattle.agreement.proofs.SlateSettles.{Matches, quiet-matches, join-matches, settle-matches}
-use Rattle.model.specs.Records.{freshEntry, freshLedger, setEntry, withPending, withEntry, entryOf}
+use Rattle.model.specs.Records.{setEntry, withPending, withEntry}
 use Rattle.model.specs.Openings.{openLedger}
 use Rattle.model.specs.Calls.{step}
 use Rattle.model.proofs.Steps.{happens}
 
 opened-matches : (o : Opening) → Opens o → Matches (openLedger o .ledger .entries) (freshSlate o)
 opened-matches o opens =
-    rw (group o opens .opened)
-    (record {
-      balance-is = λ a. ap (λ (e : Entry). e .balance) (read a);
-      count-is = λ a. ap (λ (e : Entry). e .current) (read a);
-      waiting-is = λ t. rw (read (t .account)) refl;
-    })
-  where
-    read : (a : Account) → entryOf (freshLedger o) a ≡ freshEntry (getD (o .balances) (a .0) 0)
-    read a = List·getD-map freshEntry (o .balances) (a .0) 0
+    record {
+      balance-is = λ a. ap (λ (e : Entry). e .balance) (opened-entry o opens a);
+      count-is = λ a. ap (λ (e : Entry). e .current) (opened-entry o opens a);
+      waiting-is = λ t. rw (opened-entry o opens (t .account)) refl;
+    }
 
 -- a call keeps the ledger its slate's
 turn-matches : (o : Opening) (l next : Ledger) (m : Message) (r : Reply) (s : Slate) → Group o → Sound o l → Turn o l m r next

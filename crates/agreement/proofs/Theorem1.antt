@@ -5,13 +5,14 @@ use native.Mathlib.Omega.{arith}
 use mathlib.Core.Path.{_≡_, refl, ap, sym, _∙_}
 use mathlib.Core.Bool.{Bool, true, false}
 use borrow.Author.Tests.{lt-ltb}
-use Rattle.agreement.specs.Types.{Seat, Transfer, Slot, Empty, Full, AckSlot, Entry, Opening}
-use Rattle.agreement.specs.Runs.{Opens, countBelow, FewBad, honest, Run, _▹_, Within, at-end, ledgerAt, Obeys}
+use Rattle.agreement.specs.Types.{Seat, Transfer, Full, Entry, Opening}
+use Rattle.agreement.specs.Runs.{Opens, countBelow, FewBad, honest, Run, Within, ledgerAt, Obeys}
 use Rattle.agreement.specs.Premises.{ackedBy, Premises}
-use Rattle.agreement.specs.Claims.{acceptedBy, Theorem1}
+use Rattle.agreement.specs.Claims.{Theorem1}
 use Rattle.agreement.proofs.Places.{obeys-before}
 use Rattle.agreement.proofs.Counting.{count-lift, quorum-most}
-use Rattle.agreement.proofs.Reachable.{group, sound}
+use Rattle.agreement.proofs.Soundness.{group}
+use Rattle.agreement.proofs.Reachable.{sound}
 use Rattle.agreement.proofs.Acked.{acked-by-later, acked-by-once, all-from}
 use Rattle.agreement.proofs.Votes.{vote, Tally, votes-counted, Majority}
 use Rattle.agreement.proofs.Agree.{proposed-majority}
@@ -19,9 +20,8 @@ use Rattle.agreement.proofs.Always.{decided-accepted}
 use Rattle.model.specs.Basics.{bit}
 use Rattle.model.specs.Records.{seatOf, entryOf}
 use Rattle.model.specs.Transfers.{equal}
-use Rattle.model.specs.Acks.{holds, isFull, acksFor, enough}
+use Rattle.model.specs.Acks.{holds, acksFor, enough}
 use Rattle.model.specs.Refusals.{ackFrom}
-use Rattle.model.proofs.Sums.{impossible}
 use Rattle.model.proofs.Equality.{equal-refl}
 
 -- every number below n is counted
@@ -47,8 +47,8 @@ module _ (o : Opening) (bad : Seat → Bool) (run : Run) (opens : Opens o) (few 
             let stands = major .tally .stands (seatOf i) w hw in
             let acked-it = major .tally .from (seatOf i) w hw (honestly i below fair) in
             let same =
-                acked-by-once o opens run obeys (seatOf i) t w (all-acked (seatOf i) (honestly i below fair)) acked-it
-                (account ∙ sym (stands .1)) (number ∙ sym (stands .2)) in
+            acked-by-once o opens run obeys (seatOf i) t w (all-acked (seatOf i) (honestly i below fair)) acked-it
+            (account ∙ sym (stands .1)) (number ∙ sym (stands .2)) in
             let this : t ≡ v = cc in
             sym this ∙ same
 

@@ -1,27 +1,22 @@
 -- The acks that K and P rest on, as votes of the seats: how they are counted, and that two tallies of one number agree off the bad seats.
 use Prim.Native.Nat.{ℕ, zero, suc, _+_, _-_, _*_, _≤_, _<_}
-use native.Mathlib.Decide.{decLe}
 use native.Mathlib.Omega.{arith}
 use mathlib.Core.Path.{_≡_, refl, ap, sym, _∙_}
-use mathlib.Core.Logic.{_⊎_, inl, inr}
 use mathlib.Core.Bool.{Bool, true, false, not, _&&_}
-use mathlib.Core.List.{List}
 use lib.Dec.{leb}
-use lib.ListN.{length, getD}
+use lib.ListN.{length}
 use borrow.Author.Tests.{leb-true, ltb-true, lt-ltb}
-use Rattle.agreement.specs.Types.{Seat, Account, Transfer, Slot, Empty, Full, AckSlot, Entry, Ledger, Opening, Message, Ack}
-use Rattle.agreement.specs.Runs.{Opens, countBelow, FewBad, honest, Event, Run, _▹_, Within, throughout, ledgerAt, Obeys}
-use Rattle.agreement.specs.Premises.{genuine}
+use Rattle.agreement.specs.Types.{Seat, Account, Transfer, Slot, Empty, Full, AckSlot, Entry, Ledger, Opening, Message}
+use Rattle.agreement.specs.Runs.{Opens, countBelow, FewBad, honest, Run, Obeys}
 use Rattle.agreement.proofs.Counting.{count-places, count-more, two-quorums, quorum-most}
-use Rattle.agreement.proofs.Reachable.{Group, group, Sound, accepted-entry, ack-counted, free-place}
-use Rattle.agreement.proofs.Entries.{Records, Proposes}
+use Rattle.agreement.proofs.Soundness.{group, Sound, accepted-entry, ack-counted, free-place}
+use Rattle.agreement.proofs.StepLaws.{Records, Proposes}
 use Rattle.agreement.proofs.Acked.{FromSenders, acked-by-once}
 use Rattle.model.specs.Basics.{bit, count}
 use Rattle.model.specs.Records.{seatOf, entryOf}
-use Rattle.model.specs.Transfers.{equal}
 use Rattle.model.specs.Acks.{holds, isFull, acksFor, acksRecorded, enough, twoConflict}
 use Rattle.model.specs.Refusals.{ackFrom}
-use Rattle.model.specs.Calls.{mustPropose, entryWithAck}
+use Rattle.model.specs.Calls.{entryWithAck}
 use Rattle.model.proofs.Sums.{impossible, both}
 use Rattle.model.proofs.Equality.{equal-sound, equal-refl}
 use Rattle.model.proofs.Tallies.{most-sound}

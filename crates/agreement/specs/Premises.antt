@@ -4,7 +4,7 @@ use mathlib.Core.Bool.{Bool, true, false, cond, not, _&&_, _||_}
 use mathlib.Core.List.{List, [], _∷_, _++_}
 use mathlib.Core.Option.{Option, none, some}
 use Rattle.agreement.specs.Types.{Seat, Transfer, Opening, Request, Circulated, Ack, Decision, Inquiry}
-use Rattle.agreement.specs.Runs.{Call, message, waitingList, Event, Run, start, _▹_, happened, throughout, honest, sameSeat, acked, proposed, ruled, passes}
+use Rattle.agreement.specs.Runs.{Call, message, waitingList, Run, start, _▹_, happened, throughout, honest, sameSeat, acked, proposed, ruled, passes}
 use Rattle.model.specs.Basics.{every}
 use Rattle.model.specs.Transfers.{sameNumber, equal, conflict}
 

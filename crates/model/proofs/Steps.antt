@@ -1,21 +1,20 @@
 -- What a call does, as one case per outcome with its evidence, for every ledger and message. Proofs about runs use `happens` and the
 -- laws after it in place of the definitions' text.
-use Prim.Native.Nat.{ℕ, _+_, _≤_, _<_}
+use Prim.Native.Nat.{_+_, _<_}
 use native.Mathlib.Omega.{arith}
-use mathlib.Core.Path.{_≡_, refl, ap, sym, _∙_}
-use mathlib.Core.Bool.{Bool, true, false, cond, _||_}
-use mathlib.Core.List.{List}
+use mathlib.Core.Path.{_≡_, refl}
+use mathlib.Core.Bool.{Bool, true, false, _||_}
 use mathlib.Core.Option.{Option, none, some}
 use lib.Dec.{eqb, ltb}
-use borrow.Author.Tests.{leb-false, ltb-false}
-use Rattle.model.specs.Types.{Seat, Account, Transfer, Slot, Empty, Full, Entry, Ledger, Settled, Refusal, Message, Request, Circulated, Ack, Decision, Inquiry, Reply, Circulate, Acknowledge, Accept, Propose, Note, Balance, Refuse}
+use borrow.Author.Tests.{leb-false}
+use Rattle.model.specs.Types.{Seat, Account, Transfer, Entry, Ledger, Settled, Refusal, Message, Request, Circulated, Ack, Decision, Inquiry, Reply, Circulate, Acknowledge, Accept, Propose, Note, Balance, Refuse}
 use Rattle.model.specs.Records.{entryOf, withEntry, withEntries, withAcked, withProposed}
 use Rattle.model.specs.Replies.{Allows}
-use Rattle.model.specs.Refusals.{firstRefusal, waitsAlready, ackFrom, transferRules, rulesOf, outOfRange, unknownAccount}
+use Rattle.model.specs.Refusals.{firstRefusal, waitsAlready, ackFrom, rulesOf, outOfRange, unknownAccount}
 use Rattle.model.specs.Acks.{holds, conflicts, acksFor, enough, hasMost}
 use Rattle.model.specs.Settling.{accept}
-use Rattle.model.specs.Calls.{unlessRefused, replies, accepted, mustPropose, entryWithAck, tallied, effect, step, Answers}
-use Rattle.model.proofs.Sums.{impossible, neither}
+use Rattle.model.specs.Calls.{unlessRefused, mustPropose, entryWithAck, tallied, effect, step, Answers}
+use Rattle.model.proofs.Sums.{neither}
 use Rattle.model.proofs.Refusing.{AllFail, none-holds, next-number}
 
 -- what a slip is that 5 to 8 do not refuse

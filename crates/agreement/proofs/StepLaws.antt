@@ -1,16 +1,15 @@
 -- The laws of a step that the proofs about runs use, and all of them: what a call puts into an account's entry (`each-entry`), what it
 -- does to balances, current numbers and waiting slips (`turn`), and what its reply means (`answer-acknowledge` and so on). Later
 -- definitions of a step prove these again, and the rest stays.
-use Prim.Native.Nat.{ℕ, _+_, _≤_, _<_}
-use native.Mathlib.Omega.{arith}
-use mathlib.Core.Path.{_≡_, refl, ap, sym, _∙_}
+use Prim.Native.Nat.{ℕ, _+_}
+use mathlib.Core.Path.{_≡_, refl, ap}
 use mathlib.Core.Logic.{_⊎_, inl, inr}
-use mathlib.Core.Bool.{Bool, true, false}
+use mathlib.Core.Bool.{true, false}
 use mathlib.Core.Option.{none, some}
-use lib.ListN.{length}
-use Rattle.agreement.specs.Types.{Seat, Account, Transfer, Empty, Full, Entry, Ledger, Opening, Refusal, Message, Request, Circulated, Ack, Decision, Inquiry, Reply, Acknowledge, Accept, Propose, Balance, Refuse}
+use Rattle.agreement.specs.Types.{Seat, Account, Transfer, Full, Entry, Ledger, Opening, Refusal, Message, Request, Circulated, Ack, Decision, Inquiry, Reply, Acknowledge, Accept, Propose, Balance, Refuse}
 use Rattle.agreement.specs.Runs.{message, isAccept, accepted}
-use Rattle.agreement.proofs.Reachable.{Group, SoundEntry, Sound, Meets, meets, accepted-entry, ruled-entry, waits-sound}
+use Rattle.agreement.specs.Claims.{mustAccept}
+use Rattle.agreement.proofs.Soundness.{Group, SoundEntry, Sound, Meets, meets, marked-sound, stored, noted-entry, accepted-entry, ruled-entry, waits-sound, accept-sound}
 use Rattle.model.specs.Records.{withAcked, withProposed, withPending, entryAt, setEntry, withEntries, withEntry, entryOf}
 use Rattle.model.specs.Acks.{acksFor, enough, hasMost}
 use Rattle.model.specs.Settling.{settle, accept}
@@ -20,6 +19,26 @@ use Rattle.model.proofs.Access.{set-each, with-entry-same}
 use Rattle.model.proofs.Booking.{SameButBalance, Cleared}
 use Rattle.model.proofs.Settles.{Turned, kept, booked, settle-entry}
 use Rattle.model.proofs.Steps.{Eligible, Recordable, Happens, refused, circulated, acknowledged, accepted-by-acks, proposed, noted, accepted-by-ruling, told}
+
+-- every call leaves a sound ledger
+pub step-sound : (o : Opening) (l next : Ledger) (m : Message) (r : Reply) → Group o → Sound o l → Happens l m r next → Sound o next
+step-sound o l next m r g ok (refused q e same) = rw same ok
+step-sound o l next m r g ok (circulated t e f same) = rw same ok
+step-sound o l next m r g ok (acknowledged t e f fit clear same) =
+    let old = entryOf l (t .account) in
+    let new = marked-sound o (t .account) old (withAcked old) refl refl refl (ok .each (t .account)) in
+    rw same (stored o l g ok (t .account) (withAcked old) new refl)
+step-sound o l next m r g ok (accepted-by-acks s t e f fit new full same) =
+    rw same (accept-sound o l t (entryWithAck l s t) g ok refl (accepted-entry o l t g ok fit s new))
+step-sound o l next m r g ok (proposed s t u e f fit new few must most same) =
+    let old = entryWithAck l s t in
+    let sound = marked-sound o (t .account) old (withProposed old) refl refl refl (noted-entry o l t g ok fit s new few) in
+    rw same (stored o l g ok (t .account) (withProposed old) sound refl)
+step-sound o l next m r g ok (noted s t e f fit new few same) =
+    rw same (stored o l g ok (t .account) (entryWithAck l s t) (noted-entry o l t g ok fit s new few) refl)
+step-sound o l next m r g ok (accepted-by-ruling t e f fit same) =
+    rw same (accept-sound o l t (entryOf l (t .account)) g ok refl (ruled-entry o l t g ok fit))
+step-sound o l next m r g ok (told a e f same) = rw same ok
 
 -- The entry x that a call puts in the place of the account's of slip t, before anything is settled.
 pub data Puts (l : Ledger) (m : Message) (r : Reply) (t : Transfer) (x : Entry) : Type 0 where
@@ -220,3 +239,21 @@ answer-balance l next m r a b kind reply (proposed s t u e f fit new few must mo
 answer-balance l next m r a b kind reply (noted s t e f fit new few same) = impossible (cc)
 answer-balance l next m r a b kind reply (accepted-by-ruling t e f fit same) = impossible (cc)
 answer-balance l next m r a b kind reply (told c e f same) = let account : a ≡ c = cc in rw account (let told : b ≡ entryOf l c .balance = cc in told)
+
+-- K exactly if an ack makes enough, or to a ruling, where these are not refused: no other call is answered K.
+refused-must : (l : Ledger) (m : Message) (r : Reply) (q : Refusal) → r ≡ Refuse q → isAccept r ≡ mustAccept l (message m r)
+refused-must l (Request t) r q e = rw e
+refused-must l (Circulated t) r q e = rw e
+refused-must l (Ack s t) r q e = rw e
+refused-must l (Decision t) r q e = rw e
+refused-must l (Inquiry a) r q e = rw e
+
+pub answer-exactly : (l next : Ledger) (m : Message) (r : Reply) → Happens l m r next → isAccept r ≡ mustAccept l (message m r)
+answer-exactly l next m r (refused q e same) = refused-must l m r q e
+answer-exactly l next m r (circulated t e f same) = rw (e, f)
+answer-exactly l next m r (acknowledged t e f fit clear same) = rw (e, f)
+answer-exactly l next m r (accepted-by-acks s t e f fit new full same) = rw (e, f, full)
+answer-exactly l next m r (proposed s t u e f fit new few must most same) = rw (e, f, few)
+answer-exactly l next m r (noted s t e f fit new few same) = rw (e, f, few)
+answer-exactly l next m r (accepted-by-ruling t e f fit same) = rw (e, f)
+answer-exactly l next m r (told a e f same) = rw (e, f)

@@ -1,0 +1,338 @@
+-- What is sound in a ledger: sizes, sums, and what its stored slips are. What a call stores keeps it so.
+use Prim.Native.Nat.{ℕ, zero, suc, _+_, _*_, _≤_, _<_}
+use native.Mathlib.Omega.{arith}
+use mathlib.Core.Path.{_≡_, refl, ap, sym, _∙_}
+use mathlib.Core.Logic.{_⊎_, inl, inr}
+use mathlib.Core.Bool.{Bool, true, false, _||_}
+use mathlib.Core.Option.{Option, none, some}
+use native.Mathlib.Decide.{ℕ-discrete}
+use lib.Dec.{leb, ltb}
+use lib.ListN.{length, getD, replicate, length-set, List·getD-map, length-map}
+use lib.Seq.{getD-set-same, getD-set-other}
+use borrow.Author.Tests.{leb-false, ltb-false, ltb-true, eq-eqb}
+use Rattle.agreement.specs.Types.{Seat, Account, Transfer, Slot, Empty, Full, AckSlot, Entry, Ledger, Opening, Refusal, Opened}
+use Rattle.agreement.specs.Runs.{Opens}
+use Rattle.model.specs.Basics.{bit, sumOf}
+use Rattle.model.specs.Records.{seatOf, noAcks, freshEntry, withAck, withPending, sumBalances, freshLedger, withEntries, withEntry, entryOf}
+use Rattle.model.specs.Transfers.{sameNumber, equal}
+use Rattle.model.specs.Acks.{holds, conflicts, acksFor, enough}
+use Rattle.model.specs.Refusals.{firstRefusal, waitsAlready, ackFrom}
+use Rattle.model.specs.Openings.{openRules, openAnswer, openLedger}
+use Rattle.model.specs.Settling.{settle, accept}
+use Rattle.model.specs.Calls.{entryWithAck}
+use Rattle.model.proofs.Sums.{impossible, neither, sum-set, sum-set-same}
+use Rattle.model.proofs.Equality.{equal-sound, equal-refl, Conflict, conflict-complete}
+use Rattle.model.proofs.Access.{no-acks-length, set-each, set-entry-length}
+use Rattle.model.proofs.Booking.{SameButBalance, Cleared}
+use Rattle.model.proofs.Settles.{Bounded, settle-each, settle-sum, settle-length}
+use Rattle.model.proofs.Refusing.{none-holds}
+use Rattle.model.proofs.Witnesses.{fresh-sum}
+use Rattle.model.proofs.Steps.{Eligible, Recordable}
+
+-- what an opening page that is not refused has
+pub record Group (o : Opening) : Type 0 where
+  pub seats-fit : o .seats ≤ 16
+  pub few-faults : 5 * o .faults < o .seats
+  pub accounts-fit : o .accounts ≤ 32
+  pub sum-fits : sumOf (λ b. b) (o .balances) < 4_294_967_296
+  pub opened : openLedger o .ledger ≡ freshLedger o
+
+pub group : (o : Opening) → Opens o → Group o
+unfolding openLedger
+group o opens = go (firstRefusal (openRules o)) refl (opens .not-refused)
+  where
+    go : (q : Option Refusal) → firstRefusal (openRules o) ≡ q → openAnswer q (freshLedger o) .reply ≡ Opened → Group o
+    go none e h =
+        let fail = none-holds (openRules o) e in
+        let seats = neither (ltb (o .seats) 1 || ltb 16 (o .seats)) (leb (o .seats) (5 * o .faults)) (fail .0) in
+        let size = neither (ltb (o .seats) 1) (ltb 16 (o .seats)) (seats .0) in
+        let accounts = neither (ltb (o .accounts) 1) (ltb 32 (o .accounts)) (neither _ _ (fail .1 .0) .0) in
+        record {
+          seats-fit = ltb-false 16 (o .seats) (size .1);
+          few-faults = omega (arith, leb-false (o .seats) (5 * o .faults) (seats .1));
+          accounts-fit = ltb-false 32 (o .accounts) (accounts .1);
+          sum-fits = omega (arith, ltb-false 4_294_967_295 (sumOf (λ b. b) (o .balances)) (fail .1 .1 .0));
+          opened = rw e;
+        }
+    go (some q) e h = impossible (cc)
+
+-- An account's entry: its acks and its waiting slip are of this account and of the next number, acks are from seats of the group, and
+-- a slip with enough recorded acks is the one that waits.
+pub record SoundEntry (o : Opening) (a : Account) (e : Entry) : Type 0 where
+  pub acks-size : length (e .acks) ≡ 16
+  pub acks-stand : (s : Seat) (t : Transfer) → ackFrom e s ≡ Full t → (s .0 < o .seats) × (t .account ≡ a) × (t .number ≡ e .current + 1)
+  pub pending-stands : (t : Transfer) → e .pending ≡ Full t
+      → (t .account ≡ a) × (t .number ≡ e .current + 1) × (t .account .0 < o .accounts) × (t .recipient .0 < o .accounts)
+  pub decided : (t : Transfer) → enough (o .seats) (o .faults) (acksFor t (e .acks)) ≡ true → e .pending ≡ Full t
+
+pub record Sound (o : Opening) (l : Ledger) : Type 0 where
+  pub seats-same : l .seats ≡ o .seats
+  pub faults-same : l .faults ≡ o .faults
+  pub accounts-same : l .accounts ≡ o .accounts
+  pub size : length (l .entries) ≡ 32
+  pub sum-same : sumBalances (l .entries) ≡ sumOf (λ b. b) (o .balances)
+  pub each : (a : Account) → SoundEntry o a (entryOf l a)
+
+-- no ack is recorded
+pub no-acks : (s : Seat) → getD noAcks (s .0) (record { slot = Empty }) .slot ≡ Empty
+unfolding noAcks
+no-acks s = ap (λ (a : AckSlot). a .slot) (all-same (record { slot = Empty }) 16 (s .0))
+  where
+    all-same : (x : AckSlot) (n i : ℕ) → getD (replicate n x) i x ≡ x
+    all-same x zero i = refl
+    all-same x (suc n) zero = refl
+    all-same x (suc n) (suc i) = all-same x n i
+
+no-acks-for : (t : Transfer) → acksFor t noAcks ≡ 0
+unfolding noAcks
+no-acks-for t = refl
+
+module _ (o : Opening) where
+  none-enough : (t : Transfer) → enough (o .seats) (o .faults) (acksFor t noAcks) ≡ true → ⊥
+  none-enough t h =
+      let few = ltb-true (o .seats + 3 * o .faults) (2 * acksFor t noAcks) h in
+      omega (arith, no-acks-for t)
+
+  -- an entry in which nothing is recorded and nothing waits
+  quiet : (a : Account) (e : Entry) → e .acks ≡ noAcks → e .pending ≡ Empty → SoundEntry o a e
+  quiet a e acks pending =
+      record {
+        acks-size = rw acks no-acks-length;
+        acks-stand = λ s t h. impossible (cc (rw acks at h, no-acks s));
+        pending-stands = λ t h. impossible (cc);
+        decided = λ t h. absurd (none-enough t (rw acks at h));
+      }
+
+  -- what stays where acks, current and the waiting slip stay
+  pub marked-sound : (a : Account) (e e′ : Entry) → e′ .acks ≡ e .acks → e′ .current ≡ e .current → e′ .pending ≡ e .pending
+      → SoundEntry o a e → SoundEntry o a e′
+  marked-sound a e e′ acks current pending ok =
+      record {
+        acks-size = rw acks (ok .acks-size);
+        acks-stand = λ s t h. rw current (ok .acks-stand s t (rw acks at h));
+        pending-stands = λ t h. rw current (ok .pending-stands t (rw pending at h));
+        decided = λ t h. rw pending (ok .decided t (rw acks at h));
+      }
+
+  kept-sound : (a : Account) (e e′ : Entry) → SameButBalance e e′ → SoundEntry o a e → SoundEntry o a e′
+  kept-sound a e e′ same =
+      marked-sound a e e′ (ap (λ (x : Entry). x .acks) same) (ap (λ (x : Entry). x .current) same) (ap (λ (x : Entry). x .pending) same)
+
+  booked-sound : (a : Account) (e e′ : Entry) (t : Transfer) → e .pending ≡ Full t → Cleared t e′ → SoundEntry o a e → SoundEntry o a e′
+  booked-sound a e e′ t waits clear ok = quiet a e′ (clear .no-acks) (clear .none-pending)
+
+  -- an account for which a call brings an eligible slip has nothing that waits
+  pub idle : (a : Account) (e : Entry) (t : Transfer) → SoundEntry o a e → t .account ≡ a → t .number ≡ e .current + 1
+      → waitsAlready (e .pending) t ≡ false → e .pending ≡ Empty
+  idle a e t ok account next free = go (e .pending) refl free
+    where
+      go : (p : Slot) → e .pending ≡ p → waitsAlready p t ≡ false → p ≡ Empty
+      go Empty h free = refl
+      go (Full u) h free =
+          let stands = ok .pending-stands u h in
+          let same : sameNumber u t ≡ true =
+          rw (eq-eqb (u .account .0) (t .account .0) (ap (λ (b : Account). b .0) (stands .0 ∙ sym account)))
+          (eq-eqb (u .number) (t .number) (omega (arith, stands .1))) in
+          impossible (cc)
+
+  -- and has no ack recorded from a seat whose ack neither 9 nor 10 refuses
+  pub unrecorded : (a : Account) (e : Entry) (s : Seat) (t : Transfer) → SoundEntry o a e → t .account ≡ a → t .number ≡ e .current + 1
+      → holds t (ackFrom e s) ≡ false → conflicts t (ackFrom e s) ≡ false → ackFrom e s ≡ Empty
+  unrecorded a e s t ok account next differs agrees = go (ackFrom e s) refl differs agrees
+    where
+      go : (p : Slot) → ackFrom e s ≡ p → holds t p ≡ false → conflicts t p ≡ false → p ≡ Empty
+      go Empty h differs agrees = refl
+      go (Full u) h differs agrees =
+          let stands = ok .acks-stand s u h in
+          let both : Conflict u t =
+          record {
+            account = stands .1 ∙ sym account;
+            number = stands .2 ∙ sym next;
+            differ = λ same. impossible (cc (differs, equal-refl t, same));
+          } in
+          impossible (cc (agrees, conflict-complete u t both))
+
+  -- one more ack is recorded
+  module _ (a : Account) (e : Entry) (s : Seat) (t : Transfer)
+      (fits : o .seats ≤ 16) (ok : SoundEntry o a e) (account : t .account ≡ a) (next : t .number ≡ e .current + 1)
+      (known : s .0 < o .seats) (free : ackFrom e s ≡ Empty)
+    where
+      inside : s .0 < length (e .acks)
+      inside = omega (arith, ok .acks-size)
+
+      -- it is read back, and the others stay
+      pub ack-read : (z : Seat) (u : Transfer) → ackFrom (withAck e s t) z ≡ Full u → ((z ≡ s) × (u ≡ t)) ⊎ (ackFrom e z ≡ Full u)
+      ack-read z u h = go (ℕ-discrete (z .0) (s .0))
+        where
+          none-yet : AckSlot
+          none-yet = record { slot = Empty }
+
+          go : Dec (z .0 ≡ s .0) → ((z ≡ s) × (u ≡ t)) ⊎ (ackFrom e z ≡ Full u)
+          go (yes same) =
+              let at : z ≡ s = ap seatOf same in
+              let new = getD-set-same (e .acks) (s .0) (record { slot = Full t }) none-yet inside in
+              let read : Full t ≡ Full u = sym (ap (λ (x : AckSlot). x .slot) new) ∙ (rw same at h) in
+              inl (at, cc)
+          go (no other) =
+              let old = getD-set-other (e .acks) (s .0) (z .0) (record { slot = Full t }) none-yet other in
+              inr (sym (ap (λ (x : AckSlot). x .slot) old) ∙ h)
+
+      -- the count of its slip rises by one, and no other
+      pub ack-counted : (u : Transfer) → acksFor u (withAck e s t .acks) ≡ acksFor u (e .acks) + bit (equal t u)
+      ack-counted u =
+          let change = sum-set (λ x. bit (holds u (x .slot))) (e .acks) (s .0) (record { slot = Full t }) (record { slot = Empty }) inside in
+          let before : bit (holds u (ackFrom e s)) ≡ 0 = rw free in
+          omega arith
+
+      stand : (z : Seat) (u : Transfer) → ackFrom (withAck e s t) z ≡ Full u → (z .0 < o .seats) × (u .account ≡ a) × (u .number ≡ e .current + 1)
+      stand z u h = go (ack-read z u h)
+        where
+          go : ((z ≡ s) × (u ≡ t)) ⊎ (ackFrom e z ≡ Full u) → (z .0 < o .seats) × (u .account ≡ a) × (u .number ≡ e .current + 1)
+          go (inl new) = rw (new .0, new .1) (known, account, next)
+          go (inr old) = ok .acks-stand z u old
+
+      -- where nothing waits, only its slip can have enough acks
+      only-this : e .pending ≡ Empty → (u : Transfer) → enough (o .seats) (o .faults) (acksFor u (withAck e s t .acks)) ≡ true → u ≡ t
+      only-this empty u h = go (equal t u) refl
+        where
+          go : (b : Bool) → equal t u ≡ b → u ≡ t
+          go true same = sym (equal-sound t u same)
+          go false other =
+              let count : acksFor u (withAck e s t .acks) ≡ acksFor u (e .acks) = ack-counted u ∙ rw other (omega arith) in
+              impossible (cc (ok .decided u (rw count at h), empty))
+
+      noted-sound : e .pending ≡ Empty → enough (o .seats) (o .faults) (acksFor t (withAck e s t .acks)) ≡ false → SoundEntry o a (withAck e s t)
+      noted-sound empty few =
+          record {
+            acks-size = rw length-set (ok .acks-size);
+            acks-stand = stand;
+            pending-stands = λ u h. impossible (cc);
+            decided = λ u h. impossible (let same : u ≡ t = only-this empty u h in cc (few));
+          }
+
+      accepted-sound : e .pending ≡ Empty → t .account .0 < o .accounts → t .recipient .0 < o .accounts → SoundEntry o a (withPending (withAck e s t) t)
+      accepted-sound empty payer recipient =
+          record {
+            acks-size = rw length-set (ok .acks-size);
+            acks-stand = stand;
+            pending-stands = λ u h. let same : t ≡ u = cc in rw (← same) (account, next, payer, recipient);
+            decided = λ u h. ap Full (sym (only-this empty u h));
+          }
+
+  -- a ruling's slip waits
+  ruled-sound : (a : Account) (e : Entry) (t : Transfer) → SoundEntry o a e → t .account ≡ a → t .number ≡ e .current + 1
+      → e .pending ≡ Empty → t .account .0 < o .accounts → t .recipient .0 < o .accounts → SoundEntry o a (withPending e t)
+  ruled-sound a e t ok account next empty payer recipient =
+      record {
+        acks-size = ok .acks-size;
+        acks-stand = ok .acks-stand;
+        pending-stands = λ u h. let same : t ≡ u = cc in rw (← same) (account, next, payer, recipient);
+        decided = λ u h. impossible (cc (ok .decided u h, empty));
+      }
+
+-- the bounds under which settling is in plain numbers
+pub bounded : (o : Opening) (l : Ledger) → Group o → Sound o l → Bounded (l .entries)
+bounded o l g ok =
+    record {
+      sum-fits = rw (ok .sum-same) (g .sum-fits);
+      recipients = λ a t h. omega (arith, ok .each a .pending-stands t h .3, ok .size, g .accounts-fit);
+    }
+
+-- an opened ledger has fresh entries with the page's balances
+pub opened-entry : (o : Opening) → Opens o → (a : Account) → entryOf (openLedger o .ledger) a ≡ freshEntry (getD (o .balances) (a .0) 0)
+opened-entry o opens a = rw (group o opens .opened) (List·getD-map freshEntry (o .balances) (a .0) 0)
+
+-- and is sound
+pub opened-sound : (o : Opening) → Opens o → Sound o (openLedger o .ledger)
+opened-sound o opens =
+    rw (group o opens .opened)
+    (record {
+      seats-same = refl;
+      faults-same = refl;
+      accounts-same = refl;
+      size = length-map (o .balances) freshEntry ∙ opens .full-page;
+      sum-same = fresh-sum (o .balances);
+      each = λ a. rw (List·getD-map freshEntry (o .balances) (a .0) 0) (quiet o a (freshEntry (getD (o .balances) (a .0) 0)) refl refl);
+    })
+
+module _ (o : Opening) (l : Ledger) (g : Group o) (ok : Sound o l) where
+  -- a sound entry with the same balance is stored
+  pub stored : (a : Account) (e : Entry) → SoundEntry o a e → e .balance ≡ entryOf l a .balance → Sound o (withEntry l a e)
+  stored a e new same =
+      record {
+        seats-same = ok .seats-same;
+        faults-same = ok .faults-same;
+        accounts-same = ok .accounts-same;
+        size = set-entry-length (l .entries) a e ∙ ok .size;
+        sum-same = sum-set-same (λ x. x .balance) (l .entries) (a .0) e (freshEntry 0) same ∙ ok .sum-same;
+        each = set-each (SoundEntry o) (l .entries) a e new (ok .each);
+      }
+
+  -- and the waiting slips are settled
+  settled-sound : Sound o (withEntries l (settle (l .entries) .entries))
+  settled-sound =
+      record {
+        seats-same = ok .seats-same;
+        faults-same = ok .faults-same;
+        accounts-same = ok .accounts-same;
+        size = settle-length (l .entries) ∙ ok .size;
+        sum-same = settle-sum (l .entries) (bounded o l g ok) .0 ∙ ok .sum-same;
+        each = settle-each (SoundEntry o) (kept-sound o) (booked-sound o) (l .entries) (ok .each);
+      }
+
+-- what an eligible slip and a recordable ack meet in a sound ledger
+pub record Meets (o : Opening) (l : Ledger) (t : Transfer) : Type 0 where
+  pub none-waits : entryOf l (t .account) .pending ≡ Empty
+  pub payer-known : t .account .0 < o .accounts
+  pub recipient-known : t .recipient .0 < o .accounts
+  pub inside : t .account .0 < length (l .entries)
+
+pub meets : (o : Opening) (l : Ledger) (t : Transfer) → Group o → Sound o l → Eligible l t → Meets o l t
+meets o l t g ok fit =
+    record {
+      none-waits = idle o (t .account) (entryOf l (t .account)) t (ok .each (t .account)) refl (fit .is-next) (fit .not-waiting);
+      payer-known = rw (← ok .accounts-same) (fit .account-known);
+      recipient-known = rw (← ok .accounts-same) (fit .recipient-known);
+      inside = omega (arith, ok .size, ok .accounts-same, fit .account-known, g .accounts-fit);
+    }
+
+pub free-place : (o : Opening) (l : Ledger) (s : Seat) (t : Transfer) → Sound o l → Eligible l t → Recordable l s t
+    → ackFrom (entryOf l (t .account)) s ≡ Empty
+free-place o l s t ok fit new =
+    unrecorded o (t .account) (entryOf l (t .account)) s t (ok .each (t .account)) refl (fit .is-next) (new .not-equal) (new .not-conflicting)
+
+-- the account's entry with a recorded ack, and with the accepted slip, is sound
+module _ (o : Opening) (l : Ledger) (t : Transfer) (g : Group o) (ok : Sound o l) (fit : Eligible l t) where
+  found : Meets o l t
+  found = meets o l t g ok fit
+
+  pub noted-entry : (s : Seat) → Recordable l s t → enough (l .seats) (l .faults) (acksFor t (entryWithAck l s t .acks)) ≡ false
+      → SoundEntry o (t .account) (entryWithAck l s t)
+  noted-entry s new few =
+      noted-sound o (t .account) (entryOf l (t .account)) s t (g .seats-fit) (ok .each (t .account)) refl (fit .is-next)
+      (rw (← ok .seats-same) (new .seat-known)) (free-place o l s t ok fit new) (found .none-waits)
+      (rw (ok .seats-same, ok .faults-same) at few)
+
+  pub accepted-entry : (s : Seat) → Recordable l s t → SoundEntry o (t .account) (withPending (entryWithAck l s t) t)
+  accepted-entry s new =
+      accepted-sound o (t .account) (entryOf l (t .account)) s t (g .seats-fit) (ok .each (t .account)) refl (fit .is-next)
+      (rw (← ok .seats-same) (new .seat-known)) (free-place o l s t ok fit new) (found .none-waits)
+      (found .payer-known) (found .recipient-known)
+
+  pub ruled-entry : SoundEntry o (t .account) (withPending (entryOf l (t .account)) t)
+  ruled-entry =
+      ruled-sound o (t .account) (entryOf l (t .account)) t (ok .each (t .account)) refl (fit .is-next) (found .none-waits)
+      (found .payer-known) (found .recipient-known)
+
+-- a slip that is accepted waits, and then the waiting slips are settled
+pub waits-sound : (o : Opening) (l : Ledger) (t : Transfer) (e : Entry) → Group o → Sound o l
+    → e .balance ≡ entryOf l (t .account) .balance → SoundEntry o (t .account) (withPending e t)
+    → Sound o (withEntry l (t .account) (withPending e t))
+waits-sound o l t e g ok same new = stored o l g ok (t .account) (withPending e t) new same
+
+pub accept-sound : (o : Opening) (l : Ledger) (t : Transfer) (e : Entry) → Group o → Sound o l
+    → e .balance ≡ entryOf l (t .account) .balance → SoundEntry o (t .account) (withPending e t)
+    → Sound o (withEntries l (accept (l .entries) e t .entries))
+unfolding accept
+accept-sound o l t e g ok same new =
+    settled-sound o (withEntry l (t .account) (withPending e t)) g (waits-sound o l t e g ok same new)

@@ -15,6 +15,7 @@ use Rattle.agreement.proofs.Soundness.{opened-entry, Group, group, Soun
 use Rattle.agreement.proofs.Reachable.{sound}
 use Rattle.agreement.proofs.StepLaws.{answer-exactly, Puts, puts-mark, puts-ack, puts-accepted, puts-ruled, each-entry, Turn, keeps, accepts, turn}
 use Rattle.agreement.proofs.Slated.{slated}
+use Rattle.agreement.proofs.Reasons.{all-reasons, decided-accepted}
 use Rattle.agreement.proofs.Acked.{acked-once}
 use Rattle.model.specs.Records.{freshEntry, withPending, sumCurrents, entryAt, setEntry, entryOf}
 use Rattle.model.specs.Transfers.{equal}
@@ -133,94 +134,8 @@ module _ (o : Opening) (l next : Ledger) (m : Message) (r : Reply) (g : Group o)
               let that : w ≡ u = cc (waits, ap (λ (e : Entry). e .pending) read) in
               rw (slip, done .entries-are) (inl (omega (arith, clear .current-is, ap (λ (x : Transfer). x .number) that)))
 
--- Why a slip waits: it was accepted, and it has enough acks or a ruling named it.
+-- Which slips were accepted at a seat, and which wait there.
 module _ (o : Opening) (opens : Opens o) (s : Seat) where
-  abbrev isAccepted : Transfer → Event → Bool
-  isAccepted t e = sameSeat (e .at) s && passes (equal t) (accepted (e .call))
-
-  abbrev isRuled : Transfer → Event → Bool
-  isRuled t e = sameSeat (e .at) s && (passes (equal t) (ruled (e .call)) && taken (e .call))
-
-  record Reason (r : Run) (e : Entry) (t : Transfer) : Type 0 where
-    was-accepted : acceptedBy s t r ≡ true
-    by-what : (enough (o .seats) (o .faults) (acksFor t (e .acks)) ≡ true) ⊎ (ruledFor s t r ≡ true)
-
-  abbrev Reasons : Run → Entry → Type 0
-  Reasons r e = (t : Transfer) → e .pending ≡ Full t → Reason r e t
-
-  -- a reason stays one where the acks stay, at the same place or later
-  reason-stays : (r r′ : Run) (e e′ : Entry) (t : Transfer) → Within r r′ → e′ .acks ≡ e .acks → Reason r e t → Reason r′ e′ t
-  reason-stays r r′ e e′ t w acks why =
-      record { was-accepted = happened-later (isAccepted t) w (why .was-accepted); by-what = go (why .by-what) }
-    where
-      go : (enough (o .seats) (o .faults) (acksFor t (e .acks)) ≡ true) ⊎ (ruledFor s t r ≡ true)
-          → (enough (o .seats) (o .faults) (acksFor t (e′ .acks)) ≡ true) ⊎ (ruledFor s t r′ ≡ true)
-      go (inl full) = inl (rw acks full)
-      go (inr ruling) = inr (happened-later (isRuled t) {p = r} {r = r′} w ruling)
-
-  -- this call accepts t
-  now-accepted : (r : Run) (m : Message) (q : Reply) (t : Transfer) → accepted (message m q) ≡ some t
-      → acceptedBy s t (r ▹ record { at = s; call = message m q }) ≡ true
-  now-accepted r m q t is =
-      happened-holds (isAccepted t) {p = r} {r = r ▹ record { at = s; call = message m q }} {e = record { at = s; call = message m q }} at-end
-      (rw (seat-self s, is, equal-refl t))
-
-  now-ruled : (r : Run) (m : Message) (q : Reply) (t : Transfer) (c : ℕ) → m ≡ Decision t → q ≡ Accept c
-      → ruledFor s t (r ▹ record { at = s; call = message m q }) ≡ true
-  now-ruled r m q t c kind reply =
-      happened-holds (isRuled t) {p = r} {r = r ▹ record { at = s; call = message m q }} {e = record { at = s; call = message m q }} at-end
-      (rw (seat-self s, kind, reply, equal-refl t))
-
-  step-reasons : (r : Run) (l next : Ledger) (m : Message) (q : Reply) → Sound o l → Happens l m q next
-      → ((a : Account) → Reasons r (entryOf l a))
-      → (a : Account) → Reasons (r ▹ record { at = s; call = message m q }) (entryOf next a)
-  step-reasons r l next m q ok h old =
-      each-entry o l next m q (group o opens) ok (λ a x. Reasons now x)
-      (λ a e e′ same was t waits.
-      reason-stays now now e e′ t at-end (ap (λ (x : Entry). x .acks) same) (was t (sym (ap (λ (x : Entry). x .pending) same) ∙ waits)))
-      (λ a e e′ t stands waits clear was u this. impossible (cc (clear .none-pending, this)))
-      (λ a t waits. reason-stays r now (entryOf l a) (entryOf l a) t (sooner at-end) refl (old a t waits))
-      puts h
-    where
-      now : Run
-      now = r ▹ record { at = s; call = message m q }
-
-      -- nothing waits in an entry with one more ack
-      idle-still : (t u : Transfer) (x : Entry) → Eligible l t → x .pending ≡ entryOf l (t .account) .pending → x .pending ≡ Full u → Reason now x u
-      idle-still t u x fit same waits = impossible (cc (meets o l t (group o opens) ok fit .none-waits))
-
-      puts : (t : Transfer) (x : Entry) → Puts l m q t x → Reasons now x
-      puts t x (puts-mark e f fit is) u waits = idle-still t u x fit (rw is refl) waits
-      puts t x (puts-ack z e fit new (inl is)) u waits = idle-still t u x fit (rw is refl) waits
-      puts t x (puts-ack z e fit new (inr is)) u waits = idle-still t u x fit (rw is refl) waits
-      puts t x (puts-accepted z c e f fit new full is) u waits =
-          let this : t ≡ u = cc (waits, ap (λ (y : Entry). y .pending) is) in
-          rw (← this, is)
-          (record {
-            was-accepted = now-accepted r m q t (rw (e, f));
-            by-what = inl (rw (← ok .seats-same, ← ok .faults-same) full);
-          })
-      puts t x (puts-ruled c e f fit is) u waits =
-          let this : t ≡ u = cc (waits, ap (λ (y : Entry). y .pending) is) in
-          rw (← this) (record { was-accepted = now-accepted r m q t (rw (e, f)); by-what = inr (now-ruled r m q t c e f) })
-
-  all-reasons : (r : Run) → Obeys o r → (a : Account) → Reasons r (entryOf (ledgerAt o s r) a)
-  all-reasons =
-      ledger-induction o s (λ r l. (a : Account) → Reasons r (entryOf l a))
-      (λ a t waits. impossible (cc (waits, ap (λ (e : Entry). e .pending) (opened-entry o opens a))))
-      (λ r e l other old a t waits. reason-stays r (r ▹ e) (entryOf l a) (entryOf l a) t (sooner at-end) refl (old a t waits))
-      (λ r b a q l old c t waits. reason-stays r (r ▹ record { at = s; call = waitingList b q a }) (entryOf l c) (entryOf l c) t (sooner at-end) refl (old c t waits))
-      (λ r m q l is obeys h old.
-      let ok : Sound o l = rw is (sound o opens s r obeys) in
-      step-reasons r l (step l m .next) m q ok (happens l m q h) old)
-
-  -- a slip with enough recorded acks was accepted
-  pub decided-accepted : (r : Run) → Obeys o r → (t : Transfer)
-      → enough (o .seats) (o .faults) (acksFor t (entryOf (ledgerAt o s r) (t .account) .acks)) ≡ true
-      → acceptedBy s t r ≡ true
-  decided-accepted r obeys t full =
-      all-reasons r obeys (t .account) t (sound o opens s r obeys .each (t .account) .decided t full) .was-accepted
-
   -- every accepted slip has been booked, or waits
   abbrev SettledCall : Call → Ledger → Type 0
   SettledCall c l = (t : Transfer) → accepted c ≡ some t → Settled t (entryOf l (t .account))
@@ -247,13 +162,13 @@ module _ (o : Opening) (opens : Opens o) (s : Seat) where
   -- a slip that a ruling named which was not refused was accepted
   ruled-accepted : (r : Run) → Obeys o r → (t : Transfer) → ruledFor s t r ≡ true → acceptedBy s t r ≡ true
   ruled-accepted r obeys t h =
-      let found = happened-found (isRuled t) r h in
+      let found = happened-found (λ e. sameSeat (e .at) s && (passes (equal t) (ruled (e .call)) && taken (e .call))) r h in
       let e = found .1 in
       let parts = both (sameSeat (e .at) s) _ (found .3) in
       let both-parts = both (passes (equal t) (ruled (e .call))) (taken (e .call)) (parts .1) in
       let slip = that-slip t (ruled (e .call)) (both-parts .0) in
       let accepts-it = ruling-accepts (ledgerAt o (e .at) (found .0)) (e .call) t (obeys-at o obeys (found .2)) slip (both-parts .1) in
-      happened-holds (isAccepted t) (found .2) (rw (parts .0, accepts-it, equal-refl t))
+      happened-holds (λ e. sameSeat (e .at) s && passes (equal t) (accepted (e .call))) (found .2) (rw (parts .0, accepts-it, equal-refl t))
 
   accepted-iff : (r : Run) → Obeys o r → (t : Transfer) → t .number ≡ entryOf (ledgerAt o s r) (t .account) .current + 1
       → acceptedBy s t r ≡ enough (o .seats) (o .faults) (acksFor t (entryOf (ledgerAt o s r) (t .account) .acks)) || ruledFor s t r
@@ -263,7 +178,7 @@ module _ (o : Opening) (opens : Opens o) (s : Seat) where
       full = enough (o .seats) (o .faults) (acksFor t (entryOf (ledgerAt o s r) (t .account) .acks))
 
       forth : acceptedBy s t r ≡ true → full || ruledFor s t r ≡ true
-      forth h = go (all-reasons r obeys (t .account) t (accepted-waits r obeys t next h) .by-what)
+      forth h = go (all-reasons o opens s r obeys (t .account) .why-waits t (accepted-waits r obeys t next h) .by-what)
         where
           go : (full ≡ true) ⊎ (ruledFor s t r ≡ true) → full || ruledFor s t r ≡ true
           go (inl is) = rw is
@@ -273,7 +188,7 @@ module _ (o : Opening) (opens : Opens o) (s : Seat) where
       back h = go full refl h
         where
           go : (b : Bool) → full ≡ b → b || ruledFor s t r ≡ true → acceptedBy s t r ≡ true
-          go true is h = decided-accepted r obeys t is
+          go true is h = decided-accepted o opens s r obeys t is
           go false is h = ruled-accepted r obeys t h
 
   waits-iff : (r : Run) → Obeys o r → (t : Transfer) → t .number ≡ entryOf (ledgerAt o s r) (t .account) .current + 1
@@ -284,7 +199,7 @@ module _ (o : Opening) (opens : Opens o) (s : Seat) where
       back : (x : Slot) → entryOf (ledgerAt o s r) (t .account) .pending ≡ x → holds t x ≡ true → acceptedBy s t r ≡ true
       back Empty is h = impossible (cc)
       back (Full u) is h =
-          all-reasons r obeys (t .account) t (is ∙ ap Full (equal-sound u t h)) .was-accepted
+          all-reasons o opens s r obeys (t .account) .why-waits t (is ∙ ap Full (equal-sound u t h)) .was-accepted
 
   -- current numbers never fall, at one event and from any place to a later one
   one-event : (r : Run) (e : Event) (a : Account) → Obeys o (r ▹ e)
@@ -331,6 +246,7 @@ always o run opens obeys =
       acked-once = acked-once o opens run obeys;
       accepts-exactly = λ p e w. call-accepts (ledgerAt o (e .at) p) (e .call) (obeys-at o obeys w);
       accepted-exactly = λ p s t w next. accepted-iff o opens s p (obeys-before o obeys w) t next;
+      booked-accepted = λ p s a m w. all-reasons o opens s p (obeys-before o obeys w) a .why-booked m;
       waits-exactly = λ p s t w next. waits-iff o opens s p (obeys-before o obeys w) t next;
       acks-stand = λ p s i a t w. sound o opens s p (obeys-before o obeys w) .each a .acks-stand i t;
       pending-stands = λ p s a t w. sound o opens s p (obeys-before o obeys w) .each a .pending-stands t;

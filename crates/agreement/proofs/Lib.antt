@@ -12,6 +12,7 @@ pub mod Votes
 pub mod Agree
 pub mod Counts
 pub mod Demand3
+pub mod Reasons
 pub mod Always
 pub mod Theorem1
 pub mod Examples

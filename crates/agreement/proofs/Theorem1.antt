@@ -16,7 +16,7 @@ use Rattle.agreement.proofs.Reachable.{sound}
 use Rattle.agreement.proofs.Acked.{acked-by-later, acked-by-once, all-from}
 use Rattle.agreement.proofs.Votes.{vote, Tally, votes-counted, Majority}
 use Rattle.agreement.proofs.Agree.{proposed-majority}
-use Rattle.agreement.proofs.Always.{decided-accepted}
+use Rattle.agreement.proofs.Reasons.{decided-accepted}
 use Rattle.model.specs.Basics.{bit}
 use Rattle.model.specs.Records.{seatOf, entryOf}
 use Rattle.model.specs.Transfers.{equal}

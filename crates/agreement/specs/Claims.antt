@@ -109,6 +109,9 @@ pub record Facts (o : Opening) (run : Run) : Type 0 where
   pub waits-exactly : (p : Run) (s : Seat) (t : Transfer) → Within p run
       → t .number ≡ entryOf (ledgerAt o s p) (t .account) .current + 1
       → acceptedBy s t p ≡ holds t (entryOf (ledgerAt o s p) (t .account) .pending)
+  -- each number up to an account's current one was accepted there
+  pub booked-accepted : (p : Run) (s : Seat) (a : Account) (m : ℕ) → Within p run → 1 ≤ m → m ≤ entryOf (ledgerAt o s p) a .current
+      → (t : Transfer) × (t .account ≡ a) × (t .number ≡ m) × (acceptedBy s t p ≡ true)
   -- a recorded ack is of its entry's account, of the next number, and from one of the n seats
   pub acks-stand : (p : Run) (s i : Seat) (a : Account) (t : Transfer) → Within p run → ackFrom (entryOf (ledgerAt o s p) a) i ≡ Full t
       → (i .0 < o .seats) × (t .account ≡ a) × (t .number ≡ entryOf (ledgerAt o s p) a .current + 1)

@@ -1,0 +1,164 @@
+-- Why a slip waits at a seat, and why a number was booked: a call there accepted it.
+use Prim.Native.Nat.{ℕ, _+_, _≤_}
+use native.Mathlib.Decide.{ℕ-discrete}
+use native.Mathlib.Omega.{arith}
+use mathlib.Core.Path.{_≡_, refl, ap, sym, _∙_}
+use mathlib.Core.Logic.{_⊎_, inl, inr}
+use mathlib.Core.Bool.{Bool, true, false, cond, _&&_, _||_, or-true}
+use mathlib.Core.List.{List}
+use mathlib.Core.Option.{some}
+use Rattle.agreement.specs.Types.{Seat, Account, Transfer, Slot, Empty, Full, Entry, Ledger, Opening, Message, Request, Circulated, Ack, Decision, Inquiry, Reply, Accept}
+use Rattle.agreement.specs.Runs.{Opens, Call, message, waitingList, Event, Run, _▹_, Within, at-end, sooner, sameSeat, nextLedger, ledgerAt, Conforms, Obeys, accepted, ruled, passes}
+use Rattle.agreement.specs.Claims.{answeredK, mustAccept, acceptedBy, taken, ruledFor, Always}
+use Rattle.agreement.proofs.Places.{before, happened-found, happened-holds, happened-later, obeys-before, obeys-at, seat-is, seat-self, ledger-induction, past-calls}
+use Rattle.agreement.proofs.Deeds.{that-slip, deed-found}
+use Rattle.agreement.proofs.Soundness.{opened-entry, Group, group, SoundEntry, Sound, meets}
+use Rattle.agreement.proofs.Reachable.{sound}
+use Rattle.agreement.proofs.StepLaws.{answer-exactly, Puts, puts-mark, puts-ack, puts-accepted, puts-ruled, each-entry, Turn, keeps, accepts, turn}
+use Rattle.agreement.proofs.Slated.{slated}
+use Rattle.agreement.proofs.Acked.{acked-once}
+use Rattle.model.specs.Records.{freshEntry, withPending, sumCurrents, entryAt, setEntry, entryOf}
+use Rattle.model.specs.Transfers.{equal}
+use Rattle.model.specs.Acks.{holds, acksFor, enough}
+use Rattle.model.specs.Settling.{settle}
+use Rattle.model.specs.Calls.{step}
+use Rattle.model.proofs.Sums.{impossible, both, sum-set-same}
+use Rattle.model.proofs.Equality.{equal-sound, equal-refl}
+use Rattle.model.proofs.Access.{entry-set-same}
+use Rattle.model.proofs.Booking.{SameButBalance, Cleared}
+use Rattle.model.proofs.Settles.{Turned, kept, booked, settle-entry, settle-currents}
+use Rattle.model.proofs.Steps.{Eligible, Happens, happens}
+
+module _ (o : Opening) (opens : Opens o) (s : Seat) where
+  abbrev isAccepted : Transfer → Event → Bool
+  isAccepted t e = sameSeat (e .at) s && passes (equal t) (accepted (e .call))
+
+  abbrev isRuled : Transfer → Event → Bool
+  isRuled t e = sameSeat (e .at) s && (passes (equal t) (ruled (e .call)) && taken (e .call))
+
+  -- a slip that waits was accepted, and has enough acks or a ruling named it
+  pub record Reason (r : Run) (e : Entry) (t : Transfer) : Type 0 where
+    pub was-accepted : acceptedBy s t r ≡ true
+    pub by-what : (enough (o .seats) (o .faults) (acksFor t (e .acks)) ≡ true) ⊎ (ruledFor s t r ≡ true)
+
+  -- a slip with this account and number was accepted
+  abbrev pub WasAccepted : Run → Account → ℕ → Type 0
+  WasAccepted r a m = (t : Transfer) × (t .account ≡ a) × (t .number ≡ m) × (acceptedBy s t r ≡ true)
+
+  -- and so of whatever waits in an account's entry, and of each number up to its current one
+  pub record Reasons (r : Run) (a : Account) (e : Entry) : Type 0 where
+    pub why-waits : (t : Transfer) → e .pending ≡ Full t → Reason r e t
+    pub why-booked : (m : ℕ) → 1 ≤ m → m ≤ e .current → WasAccepted r a m
+
+  -- reasons stay reasons where acks, current and the waiting slip stay, at the same place or later
+  reasons-stay : (r r′ : Run) (a : Account) (e e′ : Entry) → Within r r′
+      → e′ .acks ≡ e .acks → e′ .current ≡ e .current → e′ .pending ≡ e .pending → Reasons r a e → Reasons r′ a e′
+  reasons-stay r r′ a e e′ w acks current pending why =
+      record {
+        why-waits = λ t waits. stays t (why .why-waits t (sym pending ∙ waits));
+        why-booked = λ m from to.
+            let was = why .why-booked m from (omega arith) in
+            (was .0, was .1, was .2, happened-later (isAccepted (was .0)) w (was .3));
+      }
+    where
+      stays : (t : Transfer) → Reason r e t → Reason r′ e′ t
+      stays t why = record { was-accepted = happened-later (isAccepted t) w (why .was-accepted); by-what = go (why .by-what) }
+        where
+          go : (enough (o .seats) (o .faults) (acksFor t (e .acks)) ≡ true) ⊎ (ruledFor s t r ≡ true)
+              → (enough (o .seats) (o .faults) (acksFor t (e′ .acks)) ≡ true) ⊎ (ruledFor s t r′ ≡ true)
+          go (inl full) = inl (rw acks full)
+          go (inr ruling) = inr (happened-later (isRuled t) {p = r} {r = r′} w ruling)
+
+  -- where its waiting slip is booked, its number has a reason too
+  booked-reasons : (r : Run) (a : Account) (e e′ : Entry) (t : Transfer) → SoundEntry o a e → e .pending ≡ Full t → Cleared t e′
+      → Reasons r a e → Reasons r a e′
+  booked-reasons r a e e′ t stands waits clear why =
+      record {
+        why-waits = λ u this. impossible (cc (clear .none-pending, this));
+        why-booked = λ m from to. go m from to (ℕ-discrete m (t .number));
+      }
+    where
+      go : (m : ℕ) → 1 ≤ m → m ≤ e′ .current → Dec (m ≡ t .number) → WasAccepted r a m
+      go m from to (yes this) = (t, stands .pending-stands t waits .0, sym this, why .why-waits t waits .was-accepted)
+      go m from to (no other) = why .why-booked m from (omega (arith, clear .current-is, stands .pending-stands t waits .1))
+
+  -- this call accepts t
+  module _ (r : Run) (m : Message) (q : Reply) where
+    now : Run
+    now = r ▹ record { at = s; call = message m q }
+
+    now-accepted : (t : Transfer) → accepted (message m q) ≡ some t → acceptedBy s t now ≡ true
+    unfolding now
+    now-accepted t is =
+        happened-holds (isAccepted t) {p = r} {r = r ▹ record { at = s; call = message m q }} {e = record { at = s; call = message m q }} at-end
+        (rw (seat-self s, is, equal-refl t))
+
+    now-ruled : (t : Transfer) (c : ℕ) → m ≡ Decision t → q ≡ Accept c → ruledFor s t now ≡ true
+    unfolding now
+    now-ruled t c kind reply =
+        happened-holds (isRuled t) {p = r} {r = r ▹ record { at = s; call = message m q }} {e = record { at = s; call = message m q }} at-end
+        (rw (seat-self s, kind, reply, equal-refl t))
+
+    step-reasons : (l next : Ledger) → Sound o l → Happens l m q next
+        → ((a : Account) → Reasons r a (entryOf l a))
+        → (a : Account) → Reasons (r ▹ record { at = s; call = message m q }) a (entryOf next a)
+    unfolding now
+    step-reasons l next ok h old =
+        each-entry o l next m q (group o opens) ok (Reasons now)
+        (λ a e e′ same was.
+        reasons-stay now now a e e′ at-end (ap (λ (x : Entry). x .acks) same) (ap (λ (x : Entry). x .current) same)
+        (ap (λ (x : Entry). x .pending) same) was)
+        (booked-reasons now) later puts h
+      where
+        later : (a : Account) → Reasons now a (entryOf l a)
+        later a = reasons-stay r now a (entryOf l a) (entryOf l a) (sooner at-end) refl refl refl (old a)
+
+        -- an entry that a call puts has the same current number
+        known : (t : Transfer) (x : Entry) → x .current ≡ entryOf l (t .account) .current
+            → ((u : Transfer) → x .pending ≡ Full u → Reason now x u) → Reasons now (t .account) x
+        known t x same waits =
+            record { why-waits = waits; why-booked = λ k from to. later (t .account) .why-booked k from (omega arith) }
+
+        -- and where it accepts nothing, nothing waits in it
+        idle-still : (t : Transfer) (x : Entry) → Eligible l t → x .current ≡ entryOf l (t .account) .current
+            → x .pending ≡ entryOf l (t .account) .pending → Reasons now (t .account) x
+        idle-still t x fit current pending =
+            known t x current (λ u waits. impossible (cc (meets o l t (group o opens) ok fit .none-waits)))
+
+        puts : (t : Transfer) (x : Entry) → Puts l m q t x → Reasons now (t .account) x
+        puts t x (puts-mark e f fit is) = idle-still t x fit (rw is refl) (rw is refl)
+        puts t x (puts-ack z e fit new (inl is)) = idle-still t x fit (rw is refl) (rw is refl)
+        puts t x (puts-ack z e fit new (inr is)) = idle-still t x fit (rw is refl) (rw is refl)
+        puts t x (puts-accepted z c e f fit new full is) =
+            known t x (rw is refl)
+            (λ u waits.
+            let this : t ≡ u = cc (waits, ap (λ (y : Entry). y .pending) is) in
+            rw (← this, is)
+            (record {
+              was-accepted = now-accepted t (rw (e, f));
+              by-what = inl (rw (← ok .seats-same, ← ok .faults-same) full);
+            }))
+        puts t x (puts-ruled c e f fit is) =
+            known t x (rw is refl)
+            (λ u waits.
+            let this : t ≡ u = cc (waits, ap (λ (y : Entry). y .pending) is) in
+            rw (← this) (record { was-accepted = now-accepted t (rw (e, f)); by-what = inr (now-ruled t c e f) }))
+
+  -- at every place of a run that obeys
+  pub all-reasons : (r : Run) → Obeys o r → (a : Account) → Reasons r a (entryOf (ledgerAt o s r) a)
+  all-reasons =
+      ledger-induction o s (λ r l. (a : Account) → Reasons r a (entryOf l a))
+      (λ a. rw (opened-entry o opens a) (record { why-waits = λ t waits. impossible (cc); why-booked = λ m from to. absurd (omega arith) }))
+      (λ r e l other old a. reasons-stay r (r ▹ e) a (entryOf l a) (entryOf l a) (sooner at-end) refl refl refl (old a))
+      (λ r b a q l old c.
+      reasons-stay r (r ▹ record { at = s; call = waitingList b q a }) c (entryOf l c) (entryOf l c) (sooner at-end) refl refl refl (old c))
+      (λ r m q l is obeys h old.
+      let ok : Sound o l = rw is (sound o opens s r obeys) in
+      step-reasons r m q l (step l m .next) ok (happens l m q h) old)
+
+  -- a slip with enough recorded acks was accepted
+  pub decided-accepted : (r : Run) → Obeys o r → (t : Transfer)
+      → enough (o .seats) (o .faults) (acksFor t (entryOf (ledgerAt o s r) (t .account) .acks)) ≡ true
+      → acceptedBy s t r ≡ true
+  decided-accepted r obeys t full =
+      all-reasons r obeys (t .account) .why-waits t (sound o opens s r obeys .each (t .account) .decided t full) .was-accepted

@@ -2,7 +2,7 @@
 use Prim.Native.Nat.{ℕ, zero, suc, _+_, _*_, _≤_, _<_}
 use native.Mathlib.Omega.{arith}
 use mathlib.Core.Path.{_≡_, refl, ap, sym, _∙_}
-use mathlib.Core.Logic.{_⊎_, inl, inr}
+use mathlib.Core.Logic.{_≢_, _⊎_, inl, inr}
 use mathlib.Core.Bool.{Bool, true, false, _||_}
 use mathlib.Core.Option.{Option, none, some}
 use native.Mathlib.Decide.{ℕ-discrete}
@@ -176,6 +176,16 @@ module _ (o : Opening) where
           go (no other) =
               let old = getD-set-other (e .acks) (s .0) (z .0) (record { slot = Full t }) none-yet other in
               inr (sym (ap (λ (x : AckSlot). x .slot) old) ∙ h)
+
+      pub ack-new : ackFrom (withAck e s t) s ≡ Full t
+      ack-new =
+          ap (λ (x : AckSlot). x .slot) (getD-set-same (e .acks) (s .0) (record { slot = Full t }) (record { slot = Empty }) inside)
+
+      pub ack-kept : (z : Seat) (u : Transfer) → ackFrom e z ≡ Full u → ackFrom (withAck e s t) z ≡ Full u
+      ack-kept z u h =
+          let other : z .0 ≢ s .0 = λ same. let at : z ≡ s = ap seatOf same in impossible (cc (h, free)) in
+          let old = getD-set-other (e .acks) (s .0) (z .0) (record { slot = Full t }) (record { slot = Empty }) other in
+          ap (λ (x : AckSlot). x .slot) old ∙ h
 
       -- the count of its slip rises by one, and no other
       pub ack-counted : (u : Transfer) → acksFor u (withAck e s t .acks) ≡ acksFor u (e .acks) + bit (equal t u)

@@ -1,17 +1,20 @@
 -- The laws of a step that the proofs about runs use, and all of them: what a call puts into an account's entry (`each-entry`), what it
 -- does to balances, current numbers and waiting slips (`turn`), and what its reply means (`answer-acknowledge` and so on). Later
 -- definitions of a step prove these again, and the rest stays.
-use Prim.Native.Nat.{ℕ, _+_}
-use mathlib.Core.Path.{_≡_, refl, ap}
+use Prim.Native.Nat.{_≤_, ℕ, _+_}
+use native.Mathlib.Omega.{arith}
+use mathlib.Core.List.{List}
+use mathlib.Core.Path.{_≡_, refl, ap, _∙_}
 use mathlib.Core.Logic.{_⊎_, inl, inr}
 use mathlib.Core.Bool.{true, false}
 use mathlib.Core.Option.{none, some}
 use Rattle.agreement.specs.Types.{Seat, Account, Transfer, Full, Entry, Ledger, Opening, Refusal, Message, Request, Circulated, Ack, Decision, Inquiry, Reply, Acknowledge, Accept, Propose, Balance, Refuse}
 use Rattle.agreement.specs.Runs.{message, isAccept, accepted}
-use Rattle.agreement.specs.Claims.{mustAccept}
-use Rattle.agreement.proofs.Soundness.{Group, SoundEntry, Sound, Meets, meets, marked-sound, stored, noted-entry, accepted-entry, ruled-entry, waits-sound, accept-sound}
+use Rattle.agreement.specs.Claims.{isRefusal, mustAccept}
+use Rattle.agreement.proofs.Soundness.{ack-new, ack-kept, free-place, Group, SoundEntry, Sound, Meets, meets, marked-sound, stored, noted-entry, accepted-entry, ruled-entry, waits-sound, accept-sound}
 use Rattle.model.specs.Records.{withAcked, withProposed, withPending, entryAt, setEntry, withEntries, withEntry, entryOf}
 use Rattle.model.specs.Acks.{acksFor, enough, hasMost}
+use Rattle.model.specs.Refusals.{ackFrom}
 use Rattle.model.specs.Settling.{settle, accept}
 use Rattle.model.specs.Calls.{mustPropose, entryWithAck}
 use Rattle.model.proofs.Sums.{impossible}
@@ -257,3 +260,96 @@ answer-exactly l next m r (proposed s t u e f fit new few must most same) = rw (
 answer-exactly l next m r (noted s t e f fit new few same) = rw (e, f, few)
 answer-exactly l next m r (accepted-by-ruling t e f fit same) = rw (e, f)
 answer-exactly l next m r (told a e f same) = rw (e, f)
+
+-- An ack that is not refused is recorded, and stays so until its number is booked.
+abbrev pub Held : Seat → Transfer → Entry → Type 0
+Held s t e = (t .number ≤ e .current) ⊎ (ackFrom e s ≡ Full t)
+
+module _ (o : Opening) (l next : Ledger) (m : Message) (r : Reply) (g : Group o) (ok : Sound o l) where
+  held-new : (s : Seat) (t : Transfer) → Eligible l t → Recordable l s t → ackFrom (entryWithAck l s t) s ≡ Full t
+  held-new s t fit new =
+      ack-new o (t .account) (entryOf l (t .account)) s t (g .seats-fit) (ok .each (t .account)) refl (fit .is-next)
+      (rw (← ok .seats-same) (new .seat-known)) (free-place o l s t ok fit new)
+
+  held-kept : (s z : Seat) (t u : Transfer) → Eligible l t → Recordable l s t → Held z u (entryOf l (t .account)) → Held z u (entryWithAck l s t)
+  held-kept s z t u fit new (inl past) = inl past
+  held-kept s z t u fit new (inr yet) =
+      inr
+      (ack-kept o (t .account) (entryOf l (t .account)) s t (g .seats-fit) (ok .each (t .account)) refl (fit .is-next)
+      (rw (← ok .seats-same) (new .seat-known)) (free-place o l s t ok fit new) z u yet)
+
+  booked-held : (s : Seat) (u : Transfer) (a : Account) (e e′ : Entry) (t : Transfer) → SoundEntry o a e → e .pending ≡ Full t → Cleared t e′
+      → Held s u e → Held s u e′
+  booked-held s u a e e′ t stands waits clear (inl past) = inl (omega (arith, clear .current-is, stands .pending-stands t waits .1))
+  booked-held s u a e e′ t stands waits clear (inr yet) =
+      inl (omega (arith, clear .current-is, stands .pending-stands t waits .1, stands .acks-stand s u yet .2))
+
+  balance-held : (s : Seat) (u : Transfer) (e e′ : Entry) → SameButBalance e e′ → Held s u e → Held s u e′
+  balance-held s u e e′ same (inl past) = inl (rw same past)
+  balance-held s u e e′ same (inr yet) = inr (ap (λ (x : Entry). ackFrom x s) same ∙ yet)
+
+  pub stays-held : (s : Seat) (u : Transfer) → Happens l m r next → (a : Account) → Held s u (entryOf l a) → Held s u (entryOf next a)
+  stays-held s u =
+      each-entry o l next m r g ok (λ a x. Held s u (entryOf l a) → Held s u x)
+      (λ a e e′ same was old. balance-held s u e e′ same (was old))
+      (λ a e e′ t stands waits clear was old. booked-held s u a e e′ t stands waits clear (was old))
+      (λ a old. old)
+      puts
+    where
+      puts : (t : Transfer) (x : Entry) → Puts l m r t x → Held s u (entryOf l (t .account)) → Held s u x
+      puts t x (puts-mark e f fit is) = rw is (λ old. old)
+      puts t x (puts-ack z e fit new (inl is)) = rw is (held-kept z s t u fit new)
+      puts t x (puts-ack z e fit new (inr is)) = rw is (held-kept z s t u fit new)
+      puts t x (puts-accepted z c e f fit new full is) = rw is (held-kept z s t u fit new)
+      puts t x (puts-ruled c e f fit is) = rw is (λ old. old)
+
+  -- one that is put
+  put-held : (s : Seat) (t : Transfer) (x : Entry) → Eligible l t → ackFrom x s ≡ Full t → Held s t (entryOf (withEntry l (t .account) x) (t .account))
+  put-held s t x fit new = inr (ap (λ (y : Entry). ackFrom y s) (with-entry-same l (t .account) x (meets o l t g ok fit .inside)) ∙ new)
+
+  accepted-held : (s : Seat) (t : Transfer) → Eligible l t → Recordable l s t
+      → Held s t (entryOf (withEntries l (accept (l .entries) (entryWithAck l s t) t .entries)) (t .account))
+  unfolding accept
+  accepted-held s t fit new = go (settle-entry (t .account) joined)
+    where
+      waits : Ledger
+      waits = withEntry l (t .account) (withPending (entryWithAck l s t) t)
+
+      joined : List Entry
+      joined = waits .entries
+
+      before : Entry
+      before = entryAt joined (t .account)
+
+      after : Entry
+      after = entryAt (settle joined .entries) (t .account)
+
+      yet : Held s t before
+      yet = put-held s t (withPending (entryWithAck l s t) t) fit (held-new s t fit new)
+
+      sound : SoundEntry o (t .account) (entryOf waits (t .account))
+      sound = waits-sound o l t (entryWithAck l s t) g ok refl (accepted-entry o l t g ok fit s new) .each (t .account)
+
+      go : Turned before after → Held s t after
+      go (kept same) = balance-held s t before after same yet
+      go (booked u was clear) = booked-held s t (t .account) before after u sound was clear yet
+
+  pub now-held : (s : Seat) (t : Transfer) → m ≡ Ack s t → isRefusal r ≡ false → Happens l m r next
+      → (1 ≤ t .number) × Held s t (entryOf next (t .account))
+  now-held s t kind taken (refused q e same) = impossible (cc (rw e at taken))
+  now-held s t kind taken (circulated u e f same) = impossible (cc)
+  now-held s t kind taken (acknowledged u e f fit clear same) = impossible (cc)
+  now-held s t kind taken (accepted-by-acks z u e f fit new full same) =
+      let seat : s ≡ z = cc in
+      let slip : t ≡ u = cc in
+      rw (seat, slip, same) (omega (arith, fit .is-next), accepted-held z u fit new)
+  now-held s t kind taken (proposed z u v e f fit new few must most same) =
+      let seat : s ≡ z = cc in
+      let slip : t ≡ u = cc in
+      rw (seat, slip, same) (omega (arith, fit .is-next), put-held z u _ fit (held-new z u fit new))
+  now-held s t kind taken (noted z u e f fit new few same) =
+      let seat : s ≡ z = cc in
+      let slip : t ≡ u = cc in
+      rw (seat, slip, same) (omega (arith, fit .is-next), put-held z u _ fit (held-new z u fit new))
+  now-held s t kind taken (accepted-by-ruling u e f fit same) = impossible (cc)
+  now-held s t kind taken (told a e f same) = impossible (cc)

@@ -8,10 +8,10 @@ use mathlib.Core.List.{List}
 use mathlib.Core.Option.{some}
 use Rattle.agreement.specs.Types.{Seat, Account, Transfer, Slot, Empty, Full, Entry, Ledger, Opening, Message, Request, Circulated, Ack, Decision, Inquiry, Reply, Accept}
 use Rattle.agreement.specs.Runs.{Opens, Call, message, waitingList, Event, Run, _▹_, Within, at-end, sooner, sameSeat, nextLedger, ledgerAt, Conforms, Obeys, accepted, ruled, passes}
-use Rattle.agreement.specs.Claims.{answeredK, mustAccept, acceptedBy, taken, ruledFor, Always}
-use Rattle.agreement.proofs.Places.{before, happened-found, happened-holds, happened-later, obeys-before, obeys-at, seat-is, seat-self, ledger-induction, past-calls}
+use Rattle.agreement.specs.Facts.{answeredK, mustAccept, acceptedBy, taken, ruledFor, Always}
+use Rattle.agreement.proofs.Places.{before, happened-found, happened-holds, obeys-before, obeys-at, seat-is, seat-self, past-calls}
 use Rattle.agreement.proofs.Deeds.{that-slip, deed-found}
-use Rattle.agreement.proofs.Soundness.{opened-entry, Group, group, SoundEntry, Sound, meets}
+use Rattle.agreement.proofs.Soundness.{Group, group, SoundEntry, Sound, meets}
 use Rattle.agreement.proofs.Reachable.{sound}
 use Rattle.agreement.proofs.StepLaws.{answer-exactly, Puts, puts-mark, puts-ack, puts-accepted, puts-ruled, each-entry, Turn, keeps, accepts, turn}
 use Rattle.agreement.proofs.Slated.{slated}

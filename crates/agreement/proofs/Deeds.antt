@@ -4,8 +4,8 @@ use mathlib.Core.Path.{_≡_, refl, ap, sym}
 use mathlib.Core.Bool.{Bool, true, false, cond, not, _&&_}
 use mathlib.Core.Option.{Option, none, some}
 use Rattle.agreement.specs.Types.{Seat, Transfer, Message, Request, Circulated, Ack, Decision, Inquiry, Reply, Circulate, Acknowledge, Accept, Propose, Note, Balance, Refuse}
-use Rattle.agreement.specs.Runs.{Call, message, waitingList, Event, Run, _▹_, Within, happened, sameSeat, isAcknowledge, isAccept, acked, accepted, proposal, proposed, ruled, passes}
-use Rattle.agreement.specs.Claims.{isRefusal, records}
+use Rattle.agreement.specs.Runs.{isRefusal, Call, message, waitingList, Event, Run, _▹_, Within, happened, sameSeat, isAcknowledge, isAccept, acked, accepted, proposal, proposed, ruled, passes}
+use Rattle.agreement.specs.Undisputed.{records}
 use Rattle.agreement.proofs.Places.{happened-found, seat-is}
 use Rattle.model.specs.Transfers.{equal}
 use Rattle.model.proofs.Sums.{impossible, both}

@@ -1,32 +1,25 @@
 -- Why a slip waits at a seat, and why a number was booked: a call there accepted it.
-use Prim.Native.Nat.{ℕ, _+_, _≤_}
+use Prim.Native.Nat.{ℕ, _≤_}
 use native.Mathlib.Decide.{ℕ-discrete}
 use native.Mathlib.Omega.{arith}
 use mathlib.Core.Path.{_≡_, refl, ap, sym, _∙_}
 use mathlib.Core.Logic.{_⊎_, inl, inr}
-use mathlib.Core.Bool.{Bool, true, false, cond, _&&_, _||_, or-true}
-use mathlib.Core.List.{List}
+use mathlib.Core.Bool.{Bool, true, _&&_}
 use mathlib.Core.Option.{some}
-use Rattle.agreement.specs.Types.{Seat, Account, Transfer, Slot, Empty, Full, Entry, Ledger, Opening, Message, Request, Circulated, Ack, Decision, Inquiry, Reply, Accept}
-use Rattle.agreement.specs.Runs.{Opens, Call, message, waitingList, Event, Run, _▹_, Within, at-end, sooner, sameSeat, nextLedger, ledgerAt, Conforms, Obeys, accepted, ruled, passes}
-use Rattle.agreement.specs.Claims.{answeredK, mustAccept, acceptedBy, taken, ruledFor, Always}
-use Rattle.agreement.proofs.Places.{before, happened-found, happened-holds, happened-later, obeys-before, obeys-at, seat-is, seat-self, ledger-induction, past-calls}
-use Rattle.agreement.proofs.Deeds.{that-slip, deed-found}
-use Rattle.agreement.proofs.Soundness.{opened-entry, Group, group, SoundEntry, Sound, meets}
+use Rattle.agreement.specs.Types.{Seat, Account, Transfer, Full, Entry, Ledger, Opening, Message, Decision, Reply, Accept}
+use Rattle.agreement.specs.Runs.{Opens, message, waitingList, Event, Run, _▹_, Within, at-end, sooner, sameSeat, ledgerAt, Obeys, accepted, ruled, passes}
+use Rattle.agreement.specs.Facts.{acceptedBy, taken, ruledFor}
+use Rattle.agreement.proofs.Places.{happened-holds, happened-later, seat-self, ledger-induction}
+use Rattle.agreement.proofs.Soundness.{opened-entry, group, SoundEntry, Sound, meets}
 use Rattle.agreement.proofs.Reachable.{sound}
-use Rattle.agreement.proofs.StepLaws.{answer-exactly, Puts, puts-mark, puts-ack, puts-accepted, puts-ruled, each-entry, Turn, keeps, accepts, turn}
-use Rattle.agreement.proofs.Slated.{slated}
-use Rattle.agreement.proofs.Acked.{acked-once}
-use Rattle.model.specs.Records.{freshEntry, withPending, sumCurrents, entryAt, setEntry, entryOf}
+use Rattle.agreement.proofs.StepLaws.{Puts, puts-mark, puts-ack, puts-accepted, puts-ruled, each-entry}
+use Rattle.model.specs.Records.{entryOf}
 use Rattle.model.specs.Transfers.{equal}
-use Rattle.model.specs.Acks.{holds, acksFor, enough}
-use Rattle.model.specs.Settling.{settle}
+use Rattle.model.specs.Acks.{acksFor, enough}
 use Rattle.model.specs.Calls.{step}
-use Rattle.model.proofs.Sums.{impossible, both, sum-set-same}
-use Rattle.model.proofs.Equality.{equal-sound, equal-refl}
-use Rattle.model.proofs.Access.{entry-set-same}
-use Rattle.model.proofs.Booking.{SameButBalance, Cleared}
-use Rattle.model.proofs.Settles.{Turned, kept, booked, settle-entry, settle-currents}
+use Rattle.model.proofs.Sums.{impossible}
+use Rattle.model.proofs.Equality.{equal-refl}
+use Rattle.model.proofs.Booking.{Cleared}
 use Rattle.model.proofs.Steps.{Eligible, Happens, happens}
 
 module _ (o : Opening) (opens : Opens o) (s : Seat) where

@@ -9,8 +9,8 @@ use mathlib.Core.Logic.{_⊎_, inl, inr}
 use mathlib.Core.Bool.{true, false}
 use mathlib.Core.Option.{none, some}
 use Rattle.agreement.specs.Types.{Seat, Account, Transfer, Full, Entry, Ledger, Opening, Refusal, Message, Request, Circulated, Ack, Decision, Inquiry, Reply, Acknowledge, Accept, Propose, Balance, Refuse}
-use Rattle.agreement.specs.Runs.{message, isAccept, accepted}
-use Rattle.agreement.specs.Claims.{isRefusal, mustAccept}
+use Rattle.agreement.specs.Runs.{isRefusal, message, isAccept, accepted}
+use Rattle.agreement.specs.Facts.{mustAccept}
 use Rattle.agreement.proofs.Soundness.{ack-new, ack-kept, free-place, Group, SoundEntry, Sound, Meets, meets, marked-sound, stored, noted-entry, accepted-entry, ruled-entry, waits-sound, accept-sound}
 use Rattle.model.specs.Records.{withAcked, withProposed, withPending, entryAt, setEntry, withEntries, withEntry, entryOf}
 use Rattle.model.specs.Acks.{acksFor, enough, hasMost}

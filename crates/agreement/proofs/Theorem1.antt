@@ -4,14 +4,15 @@ use Prim.Native.Nat.{ℕ, zero, suc, _+_, _*_, _≤_, _<_}
 use native.Mathlib.Decide.{decLe}
 use native.Mathlib.Omega.{arith}
 use mathlib.Core.Path.{_≡_, refl, ap, sym, _∙_}
-use mathlib.Core.Logic.{_⊎_, inl, inr}
+use mathlib.Core.Logic.{inl, inr}
 use mathlib.Core.Bool.{Bool, true, false, _&&_}
 use mathlib.Core.Option.{some}
 use borrow.Author.Tests.{lt-ltb}
-use Rattle.agreement.specs.Types.{Seat, Account, Transfer, Slot, Empty, Full, Entry, Ledger, Opening, Message, Ack, Reply}
-use Rattle.agreement.specs.Runs.{Opens, countBelow, FewBad, honest, Call, message, Event, Run, _▹_, Within, sameSeat, ledgerAt, Obeys, accepted, proposed, ruled}
+use Rattle.agreement.specs.Types.{Seat, Transfer, Full, Entry, Ledger, Opening, Message, Ack, Reply}
+use Rattle.agreement.specs.Runs.{isRefusal, Opens, countBelow, FewBad, honest, Call, message, Event, Run, _▹_, Within, sameSeat, ledgerAt, Obeys, accepted, proposed, ruled}
 use Rattle.agreement.specs.Premises.{ackedBy, Premises}
-use Rattle.agreement.specs.Claims.{isRefusal, acceptedBy, records, recordedAt, Theorem1}
+use Rattle.agreement.specs.Facts.{acceptedBy}
+use Rattle.agreement.specs.Undisputed.{records, recordedAt, Theorem1}
 use Rattle.agreement.proofs.Places.{within-trans, happened-found, obeys-before, seat-is, past-calls}
 use Rattle.agreement.proofs.Deeds.{Accepts, by-ack, by-ruling, accepted-is, records-is, deed-found}
 use Rattle.agreement.proofs.Soundness.{group, Sound}
@@ -75,8 +76,8 @@ module _ (o : Opening) (bad : Seat → Bool) (run : Run) (opens : Opens o) (few 
         let stands = tally .stands (seatOf i) w hw in
         let acked-it = tally .from (seatOf i) w hw (honestly i below fair) in
         let same =
-            acked-by-once o opens run obeys (seatOf i) t w (all-acked (seatOf i) (honestly i below fair)) acked-it
-            (account ∙ sym (stands .1)) (number ∙ sym (stands .2)) in
+        acked-by-once o opens run obeys (seatOf i) t w (all-acked (seatOf i) (honestly i below fair)) acked-it
+        (account ∙ sym (stands .1)) (number ∙ sym (stands .2)) in
         let this : t ≡ v = cc in
         sym this ∙ same
 
@@ -157,7 +158,7 @@ module _ (o : Opening) (bad : Seat → Bool) (run : Run) (opens : Opens o) (few 
             let was = all-reasons o opens z p here (t .account) .why-booked (t .number) (held z fair .0) past in
             let found = deed-found accepted z (was .0) p (was .3) in
             let same =
-                only-accepted (found .0) (found .1) (was .0) (within-trans (found .2) w) (found .4) (sym (was .1)) (sym (was .2)) in
+            only-accepted (found .0) (found .1) (was .0) (within-trans (found .2) w) (found .4) (sym (was .1)) (sym (was .2)) in
             rw same (was .3)
         go (no yet) = decided-accepted o opens z p here t (held-enough p z w (λ s fair. still s (held s fair .1)))
           where

@@ -4,3 +4,5 @@ pub mod Runs
 pub mod Premises
 pub mod Slates
 pub mod Claims
+pub mod Facts
+pub mod Undisputed

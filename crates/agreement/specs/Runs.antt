@@ -109,6 +109,15 @@ isAccept Note = false
 isAccept (Balance b) = false
 isAccept (Refuse q) = false
 
+abbrev pub isRefusal : Reply → Bool
+isRefusal Circulate = false
+isRefusal Acknowledge = false
+isRefusal (Accept c) = false
+isRefusal (Propose t) = false
+isRefusal Note = false
+isRefusal (Balance b) = false
+isRefusal (Refuse q) = true
+
 -- "A slip answered A is acked by that seat."
 abbrev pub acked : Call → Option Transfer
 acked (message (Request t) r) = none

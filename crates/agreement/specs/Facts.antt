@@ -1,0 +1,82 @@
+-- What holds of every run that obeys the definitions, premises or not: the whole-run facts of demand 2. The proof is `always` in
+-- proofs/Always.antt.
+use Prim.Native.Nat.{ℕ, _+_, _≤_, _<_}
+use mathlib.Core.Path.{_≡_}
+use mathlib.Core.Bool.{Bool, true, false, not, _&&_, _||_}
+use mathlib.Core.Option.{some}
+use Rattle.agreement.specs.Types.{Seat, Account, Transfer, Full, Ledger, Opening, Message, Request, Circulated, Ack, Decision, Inquiry, Accept}
+use Rattle.agreement.specs.Runs.{Opens, Call, message, waitingList, Event, Run, _▹_, Within, happened, sameSeat, ledgerAt, Obeys, isAccept, isRefusal, acked, accepted, ruled, passes}
+use Rattle.agreement.specs.Slates.{slateAt}
+use Rattle.model.specs.Basics.{sumOf}
+use Rattle.model.specs.Records.{sumBalances, sumCurrents, entryOf}
+use Rattle.model.specs.Transfers.{equal}
+use Rattle.model.specs.Acks.{holds, acksFor, enough}
+use Rattle.model.specs.Refusals.{ackFrom}
+use Rattle.model.specs.Calls.{entryWithAck}
+
+-- the call is answered K
+abbrev pub answeredK : Call → Bool
+answeredK (message m r) = isAccept r
+answeredK (waitingList before r after) = false
+
+-- the call is not refused, and it is an ack with which twice the recorded acks of its slip exceed n + 3f, or a ruling
+abbrev pub mustAccept : Ledger → Call → Bool
+mustAccept l (message (Request t) r) = false
+mustAccept l (message (Circulated t) r) = false
+mustAccept l (message (Ack s t) r) = not (isRefusal r) && enough (l .seats) (l .faults) (acksFor t (entryWithAck l s t .acks))
+mustAccept l (message (Decision t) r) = not (isRefusal r)
+mustAccept l (message (Inquiry a) r) = false
+mustAccept l (waitingList before r after) = false
+
+-- a call at seat s in this run accepted the slip
+abbrev pub acceptedBy : Seat → Transfer → Run → Bool
+acceptedBy s t run = happened (λ e. sameSeat (e .at) s && passes (equal t) (accepted (e .call))) run
+
+-- a ruling that is not refused
+abbrev pub taken : Call → Bool
+taken (message m r) = not (isRefusal r)
+taken (waitingList before r after) = false
+
+-- a ruling at seat s in this run names the slip, and is not refused
+abbrev pub ruledFor : Seat → Transfer → Run → Bool
+ruledFor s t run = happened (λ e. sameSeat (e .at) s && (passes (equal t) (ruled (e .call)) && taken (e .call))) run
+
+pub record Facts (o : Opening) (run : Run) : Type 0 where
+  -- "Balances always add up to the opening sum", which is below 2^32
+  pub sums : (p : Run) (s : Seat) → Within p run
+      → (sumBalances (ledgerAt o s p .entries) ≡ sumOf (λ b. b) (o .balances)) × (sumBalances (ledgerAt o s p .entries) < 4_294_967_296)
+  -- and each of them is the slate's, in plain numbers: no sum ever reached the modulus
+  pub plain : (p : Run) (s : Seat) (a : Account) → Within p run → entryOf (ledgerAt o s p) a .balance ≡ slateAt o s p .balance a
+  -- current numbers never fall
+  pub currents-rise : (p q : Run) (s : Seat) (a : Account) → Within p q → Within q run
+      → entryOf (ledgerAt o s p) a .current ≤ entryOf (ledgerAt o s q) a .current
+  -- K's count "is the rise in the sum of all current numbers"
+  pub count-is-rise : (p : Run) (e : Event) (m : Message) (c : ℕ) → Within (p ▹ e) run → e .call ≡ message m (Accept c)
+      → sumCurrents (ledgerAt o (e .at) (p ▹ e) .entries) ≡ sumCurrents (ledgerAt o (e .at) p .entries) + c
+  -- a seat acks at most one slip per account and number
+  pub acked-once : (p q : Run) (e d : Event) (t u : Transfer) → Within (p ▹ e) run → Within (q ▹ d) run → e .at ≡ d .at
+      → acked (e .call) ≡ some t → acked (d .call) ≡ some u → t .account ≡ u .account → t .number ≡ u .number → t ≡ u
+  -- a call accepts exactly if it is an ack that makes enough or a ruling, and is not refused: no other call does
+  pub accepts-exactly : (p : Run) (e : Event) → Within (p ▹ e) run → answeredK (e .call) ≡ mustAccept (ledgerAt o (e .at) p) (e .call)
+  -- at any place, a slip with its account's next number has been accepted exactly if twice its recorded acks exceed n + 3f or a ruling
+  -- that is not refused named it
+  pub accepted-exactly : (p : Run) (s : Seat) (t : Transfer) → Within p run
+      → t .number ≡ entryOf (ledgerAt o s p) (t .account) .current + 1
+      → acceptedBy s t p
+      ≡ enough (o .seats) (o .faults) (acksFor t (entryOf (ledgerAt o s p) (t .account) .acks)) || ruledFor s t p
+  -- and then it waits; no other slip does
+  pub waits-exactly : (p : Run) (s : Seat) (t : Transfer) → Within p run
+      → t .number ≡ entryOf (ledgerAt o s p) (t .account) .current + 1
+      → acceptedBy s t p ≡ holds t (entryOf (ledgerAt o s p) (t .account) .pending)
+  -- each number up to an account's current one was accepted there
+  pub booked-accepted : (p : Run) (s : Seat) (a : Account) (m : ℕ) → Within p run → 1 ≤ m → m ≤ entryOf (ledgerAt o s p) a .current
+      → (t : Transfer) × (t .account ≡ a) × (t .number ≡ m) × (acceptedBy s t p ≡ true)
+  -- a recorded ack is of its entry's account, of the next number, and from one of the n seats
+  pub acks-stand : (p : Run) (s i : Seat) (a : Account) (t : Transfer) → Within p run → ackFrom (entryOf (ledgerAt o s p) a) i ≡ Full t
+      → (i .0 < o .seats) × (t .account ≡ a) × (t .number ≡ entryOf (ledgerAt o s p) a .current + 1)
+  -- a waiting slip is of its entry's account, one of the k, and of the next number, for one of the k
+  pub pending-stands : (p : Run) (s : Seat) (a : Account) (t : Transfer) → Within p run → entryOf (ledgerAt o s p) a .pending ≡ Full t
+      → (t .account ≡ a) × (t .number ≡ entryOf (ledgerAt o s p) a .current + 1) × (t .account .0 < o .accounts) × (t .recipient .0 < o .accounts)
+
+abbrev pub Always : Type 0
+Always = (o : Opening) (run : Run) → Opens o → Obeys o run → Facts o run

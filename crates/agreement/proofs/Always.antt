@@ -11,9 +11,9 @@ use Rattle.agreement.specs.Runs.{Opens, Call, message, waitingList, Even
 use Rattle.agreement.specs.Facts.{answeredK, mustAccept, acceptedBy, taken, ruledFor, Always}
 use Rattle.agreement.proofs.Places.{before, happened-found, happened-holds, obeys-before, obeys-at, seat-is, seat-self, past-calls}
 use Rattle.agreement.proofs.Deeds.{that-slip, deed-found}
-use Rattle.agreement.proofs.Soundness.{Group, group, SoundEntry, Sound, meets}
+use Rattle.agreement.proofs.Soundness.{Group, group, SoundEntry, Sound, admitted}
 use Rattle.agreement.proofs.Reachable.{sound}
-use Rattle.agreement.proofs.StepLaws.{answer-exactly, Puts, puts-mark, puts-ack, puts-accepted, puts-ruled, each-entry, Turn, keeps, accepts, turn}
+use Rattle.agreement.proofs.StepLaws.{answer-exactly, puts-eligible, puts-current, each-entry, Turn, keeps, accepts, turn}
 use Rattle.agreement.proofs.Slated.{slated}
 use Rattle.agreement.proofs.Reasons.{all-reasons, decided-accepted}
 use Rattle.agreement.proofs.Acked.{acked-once}
@@ -61,8 +61,8 @@ turn-count o l next m r c ok is (accepts t this done) =
     rw (done .entries-are) (omega (arith, settle-currents joined (λ a u h. waits .each a .pending-stands u h .1)))
 
 -- What a call keeps of each entry: current numbers never fall, and a slip that has been booked or waits stays so.
-abbrev Settled : Transfer → Entry → Type 0
-Settled t e = (t .number ≤ e .current) ⊎ (e .pending ≡ Full t)
+abbrev BookedOrWaits : Transfer → Entry → Type 0
+BookedOrWaits t e = (t .number ≤ e .current) ⊎ (e .pending ≡ Full t)
 
 module _ (o : Opening) (l next : Ledger) (m : Message) (r : Reply) (g : Group o) (ok : Sound o l) (h : Happens l m r next) where
   current-rises : (a : Account) → entryOf l a .current ≤ entryOf next a .current
@@ -71,28 +71,23 @@ module _ (o : Opening) (l next : Ledger) (m : Message) (r : Reply) (g : Group o)
       (λ a e e′ same le. rw same le)
       (λ a e e′ t stands waits clear le. omega (arith, clear .current-is, stands .pending-stands t waits .1))
       (λ a. omega arith)
-      puts h
-    where
-      puts : (t : Transfer) (x : Entry) → Puts l m r t x → entryOf l (t .account) .current ≤ x .current
-      puts t x (puts-mark e f fit is) = rw is (omega arith)
-      puts t x (puts-ack s e fit new (inl is)) = rw is (omega arith)
-      puts t x (puts-ack s e fit new (inr is)) = rw is (omega arith)
-      puts t x (puts-accepted s c e f fit new full is) = rw is (omega arith)
-      puts t x (puts-ruled c e f fit is) = rw is (omega arith)
+      (λ t x put. omega (arith, puts-current l m r t x put))
+      h
 
-  stays-settled : (t : Transfer) (a : Account) → Settled t (entryOf l a) → Settled t (entryOf next a)
+  stays-settled : (t : Transfer) (a : Account) → BookedOrWaits t (entryOf l a) → BookedOrWaits t (entryOf next a)
   stays-settled t =
-      each-entry o l next m r g ok (λ a x. Settled t (entryOf l a) → Settled t x)
+      each-entry o l next m r g ok (λ a x. BookedOrWaits t (entryOf l a) → BookedOrWaits t x)
       (λ a e e′ same was old. on-balance e e′ same (was old))
       (λ a e e′ u stands waits clear was old. on-booked a e e′ u stands waits clear (was old))
       (λ a old. old)
-      puts h
+      (λ u x put. past u x (puts-eligible l m r u x put) (puts-current l m r u x put))
+      h
     where
-      on-balance : (e e′ : Entry) → SameButBalance e e′ → Settled t e → Settled t e′
+      on-balance : (e e′ : Entry) → SameButBalance e e′ → BookedOrWaits t e → BookedOrWaits t e′
       on-balance e e′ same (inl past) = inl (rw same past)
       on-balance e e′ same (inr waits) = inr (rw same waits)
 
-      on-booked : (a : Account) (e e′ : Entry) (u : Transfer) → SoundEntry o a e → e .pending ≡ Full u → Cleared u e′ → Settled t e → Settled t e′
+      on-booked : (a : Account) (e e′ : Entry) (u : Transfer) → SoundEntry o a e → e .pending ≡ Full u → Cleared u e′ → BookedOrWaits t e → BookedOrWaits t e′
       on-booked a e e′ u stands waits clear (inl past) = inl (omega (arith, clear .current-is, stands .pending-stands u waits .1))
       on-booked a e e′ u stands waits clear (inr this) =
           let same : t ≡ u = cc in
@@ -100,22 +95,15 @@ module _ (o : Opening) (l next : Ledger) (m : Message) (r : Reply) (g : Group o)
 
       -- where nothing waits, it has been booked
       past : (u : Transfer) (x : Entry) → Eligible l u → x .current ≡ entryOf l (u .account) .current
-          → Settled t (entryOf l (u .account)) → Settled t x
+          → BookedOrWaits t (entryOf l (u .account)) → BookedOrWaits t x
       past u x fit same (inl done) = inl (omega arith)
-      past u x fit same (inr waits) = impossible (cc (waits, meets o l u g ok fit .none-waits))
-
-      puts : (u : Transfer) (x : Entry) → Puts l m r u x → Settled t (entryOf l (u .account)) → Settled t x
-      puts u x (puts-mark e f fit is) = past u x fit (rw is refl)
-      puts u x (puts-ack s e fit new (inl is)) = past u x fit (rw is refl)
-      puts u x (puts-ack s e fit new (inr is)) = past u x fit (rw is refl)
-      puts u x (puts-accepted s c e f fit new full is) = past u x fit (rw is refl)
-      puts u x (puts-ruled c e f fit is) = past u x fit (rw is refl)
+      past u x fit same (inr waits) = impossible (cc (waits, admitted o l u g ok fit .none-waits))
 
   -- and the accepted slip has been booked, or waits
-  just-settled : (t : Transfer) → accepted (message m r) ≡ some t → Settled t (entryOf next (t .account))
+  just-settled : (t : Transfer) → accepted (message m r) ≡ some t → BookedOrWaits t (entryOf next (t .account))
   just-settled t is = go (turn o l next m r g ok h)
     where
-      go : Turn o l m r next → Settled t (entryOf next (t .account))
+      go : Turn o l m r next → BookedOrWaits t (entryOf next (t .account))
       go (keeps same none-accepted not-k) = impossible (cc)
       go (accepts u this done) = after (settle-entry (u .account) joined)
         where
@@ -128,7 +116,7 @@ module _ (o : Opening) (l next : Ledger) (m : Message) (r : Reply) (g : Group o)
           slip : t ≡ u
           slip = cc
 
-          after : Turned (entryAt joined (u .account)) (entryAt (settle joined .entries) (u .account)) → Settled t (entryOf next (t .account))
+          after : Turned (entryAt joined (u .account)) (entryAt (settle joined .entries) (u .account)) → BookedOrWaits t (entryOf next (t .account))
           after (kept same) = rw (slip, done .entries-are) (inr (rw same (ap (λ (e : Entry). e .pending) read)))
           after (booked w waits clear) =
               let that : w ≡ u = cc (waits, ap (λ (e : Entry). e .pending) read) in
@@ -138,7 +126,7 @@ module _ (o : Opening) (l next : Ledger) (m : Message) (r : Reply) (g : Group o)
 module _ (o : Opening) (opens : Opens o) (s : Seat) where
   -- every accepted slip has been booked, or waits
   abbrev SettledCall : Call → Ledger → Type 0
-  SettledCall c l = (t : Transfer) → accepted c ≡ some t → Settled t (entryOf l (t .account))
+  SettledCall c l = (t : Transfer) → accepted c ≡ some t → BookedOrWaits t (entryOf l (t .account))
 
   all-settled : (r : Run) → Obeys o r → (p : Run) (e : Event) → Within (p ▹ e) r → e .at ≡ s → SettledCall (e .call) (ledgerAt o s r)
   all-settled =
@@ -155,7 +143,7 @@ module _ (o : Opening) (opens : Opens o) (s : Seat) where
       let found = deed-found accepted s t r h in
       go (all-settled r obeys (found .0) (found .1) (found .2) (found .3) t (found .4))
     where
-      go : Settled t (entryOf (ledgerAt o s r) (t .account)) → entryOf (ledgerAt o s r) (t .account) .pending ≡ Full t
+      go : BookedOrWaits t (entryOf (ledgerAt o s r) (t .account)) → entryOf (ledgerAt o s r) (t .account) .pending ≡ Full t
       go (inl past) = absurd (omega arith)
       go (inr waits) = waits
 

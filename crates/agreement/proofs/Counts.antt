@@ -16,7 +16,7 @@ use Rattle.agreement.specs.Runs.{Opens, message, Event, Run, start, _▹
 use Rattle.agreement.proofs.Places.{before, within-trans, nothing-yet, last-or-sooner, obeys-before, ledger-induction}
 use Rattle.agreement.proofs.Soundness.{opened-entry, group, SoundEntry, Sound, bounded}
 use Rattle.agreement.proofs.Reachable.{sound}
-use Rattle.agreement.proofs.StepLaws.{Turn, keeps, accepts, turn, Puts, puts-mark, puts-ack, puts-accepted, puts-ruled, each-entry}
+use Rattle.agreement.proofs.StepLaws.{Turn, keeps, accepts, turn, puts-current, each-entry}
 use Rattle.agreement.proofs.Agree.{same-number, number-same}
 use Rattle.model.specs.Transfers.{sameAccount}
 use Rattle.model.specs.Records.{accountOf, withPending, entryAt, setEntry, withEntry, entryOf}
@@ -226,20 +226,12 @@ behind o opens s r obeys a = all r obeys a
         each-entry o l (step l m .next) m q (group o opens) ok Unused
         (λ a e e′ same was above. ap (λ (x : Entry). x .current) same ∙ was above)
         (λ a e e′ t stands waits clear was above. absurd (within-accounts a e t stands waits above))
-        old (λ t x put. puts l m q t x old put) (happens l m q h))
+        old (λ t x put above. puts-current l m q t x put ∙ old (t .account) above) (happens l m q h))
       where
         within-accounts : (a : Account) (e : Entry) (t : Transfer) → SoundEntry o a e → e .pending ≡ Full t → o .accounts ≤ a .0 → ⊥
         within-accounts a e t stands waits above =
             let found = stands .pending-stands t waits in
             omega (arith, found .2, ap (λ (b : Account). b .0) (found .0))
-
-        puts : (l : Ledger) (m : Message) (q : Reply) (t : Transfer) (x : Entry) → ((a : Account) → Unused a (entryOf l a))
-            → Puts l m q t x → Unused (t .account) x
-        puts l m q t x old (puts-mark e f fit is) = rw is (old (t .account))
-        puts l m q t x old (puts-ack z e fit new (inl is)) = rw is (old (t .account))
-        puts l m q t x old (puts-ack z e fit new (inr is)) = rw is (old (t .account))
-        puts l m q t x old (puts-accepted z c e f fit new full is) = rw is (old (t .account))
-        puts l m q t x old (puts-ruled c e f fit is) = rw is (old (t .account))
 
 -- The slip that a run accepted for an account and number, by whichever seat.
 isOf : Account → ℕ → Transfer → Bool

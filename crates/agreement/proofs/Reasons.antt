@@ -10,7 +10,7 @@ use Rattle.agreement.specs.Types.{Seat, Account, Transfer, Full, Entry, 
 use Rattle.agreement.specs.Runs.{Opens, message, waitingList, Event, Run, _▹_, Within, at-end, sooner, sameSeat, ledgerAt, Obeys, accepted, ruled, passes}
 use Rattle.agreement.specs.Facts.{acceptedBy, taken, ruledFor}
 use Rattle.agreement.proofs.Places.{happened-holds, happened-later, seat-self, ledger-induction}
-use Rattle.agreement.proofs.Soundness.{opened-entry, group, SoundEntry, Sound, meets}
+use Rattle.agreement.proofs.Soundness.{opened-entry, group, SoundEntry, Sound, admitted}
 use Rattle.agreement.proofs.Reachable.{sound}
 use Rattle.agreement.proofs.StepLaws.{Puts, puts-mark, puts-ack, puts-accepted, puts-ruled, each-entry}
 use Rattle.model.specs.Records.{entryOf}
@@ -116,7 +116,7 @@ module _ (o : Opening) (opens : Opens o) (s : Seat) where
         idle-still : (t : Transfer) (x : Entry) → Eligible l t → x .current ≡ entryOf l (t .account) .current
             → x .pending ≡ entryOf l (t .account) .pending → Reasons now (t .account) x
         idle-still t x fit current pending =
-            known t x current (λ u waits. impossible (cc (meets o l t (group o opens) ok fit .none-waits)))
+            known t x current (λ u waits. impossible (cc (admitted o l t (group o opens) ok fit .none-waits)))
 
         puts : (t : Transfer) (x : Entry) → Puts l m q t x → Reasons now (t .account) x
         puts t x (puts-mark e f fit is) = idle-still t x fit (rw is refl) (rw is refl)

@@ -290,15 +290,15 @@ module _ (o : Opening) (l : Ledger) (g : Group o) (ok : Sound o l) where
         each = settle-each (SoundEntry o) (kept-sound o) (booked-sound o) (l .entries) (ok .each);
       }
 
--- what an eligible slip and a recordable ack meet in a sound ledger
-pub record Meets (o : Opening) (l : Ledger) (t : Transfer) : Type 0 where
+-- what holds of an eligible slip in a sound ledger
+pub record Admitted (o : Opening) (l : Ledger) (t : Transfer) : Type 0 where
   pub none-waits : entryOf l (t .account) .pending ≡ Empty
   pub payer-known : t .account .0 < o .accounts
   pub recipient-known : t .recipient .0 < o .accounts
   pub inside : t .account .0 < length (l .entries)
 
-pub meets : (o : Opening) (l : Ledger) (t : Transfer) → Group o → Sound o l → Eligible l t → Meets o l t
-meets o l t g ok fit =
+pub admitted : (o : Opening) (l : Ledger) (t : Transfer) → Group o → Sound o l → Eligible l t → Admitted o l t
+admitted o l t g ok fit =
     record {
       none-waits = idle o (t .account) (entryOf l (t .account)) t (ok .each (t .account)) refl (fit .is-next) (fit .not-waiting);
       payer-known = rw (← ok .accounts-same) (fit .account-known);
@@ -313,8 +313,8 @@ free-place o l s t ok fit new =
 
 -- the account's entry with a recorded ack, and with the accepted slip, is sound
 module _ (o : Opening) (l : Ledger) (t : Transfer) (g : Group o) (ok : Sound o l) (fit : Eligible l t) where
-  found : Meets o l t
-  found = meets o l t g ok fit
+  found : Admitted o l t
+  found = admitted o l t g ok fit
 
   pub noted-entry : (s : Seat) → Recordable l s t → enough (l .seats) (l .faults) (acksFor t (entryWithAck l s t .acks)) ≡ false
       → SoundEntry o (t .account) (entryWithAck l s t)

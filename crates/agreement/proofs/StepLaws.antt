@@ -1,24 +1,27 @@
 -- The laws of a step that the proofs about runs use, and all of them: what a call puts into an account's entry (`each-entry`), what it
 -- does to balances, current numbers and waiting slips (`turn`), and what its reply means (`answer-acknowledge` and so on). Later
 -- definitions of a step prove these again, and the rest stays.
-use Prim.Native.Nat.{_≤_, ℕ, _+_}
+use Prim.Native.Nat.{_-_, _*_, _<_, _≤_, ℕ, _+_}
 use native.Mathlib.Omega.{arith}
 use mathlib.Core.List.{List}
 use mathlib.Core.Path.{_≡_, refl, ap, _∙_}
 use mathlib.Core.Logic.{_⊎_, inl, inr}
-use mathlib.Core.Bool.{true, false}
+use mathlib.Core.Bool.{true, false, not, _&&_}
+use lib.Dec.{leb}
+use borrow.Author.Tests.{leb-true, ltb-true}
 use mathlib.Core.Option.{none, some}
 use Rattle.agreement.specs.Types.{Seat, Account, Transfer, Full, Entry, Ledger, Opening, Refusal, Message, Request, Circulated, Ack, Decision, Inquiry, Reply, Acknowledge, Accept, Propose, Balance, Refuse}
 use Rattle.agreement.specs.Runs.{isRefusal, message, isAccept, accepted}
 use Rattle.agreement.specs.Facts.{mustAccept}
-use Rattle.agreement.proofs.Soundness.{ack-new, ack-kept, free-place, Group, SoundEntry, Sound, Meets, meets, marked-sound, stored, noted-entry, accepted-entry, ruled-entry, waits-sound, accept-sound}
+use Rattle.agreement.proofs.Soundness.{ack-new, ack-kept, free-place, Group, SoundEntry, Sound, Admitted, admitted, marked-sound, stored, noted-entry, accepted-entry, ruled-entry, waits-sound, accept-sound}
 use Rattle.model.specs.Records.{withAcked, withProposed, withPending, entryAt, setEntry, withEntries, withEntry, entryOf}
-use Rattle.model.specs.Acks.{acksFor, enough, hasMost}
+use Rattle.model.specs.Acks.{acksFor, acksRecorded, enough, twoConflict}
 use Rattle.model.specs.Refusals.{ackFrom}
 use Rattle.model.specs.Settling.{settle, accept}
 use Rattle.model.specs.Calls.{mustPropose, entryWithAck}
-use Rattle.model.proofs.Sums.{impossible}
+use Rattle.model.proofs.Sums.{impossible, both}
 use Rattle.model.proofs.Access.{set-each, with-entry-same}
+use Rattle.model.proofs.Tallies.{most-sound}
 use Rattle.model.proofs.Booking.{SameButBalance, Cleared}
 use Rattle.model.proofs.Settles.{Turned, kept, booked, settle-entry}
 use Rattle.model.proofs.Steps.{Eligible, Recordable, Happens, refused, circulated, acknowledged, accepted-by-acks, proposed, noted, accepted-by-ruling, told}
@@ -55,6 +58,20 @@ pub data Puts (l : Ledger) (m : Message) (r : Reply) (t : Transfer) (x : Entry) 
       → x ≡ withPending (entryWithAck l s t) t
       → Puts l m r t x
   puts-ruled : (c : ℕ) → m ≡ Decision t → r ≡ Accept c → Eligible l t → x ≡ withPending (entryOf l (t .account)) t → Puts l m r t x
+
+-- it is for an eligible slip, and the current number stays
+pub puts-eligible : (l : Ledger) (m : Message) (r : Reply) (t : Transfer) (x : Entry) → Puts l m r t x → Eligible l t
+puts-eligible l m r t x (puts-mark e f fit is) = fit
+puts-eligible l m r t x (puts-ack s e fit new is) = fit
+puts-eligible l m r t x (puts-accepted s c e f fit new full is) = fit
+puts-eligible l m r t x (puts-ruled c e f fit is) = fit
+
+pub puts-current : (l : Ledger) (m : Message) (r : Reply) (t : Transfer) (x : Entry) → Puts l m r t x → x .current ≡ entryOf l (t .account) .current
+puts-current l m r t x (puts-mark e f fit is) = ap (λ (y : Entry). y .current) is
+puts-current l m r t x (puts-ack s e fit new (inl is)) = ap (λ (y : Entry). y .current) is
+puts-current l m r t x (puts-ack s e fit new (inr is)) = ap (λ (y : Entry). y .current) is
+puts-current l m r t x (puts-accepted s c e f fit new full is) = ap (λ (y : Entry). y .current) is
+puts-current l m r t x (puts-ruled c e f fit is) = ap (λ (y : Entry). y .current) is
 
 -- To show J of each account's entry after a call, from J of each before it: show it of what the call puts, and that it stays where
 -- the balance changes and where a slip is booked.
@@ -106,7 +123,7 @@ pub record Accepting (o : Opening) (l : Ledger) (r : Reply) (next : Ledger) (t :
   pub entry : Entry
   pub same-balance : entry .balance ≡ entryOf l (t .account) .balance
   pub same-current : entry .current ≡ entryOf l (t .account) .current
-  pub fits : Meets o l t
+  pub fits : Admitted o l t
   pub waits-soundly : Sound o (withEntry l (t .account) (withPending entry t))
   pub entries-are : next .entries ≡ settle (setEntry (l .entries) (t .account) (withPending entry t)) .entries
   pub replied : r ≡ Accept (settle (setEntry (l .entries) (t .account) (withPending entry t)) .applied)
@@ -140,7 +157,7 @@ turn o l next m r g ok (accepted-by-acks s t e f fit new full same) =
       entry = entryWithAck l s t;
       same-balance = refl;
       same-current = refl;
-      fits = meets o l t g ok fit;
+      fits = admitted o l t g ok fit;
       waits-soundly = waits-sound o l t (entryWithAck l s t) g ok refl (accepted-entry o l t g ok fit s new);
       entries-are = ap (λ (x : Ledger). x .entries) same;
       replied = f;
@@ -155,7 +172,7 @@ turn o l next m r g ok (accepted-by-ruling t e f fit same) =
       entry = entryOf l (t .account);
       same-balance = refl;
       same-current = refl;
-      fits = meets o l t g ok fit;
+      fits = admitted o l t g ok fit;
       waits-soundly = waits-sound o l t (entryOf l (t .account)) g ok refl (ruled-entry o l t g ok fit);
       entries-are = ap (λ (x : Ledger). x .entries) same;
       replied = f;
@@ -175,7 +192,7 @@ answer-acknowledge o l next m r t g ok kind reply (circulated u e f same) = impo
 answer-acknowledge o l next m r t g ok kind reply (acknowledged u e f fit clear same) =
     let this : t ≡ u = cc in
     rw (this, same)
-    (record { is-next = fit .is-next; was-clear = clear; entry-is = with-entry-same l (u .account) _ (meets o l u g ok fit .inside) })
+    (record { is-next = fit .is-next; was-clear = clear; entry-is = with-entry-same l (u .account) _ (admitted o l u g ok fit .inside) })
 answer-acknowledge o l next m r t g ok kind reply (accepted-by-acks s u e f fit new full same) = impossible (cc)
 answer-acknowledge o l next m r t g ok kind reply (proposed s u v e f fit new few must most same) = impossible (cc)
 answer-acknowledge o l next m r t g ok kind reply (noted s u e f fit new few same) = impossible (cc)
@@ -190,14 +207,15 @@ pub record Records (l : Ledger) (s : Seat) (t : Transfer) : Type 0 where
 -- K to an ack means: with it, twice the count of acks for its slip exceeds n + 3f.
 pub answer-accept : (l next : Ledger) (m : Message) (r : Reply) (s : Seat) (t : Transfer) (c : ℕ)
     → m ≡ Ack s t → r ≡ Accept c → Happens l m r next
-    → Records l s t × (enough (l .seats) (l .faults) (acksFor t (entryWithAck l s t .acks)) ≡ true)
+    → Records l s t × (l .seats + 3 * l .faults < 2 * acksFor t (entryWithAck l s t .acks))
 answer-accept l next m r s t c kind reply (refused q e same) = impossible (cc)
 answer-accept l next m r s t c kind reply (circulated u e f same) = impossible (cc)
 answer-accept l next m r s t c kind reply (acknowledged u e f fit clear same) = impossible (cc)
 answer-accept l next m r s t c kind reply (accepted-by-acks z u e f fit new full same) =
     let seat : s ≡ z = cc in
     let slip : t ≡ u = cc in
-    rw (seat, slip) (record { eligible = fit; recordable = new }, full)
+    let many = ltb-true (l .seats + 3 * l .faults) (2 * acksFor u (entryWithAck l z u .acks)) full in
+    rw (seat, slip) (record { eligible = fit; recordable = new }, many)
 answer-accept l next m r s t c kind reply (proposed z u v e f fit new few must most same) = impossible (cc)
 answer-accept l next m r s t c kind reply (noted z u e f fit new few same) = impossible (cc)
 answer-accept l next m r s t c kind reply (accepted-by-ruling u e f fit same) = impossible (cc)
@@ -209,8 +227,16 @@ pub record Proposes (l : Ledger) (m : Message) (u : Transfer) : Type 0 where
   pub slip : Transfer
   pub is-ack : m ≡ Ack sender slip
   pub records : Records l sender slip
-  pub must : mustPropose l (entryWithAck l sender slip) ≡ true
-  pub most : hasMost (entryWithAck l sender slip .acks) u ≡ true
+  pub recorded : l .seats ≤ acksRecorded (entryWithAck l sender slip .acks) + l .faults
+  pub most : (v : Transfer) → acksFor v (entryWithAck l sender slip .acks) ≤ acksFor u (entryWithAck l sender slip .acks)
+
+-- "at least n - f seats' acks are recorded"
+n-f-recorded : (l : Ledger) (x : Entry) → mustPropose l x ≡ true → l .seats ≤ acksRecorded (x .acks) + l .faults
+n-f-recorded l x must =
+    let enough-acks = leb (l .seats - l .faults) (acksRecorded (x .acks)) in
+    let parts = both (enough-acks && twoConflict (x .acks)) (not (x .proposed)) must in
+    let least = leb-true (l .seats - l .faults) (acksRecorded (x .acks)) (both enough-acks (twoConflict (x .acks)) (parts .0) .0) in
+    omega arith
 
 pub answer-propose : (l next : Ledger) (m : Message) (r : Reply) (u : Transfer) → r ≡ Propose u → Happens l m r next → Proposes l m u
 answer-propose l next m r u reply (refused q e same) = impossible (cc)
@@ -224,8 +250,8 @@ answer-propose l next m r u reply (proposed s t v e f fit new few must most same
       slip = t;
       is-ack = e;
       records = record { eligible = fit; recordable = new };
-      must = must;
-      most = rw slip most;
+      recorded = n-f-recorded l (entryWithAck l s t) must;
+      most = most-sound (entryWithAck l s t .acks) u (rw slip most);
     }
 answer-propose l next m r u reply (noted s t e f fit new few same) = impossible (cc)
 answer-propose l next m r u reply (accepted-by-ruling t e f fit same) = impossible (cc)
@@ -305,7 +331,7 @@ module _ (o : Opening) (l next : Ledger) (m : Message) (r : Reply) (g : Group o)
 
   -- one that is put
   put-held : (s : Seat) (t : Transfer) (x : Entry) → Eligible l t → ackFrom x s ≡ Full t → Held s t (entryOf (withEntry l (t .account) x) (t .account))
-  put-held s t x fit new = inr (ap (λ (y : Entry). ackFrom y s) (with-entry-same l (t .account) x (meets o l t g ok fit .inside)) ∙ new)
+  put-held s t x fit new = inr (ap (λ (y : Entry). ackFrom y s) (with-entry-same l (t .account) x (admitted o l t g ok fit .inside)) ∙ new)
 
   accepted-held : (s : Seat) (t : Transfer) → Eligible l t → Recordable l s t
       → Held s t (entryOf (withEntries l (accept (l .entries) (entryWithAck l s t) t .entries)) (t .account))

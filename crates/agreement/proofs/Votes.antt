@@ -2,10 +2,9 @@
 use Prim.Native.Nat.{ℕ, zero, suc, _+_, _-_, _*_, _≤_, _<_}
 use native.Mathlib.Omega.{arith}
 use mathlib.Core.Path.{_≡_, refl, ap, sym, _∙_}
-use mathlib.Core.Bool.{Bool, true, false, not, _&&_}
-use lib.Dec.{leb}
+use mathlib.Core.Bool.{Bool, true, false}
 use lib.ListN.{length}
-use borrow.Author.Tests.{leb-true, ltb-true, lt-ltb}
+use borrow.Author.Tests.{lt-ltb}
 use Rattle.agreement.specs.Types.{Seat, Account, Transfer, Slot, Empty, Full, AckSlot, Entry, Ledger, Opening, Message}
 use Rattle.agreement.specs.Runs.{Opens, countBelow, FewBad, honest, Run, Obeys}
 use Rattle.agreement.proofs.Counting.{count-places, count-more, two-quorums, quorum-most}
@@ -14,12 +13,11 @@ use Rattle.agreement.proofs.StepLaws.{Records, Proposes}
 use Rattle.agreement.proofs.Acked.{FromSenders, acked-by-once}
 use Rattle.model.specs.Basics.{bit, count}
 use Rattle.model.specs.Records.{seatOf, entryOf}
-use Rattle.model.specs.Acks.{holds, isFull, acksFor, acksRecorded, enough, twoConflict}
+use Rattle.model.specs.Acks.{holds, isFull, acksFor}
 use Rattle.model.specs.Refusals.{ackFrom}
 use Rattle.model.specs.Calls.{entryWithAck}
-use Rattle.model.proofs.Sums.{impossible, both}
+use Rattle.model.proofs.Sums.{impossible}
 use Rattle.model.proofs.Equality.{equal-sound, equal-refl}
-use Rattle.model.proofs.Tallies.{most-sound}
 
 -- the vote of each seat in an entry
 abbrev pub vote : Entry → ℕ → Slot
@@ -116,11 +114,10 @@ module _ (o : Opening) (bad : Seat → Bool) (run : Run) (opens : Opens o) (few 
 -- K rests on a quorum, and P on a majority
 module _ (o : Opening) (bad : Seat → Bool) (run : Run) (opens : Opens o) (l : Ledger) (ok : Sound o l) where
   pub accept-quorum : (s : Seat) (t : Transfer) → Records l s t → FromSenders o bad run (entryWithAck l s t)
-      → enough (l .seats) (l .faults) (acksFor t (entryWithAck l s t .acks)) ≡ true → Quorum o bad run t
-  accept-quorum s t new from full =
+      → l .seats + 3 * l .faults < 2 * acksFor t (entryWithAck l s t .acks) → Quorum o bad run t
+  accept-quorum s t new from many =
       let tally = tally-of o bad run opens l s t ok new from in
       let counted = votes-counted o bad run opens (t .account) (t .number) (entryWithAck l s t) tally (holds t) refl in
-      let many = ltb-true (l .seats + 3 * l .faults) (2 * acksFor t (entryWithAck l s t .acks)) full in
       record { entry = entryWithAck l s t; tally = tally; many = omega (arith, rw (ok .seats-same, ok .faults-same) at many) }
 
   pub propose-majority : (m : Message) (u : Transfer) (p : Proposes l m u) → FromSenders o bad run (entryWithAck l (p .sender) (p .slip))
@@ -129,8 +126,8 @@ module _ (o : Opening) (bad : Seat → Bool) (run : Run) (opens : Opens o) (l : 
       record {
         entry = x;
         tally = same-tally o bad run opens _ _ _ _ x (sym (found .0)) (sym (found .1)) tally;
-        recorded = omega (arith, counted isFull refl, enough-recorded);
-        most = λ v. omega (arith, counted (holds v) refl, counted (holds u) refl, most-sound (x .acks) u (p .most) v);
+        recorded = omega (arith, counted isFull refl, rw (ok .seats-same, ok .faults-same) at (p .recorded));
+        most = λ v. omega (arith, counted (holds v) refl, counted (holds u) refl, p .most v);
       }
     where
       t : Transfer
@@ -146,15 +143,6 @@ module _ (o : Opening) (bad : Seat → Bool) (run : Run) (opens : Opens o) (l : 
           → count (λ (k : AckSlot). test (k .slot)) (x .acks) ≡ countBelow (λ i. test (vote x i)) (o .seats)
       counted = votes-counted o bad run opens (t .account) (t .number) x tally
 
-      -- "at least n - f seats' acks are recorded"
-      enough-recorded : o .seats ≤ acksRecorded (x .acks) + o .faults
-      enough-recorded =
-          let split = twoConflict (x .acks) in
-          let first = leb (l .seats - l .faults) (acksRecorded (x .acks)) in
-          let parts = both (first && split) (not (x .proposed)) (p .must) in
-          let least = leb-true (l .seats - l .faults) (acksRecorded (x .acks)) (both first split (parts .0) .0) in
-          omega (arith, ok .seats-same, ok .faults-same)
-
       -- the ack of this call is one, so the slip with the most has one
       has-one : 1 ≤ acksFor u (x .acks)
       has-one =
@@ -163,7 +151,7 @@ module _ (o : Opening) (bad : Seat → Bool) (run : Run) (opens : Opens o) (l : 
           let more =
           ack-counted o (t .account) (entryOf l (t .account)) (p .sender) t (group o opens .seats-fit) (ok .each (t .account)) refl
           (fit .is-next) (rw (← ok .seats-same) (new .seat-known)) (free-place o l (p .sender) t ok fit new) t in
-          omega (arith, rw (equal-refl t) at more, most-sound (x .acks) u (p .most) t)
+          omega (arith, rw (equal-refl t) at more, p .most t)
 
       -- and its account and number are the tally's
       found : (u .account ≡ t .account) × (u .number ≡ t .number)

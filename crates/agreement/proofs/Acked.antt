@@ -10,7 +10,7 @@ use Rattle.agreement.specs.Runs.{Opens, honest, Call, message, waitingLi
 use Rattle.agreement.specs.Premises.{implies, ackedBy, genuine}
 use Rattle.agreement.proofs.Places.{before, Order, same-event, earlier, later, order, happened-later, throughout-at, obeys-before, obeys-at, ledger-induction, past-calls}
 use Rattle.agreement.proofs.Deeds.{acked-is, deed-found}
-use Rattle.agreement.proofs.Soundness.{opened-entry, Group, group, Sound, no-acks, ack-read, free-place}
+use Rattle.agreement.proofs.Soundness.{opened-entry, Group, group, Sound, no-acks, recorded-read}
 use Rattle.agreement.proofs.Reachable.{sound}
 use Rattle.agreement.proofs.StepLaws.{Puts, puts-mark, puts-ack, puts-accepted, puts-ruled, each-entry, answer-acknowledge, Records}
 use Rattle.model.specs.Basics.{bit}
@@ -127,10 +127,7 @@ module _ (o : Opening) (bad : Seat → Bool) (opens : Opens o) where
   recorded-from : (r : Run) (l : Ledger) (s : Seat) (t : Transfer) → Sound o l → Eligible l t → Recordable l s t
       → (honest o bad s ≡ true → ackedBy s t r ≡ true)
       → FromSenders o bad r (entryOf l (t .account)) → FromSenders o bad r (entryWithAck l s t)
-  recorded-from r l s t ok fit new genuinely old i u h fair =
-      go
-      (ack-read o (t .account) (entryOf l (t .account)) s t (group o opens .seats-fit) (ok .each (t .account)) refl (fit .is-next)
-      (rw (← ok .seats-same) (new .seat-known)) (free-place o l s t ok fit new) i u h)
+  recorded-from r l s t ok fit new genuinely old i u h fair = go (recorded-read o l s t (group o opens) ok fit new i u h)
     where
       go : ((i ≡ s) × (u ≡ t)) ⊎ (ackFrom (entryOf l (t .account)) i ≡ Full u) → ackedBy i u r ≡ true
       go (inl this) = rw (this .0, this .1) (genuinely (rw (this .0) at fair))

@@ -122,7 +122,7 @@ module _ (o : Opening) where
   booked-sound a e e′ t waits clear ok = quiet a e′ (clear .no-acks) (clear .none-pending)
 
   -- an account for which a call brings an eligible slip has nothing that waits
-  pub idle : (a : Account) (e : Entry) (t : Transfer) → SoundEntry o a e → t .account ≡ a → t .number ≡ e .current + 1
+  idle : (a : Account) (e : Entry) (t : Transfer) → SoundEntry o a e → t .account ≡ a → t .number ≡ e .current + 1
       → waitsAlready (e .pending) t ≡ false → e .pending ≡ Empty
   idle a e t ok account next free = go (e .pending) refl free
     where
@@ -136,7 +136,7 @@ module _ (o : Opening) where
           impossible (cc)
 
   -- and has no ack recorded from a seat whose ack neither 9 nor 10 refuses
-  pub unrecorded : (a : Account) (e : Entry) (s : Seat) (t : Transfer) → SoundEntry o a e → t .account ≡ a → t .number ≡ e .current + 1
+  unrecorded : (a : Account) (e : Entry) (s : Seat) (t : Transfer) → SoundEntry o a e → t .account ≡ a → t .number ≡ e .current + 1
       → holds t (ackFrom e s) ≡ false → conflicts t (ackFrom e s) ≡ false → ackFrom e s ≡ Empty
   unrecorded a e s t ok account next differs agrees = go (ackFrom e s) refl differs agrees
     where
@@ -161,7 +161,7 @@ module _ (o : Opening) where
       inside = omega (arith, ok .acks-size)
 
       -- it is read back, and the others stay
-      pub ack-read : (z : Seat) (u : Transfer) → ackFrom (withAck e s t) z ≡ Full u → ((z ≡ s) × (u ≡ t)) ⊎ (ackFrom e z ≡ Full u)
+      ack-read : (z : Seat) (u : Transfer) → ackFrom (withAck e s t) z ≡ Full u → ((z ≡ s) × (u ≡ t)) ⊎ (ackFrom e z ≡ Full u)
       ack-read z u h = go (ℕ-discrete (z .0) (s .0))
         where
           none-yet : AckSlot
@@ -177,18 +177,18 @@ module _ (o : Opening) where
               let old = getD-set-other (e .acks) (s .0) (z .0) (record { slot = Full t }) none-yet other in
               inr (sym (ap (λ (x : AckSlot). x .slot) old) ∙ h)
 
-      pub ack-new : ackFrom (withAck e s t) s ≡ Full t
+      ack-new : ackFrom (withAck e s t) s ≡ Full t
       ack-new =
           ap (λ (x : AckSlot). x .slot) (getD-set-same (e .acks) (s .0) (record { slot = Full t }) (record { slot = Empty }) inside)
 
-      pub ack-kept : (z : Seat) (u : Transfer) → ackFrom e z ≡ Full u → ackFrom (withAck e s t) z ≡ Full u
+      ack-kept : (z : Seat) (u : Transfer) → ackFrom e z ≡ Full u → ackFrom (withAck e s t) z ≡ Full u
       ack-kept z u h =
           let other : z .0 ≢ s .0 = λ same. let at : z ≡ s = ap seatOf same in impossible (cc (h, free)) in
           let old = getD-set-other (e .acks) (s .0) (z .0) (record { slot = Full t }) (record { slot = Empty }) other in
           ap (λ (x : AckSlot). x .slot) old ∙ h
 
       -- the count of its slip rises by one, and no other
-      pub ack-counted : (u : Transfer) → acksFor u (withAck e s t .acks) ≡ acksFor u (e .acks) + bit (equal t u)
+      ack-counted : (u : Transfer) → acksFor u (withAck e s t .acks) ≡ acksFor u (e .acks) + bit (equal t u)
       ack-counted u =
           let change = sum-set (λ x. bit (holds u (x .slot))) (e .acks) (s .0) (record { slot = Full t }) (record { slot = Empty }) inside in
           let before : bit (holds u (ackFrom e s)) ≡ 0 = rw free in
@@ -306,33 +306,48 @@ admitted o l t g ok fit =
       inside = omega (arith, ok .size, ok .accounts-same, fit .account-known, g .accounts-fit);
     }
 
-pub free-place : (o : Opening) (l : Ledger) (s : Seat) (t : Transfer) → Sound o l → Eligible l t → Recordable l s t
-    → ackFrom (entryOf l (t .account)) s ≡ Empty
-free-place o l s t ok fit new =
-    unrecorded o (t .account) (entryOf l (t .account)) s t (ok .each (t .account)) refl (fit .is-next) (new .not-equal) (new .not-conflicting)
+-- what holds of an ack that is recorded in a sound ledger
+module _ (o : Opening) (l : Ledger) (s : Seat) (t : Transfer) (g : Group o) (ok : Sound o l) (fit : Eligible l t) (new : Recordable l s t) where
+  abbrev old : Entry
+  old = entryOf l (t .account)
 
--- the account's entry with a recorded ack, and with the accepted slip, is sound
-module _ (o : Opening) (l : Ledger) (t : Transfer) (g : Group o) (ok : Sound o l) (fit : Eligible l t) where
-  found : Admitted o l t
-  found = admitted o l t g ok fit
+  known-seat : s .0 < o .seats
+  known-seat = rw (← ok .seats-same) (new .seat-known)
 
-  pub noted-entry : (s : Seat) → Recordable l s t → enough (l .seats) (l .faults) (acksFor t (entryWithAck l s t .acks)) ≡ false
-      → SoundEntry o (t .account) (entryWithAck l s t)
-  noted-entry s new few =
-      noted-sound o (t .account) (entryOf l (t .account)) s t (g .seats-fit) (ok .each (t .account)) refl (fit .is-next)
-      (rw (← ok .seats-same) (new .seat-known)) (free-place o l s t ok fit new) (found .none-waits)
-      (rw (ok .seats-same, ok .faults-same) at few)
+  free-place : ackFrom old s ≡ Empty
+  free-place = unrecorded o (t .account) old s t (ok .each (t .account)) refl (fit .is-next) (new .not-equal) (new .not-conflicting)
 
-  pub accepted-entry : (s : Seat) → Recordable l s t → SoundEntry o (t .account) (withPending (entryWithAck l s t) t)
-  accepted-entry s new =
-      accepted-sound o (t .account) (entryOf l (t .account)) s t (g .seats-fit) (ok .each (t .account)) refl (fit .is-next)
-      (rw (← ok .seats-same) (new .seat-known)) (free-place o l s t ok fit new) (found .none-waits)
-      (found .payer-known) (found .recipient-known)
+  pub recorded-read : (z : Seat) (u : Transfer) → ackFrom (entryWithAck l s t) z ≡ Full u → ((z ≡ s) × (u ≡ t)) ⊎ (ackFrom (entryOf l (t .account)) z ≡ Full u)
+  recorded-read = ack-read o (t .account) old s t (g .seats-fit) (ok .each (t .account)) refl (fit .is-next) known-seat free-place
 
-  pub ruled-entry : SoundEntry o (t .account) (withPending (entryOf l (t .account)) t)
-  ruled-entry =
-      ruled-sound o (t .account) (entryOf l (t .account)) t (ok .each (t .account)) refl (fit .is-next) (found .none-waits)
-      (found .payer-known) (found .recipient-known)
+  pub recorded-new : ackFrom (entryWithAck l s t) s ≡ Full t
+  recorded-new = ack-new o (t .account) old s t (g .seats-fit) (ok .each (t .account)) refl (fit .is-next) known-seat free-place
+
+  pub recorded-kept : (z : Seat) (u : Transfer) → ackFrom (entryOf l (t .account)) z ≡ Full u → ackFrom (entryWithAck l s t) z ≡ Full u
+  recorded-kept = ack-kept o (t .account) old s t (g .seats-fit) (ok .each (t .account)) refl (fit .is-next) known-seat free-place
+
+  pub recorded-counted : (u : Transfer) → acksFor u (entryWithAck l s t .acks) ≡ acksFor u (entryOf l (t .account) .acks) + bit (equal t u)
+  recorded-counted = ack-counted o (t .account) old s t (g .seats-fit) (ok .each (t .account)) refl (fit .is-next) known-seat free-place
+
+  -- the account's entry with it is sound where it makes not enough; and in any case with its slip accepted
+  pub noted-entry : enough (l .seats) (l .faults) (acksFor t (entryWithAck l s t .acks)) ≡ false → SoundEntry o (t .account) (entryWithAck l s t)
+  noted-entry few =
+      noted-sound o (t .account) old s t (g .seats-fit) (ok .each (t .account)) refl (fit .is-next) known-seat free-place
+      (admitted o l t g ok fit .none-waits) (rw (ok .seats-same, ok .faults-same) at few)
+
+  pub accepted-entry : SoundEntry o (t .account) (withPending (entryWithAck l s t) t)
+  accepted-entry =
+      let found = admitted o l t g ok fit in
+      accepted-sound o (t .account) old s t (g .seats-fit) (ok .each (t .account)) refl (fit .is-next) known-seat free-place
+      (found .none-waits) (found .payer-known) (found .recipient-known)
+
+-- and the entry with a ruling's slip
+pub ruled-entry : (o : Opening) (l : Ledger) (t : Transfer) → Group o → Sound o l → Eligible l t
+    → SoundEntry o (t .account) (withPending (entryOf l (t .account)) t)
+ruled-entry o l t g ok fit =
+    let found = admitted o l t g ok fit in
+    ruled-sound o (t .account) (entryOf l (t .account)) t (ok .each (t .account)) refl (fit .is-next) (found .none-waits)
+    (found .payer-known) (found .recipient-known)
 
 -- a slip that is accepted waits, and then the waiting slips are settled
 pub waits-sound : (o : Opening) (l : Ledger) (t : Transfer) (e : Entry) → Group o → Sound o l

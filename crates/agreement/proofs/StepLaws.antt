@@ -13,7 +13,7 @@ use mathlib.Core.Option.{none, some}
 use Rattle.agreement.specs.Types.{Seat, Account, Transfer, Full, Entry, Ledger, Opening, Refusal, Message, Request, Circulated, Ack, Decision, Inquiry, Reply, Acknowledge, Accept, Propose, Balance, Refuse}
 use Rattle.agreement.specs.Runs.{isRefusal, message, isAccept, accepted}
 use Rattle.agreement.specs.Facts.{mustAccept}
-use Rattle.agreement.proofs.Soundness.{ack-new, ack-kept, free-place, Group, SoundEntry, Sound, Admitted, admitted, marked-sound, stored, noted-entry, accepted-entry, ruled-entry, waits-sound, accept-sound}
+use Rattle.agreement.proofs.Soundness.{recorded-new, recorded-kept, Group, SoundEntry, Sound, Admitted, admitted, marked-sound, stored, noted-entry, accepted-entry, ruled-entry, waits-sound, accept-sound}
 use Rattle.model.specs.Records.{withAcked, withProposed, withPending, entryAt, setEntry, withEntries, withEntry, entryOf}
 use Rattle.model.specs.Acks.{acksFor, acksRecorded, enough, twoConflict}
 use Rattle.model.specs.Refusals.{ackFrom}
@@ -35,13 +35,13 @@ step-sound o l next m r g ok (acknowledged t e f fit clear same) =
     let new = marked-sound o (t .account) old (withAcked old) refl refl refl (ok .each (t .account)) in
     rw same (stored o l g ok (t .account) (withAcked old) new refl)
 step-sound o l next m r g ok (accepted-by-acks s t e f fit new full same) =
-    rw same (accept-sound o l t (entryWithAck l s t) g ok refl (accepted-entry o l t g ok fit s new))
+    rw same (accept-sound o l t (entryWithAck l s t) g ok refl (accepted-entry o l s t g ok fit new))
 step-sound o l next m r g ok (proposed s t u e f fit new few must most same) =
     let old = entryWithAck l s t in
-    let sound = marked-sound o (t .account) old (withProposed old) refl refl refl (noted-entry o l t g ok fit s new few) in
+    let sound = marked-sound o (t .account) old (withProposed old) refl refl refl (noted-entry o l s t g ok fit new few) in
     rw same (stored o l g ok (t .account) (withProposed old) sound refl)
 step-sound o l next m r g ok (noted s t e f fit new few same) =
-    rw same (stored o l g ok (t .account) (entryWithAck l s t) (noted-entry o l t g ok fit s new few) refl)
+    rw same (stored o l g ok (t .account) (entryWithAck l s t) (noted-entry o l s t g ok fit new few) refl)
 step-sound o l next m r g ok (accepted-by-ruling t e f fit same) =
     rw same (accept-sound o l t (entryOf l (t .account)) g ok refl (ruled-entry o l t g ok fit))
 step-sound o l next m r g ok (told a e f same) = rw same ok
@@ -104,7 +104,7 @@ module _ (o : Opening) (l next : Ledger) (m : Message) (r : Reply) (g : Group o)
     each-entry (accepted-by-acks s t e f fit new full same) =
         rw same
         (settled t (entryWithAck l s t) (puts-accepted s _ e f fit new full refl)
-        (waits-sound o l t (entryWithAck l s t) g ok refl (accepted-entry o l t g ok fit s new)))
+        (waits-sound o l t (entryWithAck l s t) g ok refl (accepted-entry o l s t g ok fit new)))
     each-entry (proposed s t u e f fit new few must most same) =
         rw same (put t (withProposed (entryWithAck l s t)) (puts-ack s e fit new (inr refl)))
     each-entry (noted s t e f fit new few same) = rw same (put t (entryWithAck l s t) (puts-ack s e fit new (inl refl)))
@@ -158,7 +158,7 @@ turn o l next m r g ok (accepted-by-acks s t e f fit new full same) =
       same-balance = refl;
       same-current = refl;
       fits = admitted o l t g ok fit;
-      waits-soundly = waits-sound o l t (entryWithAck l s t) g ok refl (accepted-entry o l t g ok fit s new);
+      waits-soundly = waits-sound o l t (entryWithAck l s t) g ok refl (accepted-entry o l s t g ok fit new);
       entries-are = ap (λ (x : Ledger). x .entries) same;
       replied = f;
     })
@@ -292,17 +292,9 @@ abbrev pub Held : Seat → Transfer → Entry → Type 0
 Held s t e = (t .number ≤ e .current) ⊎ (ackFrom e s ≡ Full t)
 
 module _ (o : Opening) (l next : Ledger) (m : Message) (r : Reply) (g : Group o) (ok : Sound o l) where
-  held-new : (s : Seat) (t : Transfer) → Eligible l t → Recordable l s t → ackFrom (entryWithAck l s t) s ≡ Full t
-  held-new s t fit new =
-      ack-new o (t .account) (entryOf l (t .account)) s t (g .seats-fit) (ok .each (t .account)) refl (fit .is-next)
-      (rw (← ok .seats-same) (new .seat-known)) (free-place o l s t ok fit new)
-
   held-kept : (s z : Seat) (t u : Transfer) → Eligible l t → Recordable l s t → Held z u (entryOf l (t .account)) → Held z u (entryWithAck l s t)
   held-kept s z t u fit new (inl past) = inl past
-  held-kept s z t u fit new (inr yet) =
-      inr
-      (ack-kept o (t .account) (entryOf l (t .account)) s t (g .seats-fit) (ok .each (t .account)) refl (fit .is-next)
-      (rw (← ok .seats-same) (new .seat-known)) (free-place o l s t ok fit new) z u yet)
+  held-kept s z t u fit new (inr yet) = inr (recorded-kept o l s t g ok fit new z u yet)
 
   booked-held : (s : Seat) (u : Transfer) (a : Account) (e e′ : Entry) (t : Transfer) → SoundEntry o a e → e .pending ≡ Full t → Cleared t e′
       → Held s u e → Held s u e′
@@ -351,10 +343,10 @@ module _ (o : Opening) (l next : Ledger) (m : Message) (r : Reply) (g : Group o)
       after = entryAt (settle joined .entries) (t .account)
 
       yet : Held s t before
-      yet = put-held s t (withPending (entryWithAck l s t) t) fit (held-new s t fit new)
+      yet = put-held s t (withPending (entryWithAck l s t) t) fit (recorded-new o l s t g ok fit new)
 
       sound : SoundEntry o (t .account) (entryOf waits (t .account))
-      sound = waits-sound o l t (entryWithAck l s t) g ok refl (accepted-entry o l t g ok fit s new) .each (t .account)
+      sound = waits-sound o l t (entryWithAck l s t) g ok refl (accepted-entry o l s t g ok fit new) .each (t .account)
 
       go : Turned before after → Held s t after
       go (kept same) = balance-held s t before after same yet
@@ -372,10 +364,10 @@ module _ (o : Opening) (l next : Ledger) (m : Message) (r : Reply) (g : Group o)
   now-held s t kind taken (proposed z u v e f fit new few must most same) =
       let seat : s ≡ z = cc in
       let slip : t ≡ u = cc in
-      rw (seat, slip, same) (omega (arith, fit .is-next), put-held z u _ fit (held-new z u fit new))
+      rw (seat, slip, same) (omega (arith, fit .is-next), put-held z u _ fit (recorded-new o l z u g ok fit new))
   now-held s t kind taken (noted z u e f fit new few same) =
       let seat : s ≡ z = cc in
       let slip : t ≡ u = cc in
-      rw (seat, slip, same) (omega (arith, fit .is-next), put-held z u _ fit (held-new z u fit new))
+      rw (seat, slip, same) (omega (arith, fit .is-next), put-held z u _ fit (recorded-new o l z u g ok fit new))
   now-held s t kind taken (accepted-by-ruling u e f fit same) = impossible (cc)
   now-held s t kind taken (told a e f same) = impossible (cc)

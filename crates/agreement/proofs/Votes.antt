@@ -8,11 +8,11 @@ use borrow.Author.Tests.{lt-ltb}
 use Rattle.agreement.specs.Types.{Seat, Account, Transfer, Slot, Empty, Full, AckSlot, Entry, Ledger, Opening, Message}
 use Rattle.agreement.specs.Runs.{Opens, countBelow, FewBad, honest, Run, Obeys}
 use Rattle.agreement.proofs.Counting.{count-places, count-more, two-quorums, quorum-most}
-use Rattle.agreement.proofs.Soundness.{group, Sound, accepted-entry, ack-counted, free-place}
+use Rattle.agreement.proofs.Soundness.{group, Sound, accepted-entry, recorded-counted}
 use Rattle.agreement.proofs.StepLaws.{Records, Proposes}
 use Rattle.agreement.proofs.Acked.{FromSenders, acked-by-once}
 use Rattle.model.specs.Basics.{bit, count}
-use Rattle.model.specs.Records.{seatOf, entryOf}
+use Rattle.model.specs.Records.{seatOf}
 use Rattle.model.specs.Acks.{holds, isFull, acksFor}
 use Rattle.model.specs.Refusals.{ackFrom}
 use Rattle.model.specs.Calls.{entryWithAck}
@@ -37,7 +37,7 @@ module _ (o : Opening) (bad : Seat → Bool) (run : Run) (opens : Opens o) where
   pub tally-of : (l : Ledger) (s : Seat) (t : Transfer) → Sound o l → Records l s t → FromSenders o bad run (entryWithAck l s t)
       → Tally o bad run (t .account) (t .number) (entryWithAck l s t)
   tally-of l s t ok new from =
-      let entry = accepted-entry o l t (group o opens) ok (new .eligible) s (new .recordable) in
+      let entry = accepted-entry o l s t (group o opens) ok (new .eligible) (new .recordable) in
       record {
         size = entry .acks-size;
         stands = λ z u h.
@@ -148,9 +148,7 @@ module _ (o : Opening) (bad : Seat → Bool) (run : Run) (opens : Opens o) (l : 
       has-one =
           let fit = p .records .eligible in
           let new = p .records .recordable in
-          let more =
-          ack-counted o (t .account) (entryOf l (t .account)) (p .sender) t (group o opens .seats-fit) (ok .each (t .account)) refl
-          (fit .is-next) (rw (← ok .seats-same) (new .seat-known)) (free-place o l (p .sender) t ok fit new) t in
+          let more = recorded-counted o l (p .sender) t (group o opens) ok fit new t in
           omega (arith, rw (equal-refl t) at more, p .most t)
 
       -- and its account and number are the tally's

@@ -1,4 +1,4 @@
--- What holds of every run that obeys the definitions, premises or not: the statement is `Always` in specs/Claims.antt.
+-- What holds of every run that obeys the definitions, premises or not: the statement is `Always` in specs/Facts.antt.
 use Prim.Native.Nat.{ℕ, _+_, _≤_}
 use native.Mathlib.Omega.{arith}
 use mathlib.Core.Path.{_≡_, refl, ap, sym, _∙_}
@@ -6,12 +6,13 @@ use mathlib.Core.Logic.{_⊎_, inl, inr}
 use mathlib.Core.Bool.{Bool, true, false, cond, _&&_, _||_, or-true}
 use mathlib.Core.List.{List}
 use mathlib.Core.Option.{some}
+use borrow.Author.Tests.{leb-false}
 use Rattle.agreement.specs.Types.{Seat, Account, Transfer, Slot, Empty, Full, Entry, Ledger, Opening, Message, Request, Circulated, Ack, Decision, Inquiry, Reply, Accept}
 use Rattle.agreement.specs.Runs.{Opens, Call, message, waitingList, Event, Run, _▹_, Within, at-end, sooner, sameSeat, nextLedger, ledgerAt, Conforms, Obeys, accepted, ruled, passes}
 use Rattle.agreement.specs.Facts.{answeredK, mustAccept, acceptedBy, taken, ruledFor, Always}
-use Rattle.agreement.proofs.Places.{before, happened-found, happened-holds, obeys-before, obeys-at, seat-is, seat-self, past-calls}
+use Rattle.agreement.proofs.Places.{before, happened-found, happened-holds, obeys-before, obeys-at, seat-is, seat-self, ledger-induction, past-calls}
 use Rattle.agreement.proofs.Deeds.{that-slip, deed-found}
-use Rattle.agreement.proofs.Soundness.{Group, group, SoundEntry, Sound, admitted}
+use Rattle.agreement.proofs.Soundness.{opened-entry, Group, group, SoundEntry, Sound, admitted}
 use Rattle.agreement.proofs.Reachable.{sound}
 use Rattle.agreement.proofs.StepLaws.{answer-exactly, puts-eligible, puts-current, each-entry, Turn, keeps, accepts, turn}
 use Rattle.agreement.proofs.Slated.{slated}
@@ -20,13 +21,13 @@ use Rattle.agreement.proofs.Acked.{acked-once}
 use Rattle.model.specs.Records.{freshEntry, withPending, sumCurrents, entryAt, setEntry, entryOf}
 use Rattle.model.specs.Transfers.{equal}
 use Rattle.model.specs.Acks.{holds, acksFor, enough}
-use Rattle.model.specs.Settling.{settle}
+use Rattle.model.specs.Settling.{affordable, settle}
 use Rattle.model.specs.Calls.{step}
 use Rattle.model.proofs.Sums.{impossible, both, sum-set-same}
 use Rattle.model.proofs.Equality.{equal-sound, equal-refl}
 use Rattle.model.proofs.Access.{entry-set-same}
 use Rattle.model.proofs.Booking.{SameButBalance, Cleared}
-use Rattle.model.proofs.Settles.{Turned, kept, booked, settle-entry, settle-currents}
+use Rattle.model.proofs.Settles.{none-affordable, settle-done, Turned, kept, booked, settle-entry, settle-currents}
 use Rattle.model.proofs.Steps.{Eligible, Happens, happens}
 
 -- tests that hold of the same
@@ -59,6 +60,23 @@ turn-count o l next m r c ok is (accepts t this done) =
     let before = sum-set-same (λ e. e .current) (l .entries) (t .account .0) (withPending (done .entry) t) (freshEntry 0) (done .same-current) in
     let count : c ≡ settle joined .applied = cc (is, done .replied) in
     rw (done .entries-are) (omega (arith, settle-currents joined (λ a u h. waits .each a .pending-stands u h .1)))
+
+-- no waiting slip is covered after a call, if none was before
+turn-uncovered : (o : Opening) (l next : Ledger) (m : Message) (r : Reply) → Turn o l m r next
+    → ((a : Account) → affordable (entryOf l a) ≡ false) → (a : Account) → affordable (entryOf next a) ≡ false
+turn-uncovered o l next m r (keeps same none-accepted not-k) old a = rw (same a .0, same a .2) (old a)
+turn-uncovered o l next m r (accepts t this done) old a =
+    let joined = setEntry (l .entries) (t .account) (withPending (done .entry) t) in
+    rw (done .entries-are) (none-affordable (settle joined .entries) (settle-done joined) a)
+
+uncovered : (o : Opening) → Opens o → (s : Seat) (r : Run) → Obeys o r → (a : Account) → affordable (entryOf (ledgerAt o s r) a) ≡ false
+uncovered o opens s =
+    ledger-induction o s (λ r l. (a : Account) → affordable (entryOf l a) ≡ false) (λ a. rw (opened-entry o opens a) refl)
+    (λ r e l other old. old)
+    (λ r b a q l old. old)
+    (λ r m q l is obeys h old.
+    let ok : Sound o l = rw is (sound o opens s r obeys) in
+    turn-uncovered o l (step l m .next) m q (turn o l (step l m .next) m q (group o opens) ok (happens l m q h)) old)
 
 -- What a call keeps of each entry: current numbers never fall, and a slip that has been booked or waits stays so.
 abbrev BookedOrWaits : Transfer → Entry → Type 0
@@ -236,6 +254,9 @@ always o run opens obeys =
       accepted-exactly = λ p s t w next. accepted-iff o opens s p (obeys-before o obeys w) t next;
       booked-accepted = λ p s a m w. all-reasons o opens s p (obeys-before o obeys w) a .why-booked m;
       waits-exactly = λ p s t w next. waits-iff o opens s p (obeys-before o obeys w) t next;
+      waits-for-funds = λ p s a t w waits.
+          let l = ledgerAt o s p in
+          leb-false (t .value) (entryOf l a .balance) (rw waits at (uncovered o opens s p (obeys-before o obeys w) a));
       acks-stand = λ p s i a t w. sound o opens s p (obeys-before o obeys w) .each a .acks-stand i t;
       pending-stands = λ p s a t w. sound o opens s p (obeys-before o obeys w) .each a .pending-stands t;
     }

@@ -1,4 +1,4 @@
--- The paper's Theorem 1: the statement is `Theorem1` in specs/Claims.antt. What every honest seat acked is accepted wherever all their
+-- The paper's Theorem 1: the statement is `Theorem1` in specs/Undisputed.antt. What every honest seat acked is accepted wherever all their
 -- acks were recorded, and no other slip with its account and number is put forward or accepted.
 use Prim.Native.Nat.{ℕ, zero, suc, _+_, _*_, _≤_, _<_}
 use native.Mathlib.Decide.{decLe}

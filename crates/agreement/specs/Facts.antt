@@ -68,6 +68,9 @@ pub record Facts (o : Opening) (run : Run) : Type 0 where
   pub waits-exactly : (p : Run) (s : Seat) (t : Transfer) → Within p run
       → t .number ≡ entryOf (ledgerAt o s p) (t .account) .current + 1
       → acceptedBy s t p ≡ holds t (entryOf (ledgerAt o s p) (t .account) .pending)
+  -- it waits for funds: what its payer's balance covers has been booked
+  pub waits-for-funds : (p : Run) (s : Seat) (a : Account) (t : Transfer) → Within p run → entryOf (ledgerAt o s p) a .pending ≡ Full t
+      → entryOf (ledgerAt o s p) a .balance < t .value
   -- each number up to an account's current one was accepted there
   pub booked-accepted : (p : Run) (s : Seat) (a : Account) (m : ℕ) → Within p run → 1 ≤ m → m ≤ entryOf (ledgerAt o s p) a .current
       → (t : Transfer) × (t .account ≡ a) × (t .number ≡ m) × (acceptedBy s t p ≡ true)

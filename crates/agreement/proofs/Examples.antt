@@ -33,40 +33,40 @@ use Rattle.model.proofs.Sums.{impossible, both}
 use Rattle.model.proofs.Equality.{conflict-sound}
 
 -- n 6, f 1: 5 acks accept, and 5 recorded acks that conflict put forward
-abbrev page : Opening
+abbrev pub page : Opening
 page = pageWith 6 1 (10 ∷ 3 ∷ [])
 
 -- two slips that conflict
-abbrev t : Transfer
+abbrev pub t : Transfer
 t = slip 0 1 4 1
 
-abbrev u : Transfer
+abbrev pub u : Transfer
 u = slip 0 1 5 1
 
 -- a slip that wants funds which t brings
-abbrev v : Transfer
+abbrev pub v : Transfer
 v = slip 1 1 6 0
 
 -- the bad seats: seat 5; and one too many, seats 4 and 5
-abbrev bad : Seat → Bool
+abbrev pub bad : Seat → Bool
 bad s = eqb (s .0) 5
 
 abbrev twoBad : Seat → Bool
 twoBad s = eqb (s .0) 4 || eqb (s .0) 5
 
 -- How runs are written below. Seat s is called with a message, and replies
-abbrev asked : ℕ → Message → Reply → Event
+abbrev pub asked : ℕ → Message → Reply → Event
 asked s m r = record { at = seatOf s; call = message m r }
 
 -- the slip reaches seat s, which acks it
-abbrev acks : ℕ → Transfer → Event
+abbrev pub acks : ℕ → Transfer → Event
 acks s t = asked s (Circulated t) Acknowledge
 
 -- the ack of seat z reaches seat s
-abbrev ack : ℕ → ℕ → Transfer → Reply → Event
+abbrev pub ack : ℕ → ℕ → Transfer → Reply → Event
 ack s z t r = asked s (Ack (seatOf z) t) r
 
-abbrev ruling : ℕ → Transfer → Reply → Event
+abbrev pub ruling : ℕ → Transfer → Reply → Event
 ruling s t r = asked s (Decision t) r
 
 abbrev lists : ℕ → List ℕ → ListReply → List ℕ → Event
@@ -74,7 +74,7 @@ lists s before r after = record { at = seatOf s; call = waitingList before r aft
 
 -- how it is shown that a run obeys the definitions: a reason for each event, in their order
 infixl 20 _then_
-abbrev _then_ : {A B : Type 0} → A → B → A × B
+abbrev pub _then_ : {A B : Type 0} → A → B → A × B
 a then b = (a, b)
 
 -- each of the two premises, so that one can hold where the other fails
@@ -104,7 +104,7 @@ no-claim o bad run t u differ yes-t yes-u claim =
 -- A run that keeps the premises. A home sends t to some seats and u to another. Seat 0 accepts t by acks, the bad seat's among them. At
 -- seat 1 the acks conflict, since the bad seat acks u there, and t is put forward. The ruling for t reaches seats 1, 2 and 3. Then v is
 -- accepted at seat 4, where it waits: this far first.
-abbrev waits : Run
+abbrev pub waits : Run
 waits =
     start
     ▹ asked 0 (Request t) Circulate
@@ -120,7 +120,7 @@ waits =
     ▹ lists 4 [] (ListRefused ShortBuffer) []
 
 -- .. then the waiting list has v, and the ruling for t, which is late at seat 4, brings the funds
-abbrev witness : Run
+abbrev pub witness : Run
 witness =
     waits
     ▹ lists 4 (replicate 32 9) (Listed 1) (1 ∷ replicate 31 9)
@@ -182,7 +182,7 @@ witness-keeps = (
 abbrev acksThat : Transfer → Event → Bool
 acksThat t e = passes (equal t) (acked (e .call))
 
-abbrev putsForward : Transfer → Event → Bool
+abbrev pub putsForward : Transfer → Event → Bool
 putsForward t e = passes (equal t) (proposed (e .call))
 
 abbrev takes : ℕ → Transfer → Event → Bool
@@ -353,7 +353,7 @@ z = slip 0 1 4 0
 abbrev w : Transfer
 w = slip 1 1 2 0
 
-abbrev free : Run
+abbrev pub free : Run
 free =
     start
     ▹ acks 0 t ▹ acks 1 t ▹ acks 2 t ▹ acks 3 u ▹ acks 4 u
@@ -380,7 +380,7 @@ left-free = (
 )
 
 -- What else the premises say. A ruling counts, refused or not: this one is for a value above the opening sum.
-abbrev refusedRuling : Run
+abbrev pub refusedRuling : Run
 refusedRuling = start ▹ ruling 0 (slip 0 1 14 1) (Refuse OutOfRange)
 
 pub refused-rulings-count : Obeys page refusedRuling × (Premises page bad refusedRuling → ⊥)
@@ -411,35 +411,35 @@ abbrev lines : ℕ → ℕ → Slate → List (ℕ × ℕ)
 lines zero a s = []
 lines (suc left) a s = (s .balance (accountOf a), s .count (accountOf a)) ∷ lines left (suc a) s
 
-abbrev slate : Opening → ℕ → Run → List (ℕ × ℕ)
+abbrev pub slate : Opening → ℕ → Run → List (ℕ × ℕ)
 slate o s run = lines (o .accounts) 0 (slateAt o (seatOf s) run)
 
 -- "Balances 0 and 5: ruling (0, 1, 5, 1) gives K 0; then ruling (1, 1, 5, 0) gives K 2, balances 0 and 5."
-abbrev poor : Opening
+abbrev pub poor : Opening
 poor = pageWith 6 1 (0 ∷ 5 ∷ [])
 
-abbrev oneWaits : Run
+abbrev pub oneWaits : Run
 oneWaits = start ▹ ruling 0 (slip 0 1 5 1) (Accept 0)
 
-abbrev bothBooked : Run
+abbrev pub bothBooked : Run
 bothBooked = oneWaits ▹ ruling 0 (slip 1 1 5 0) (Accept 2)
 
 -- .. and a next slip, after which those two do not leave again
-abbrev oneMore : Run
+abbrev pub oneMore : Run
 oneMore = bothBooked ▹ ruling 0 (slip 1 2 5 0) (Accept 1)
 
 -- the third slip books the first, which books the second. A ruling that is refused then leaves the slate as it is
-abbrev three : Opening
+abbrev pub three : Opening
 three = pageWith 6 1 (1 ∷ 2 ∷ 5 ∷ [])
 
 abbrev twoWait : Run
 twoWait = start ▹ ruling 0 (slip 0 1 6 1) (Accept 0) ▹ ruling 0 (slip 1 1 8 2) (Accept 0)
 
-abbrev chain : Run
+abbrev pub chain : Run
 chain = twoWait ▹ ruling 0 (slip 2 1 5 0) (Accept 3) ▹ ruling 0 (slip 2 1 5 0) (Refuse PastNumber)
 
 -- "Recipient may equal payer."
-abbrev toItself : Run
+abbrev pub toItself : Run
 toItself = start ▹ ruling 0 (slip 0 1 4 0) (Accept 1)
 
 pub slate-runs-obey : Obeys poor oneMore × Obeys three chain × Obeys page toItself

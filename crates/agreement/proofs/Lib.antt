@@ -16,3 +16,4 @@ pub mod Reasons
 pub mod Always
 pub mod Theorem1
 pub mod Examples
+pub mod FactsTried

@@ -63,7 +63,7 @@ module _ (o : Opening) (opens : Opens o) (s : Seat) where
       let kind : m ≡ Circulated t = cc in
       let reply : q ≡ Acknowledge = cc in
       let marks = answer-acknowledge o l (step l m .next) m q t (group o opens) ok kind reply (happens l m q h) in
-      rw (marks .entry-is) (omega (arith, marks .is-next))
+      rw (marks .entry-is) (omega (arith, marks .eligible .is-next))
 
   all-reached : (r : Run) → Obeys o r → (p : Run) (e : Event) → Within (p ▹ e) r → e .at ≡ s → Reached (e .call) (ledgerAt o s r)
   unfolding Reached
@@ -91,7 +91,7 @@ module _ (o : Opening) (opens : Opens o) (run : Run) (obeys : Obeys o run) where
       let ok = sound o opens (e .at) p (obeys-before o obeys (before w)) in
       let answer = happens l (Circulated t) Acknowledge (rw (acked-is (e .call) t is) at (obeys-at o obeys w)) in
       let marks = answer-acknowledge o l _ (Circulated t) Acknowledge t (group o opens) ok refl refl answer in
-      omega (arith, marks .is-next, ap bit (marks .was-clear))
+      omega (arith, marks .eligible .is-next, ap bit (marks .was-clear))
 
   -- an earlier ack of the same number at the same seat cannot be
   never-again : (p q : Run) (e d : Event) (t u : Transfer) → Within (q ▹ d) run → Within (p ▹ e) q → e .at ≡ d .at

@@ -3,32 +3,29 @@ use Prim.Native.Nat.{ℕ, _+_, _≤_}
 use native.Mathlib.Omega.{arith}
 use mathlib.Core.Path.{_≡_, refl, ap, sym, _∙_}
 use mathlib.Core.Logic.{_⊎_, inl, inr}
-use mathlib.Core.Bool.{Bool, true, false, cond, _&&_, _||_, or-true}
-use mathlib.Core.List.{List}
+use mathlib.Core.Bool.{Bool, true, false, _&&_, _||_, or-true}
 use mathlib.Core.Option.{some}
 use borrow.Author.Tests.{leb-false}
-use Rattle.agreement.specs.Types.{Seat, Account, Transfer, Slot, Empty, Full, Entry, Ledger, Opening, Message, Request, Circulated, Ack, Decision, Inquiry, Reply, Accept}
-use Rattle.agreement.specs.Runs.{Opens, Call, message, waitingList, Event, Run, _▹_, Within, at-end, sooner, sameSeat, nextLedger, ledgerAt, Conforms, Obeys, accepted, ruled, passes}
+use Rattle.agreement.specs.Types.{Seat, Account, Transfer, Slot, Empty, Full, Ledger, Opening, Message, Request, Circulated, Ack, Decision, Inquiry, Reply, Accept}
+use Rattle.agreement.specs.Runs.{Opens, Call, message, waitingList, Event, Run, _▹_, Within, sameSeat, ledgerAt, Conforms, Obeys, accepted, ruled, passes}
 use Rattle.agreement.specs.Facts.{answeredK, mustAccept, acceptedBy, taken, ruledFor, Always}
-use Rattle.agreement.proofs.Places.{before, happened-found, happened-holds, obeys-before, obeys-at, seat-is, seat-self, ledger-induction, past-calls}
+use Rattle.agreement.proofs.Places.{before, happened-found, happened-holds, obeys-before, obeys-at, ledger-induction, past-calls, ledger-after, stays}
 use Rattle.agreement.proofs.Deeds.{that-slip, deed-found}
-use Rattle.agreement.proofs.Soundness.{opened-entry, Group, group, SoundEntry, Sound, admitted}
+use Rattle.agreement.proofs.Soundness.{opened-entry, group, Sound}
 use Rattle.agreement.proofs.Reachable.{sound}
-use Rattle.agreement.proofs.StepLaws.{answer-exactly, puts-eligible, puts-current, each-entry, Turn, keeps, accepts, turn}
+use Rattle.agreement.proofs.StepLaws.{answer-exactly, BookedOrWaits, current-rises, stays-settled, just-settled, Turn, keeps, accepts, turn}
 use Rattle.agreement.proofs.Slated.{slated}
 use Rattle.agreement.proofs.Reasons.{all-reasons, decided-accepted}
 use Rattle.agreement.proofs.Acked.{acked-once}
-use Rattle.model.specs.Records.{freshEntry, withPending, sumCurrents, entryAt, setEntry, entryOf}
+use Rattle.model.specs.Records.{freshEntry, withPending, sumCurrents, setEntry, entryOf}
 use Rattle.model.specs.Transfers.{equal}
 use Rattle.model.specs.Acks.{holds, acksFor, enough}
 use Rattle.model.specs.Settling.{affordable, settle}
 use Rattle.model.specs.Calls.{step}
 use Rattle.model.proofs.Sums.{impossible, both, sum-set-same}
 use Rattle.model.proofs.Equality.{equal-sound, equal-refl}
-use Rattle.model.proofs.Access.{entry-set-same}
-use Rattle.model.proofs.Booking.{SameButBalance, Cleared}
-use Rattle.model.proofs.Settles.{none-affordable, settle-done, Turned, kept, booked, settle-entry, settle-currents}
-use Rattle.model.proofs.Steps.{Eligible, Happens, happens}
+use Rattle.model.proofs.Settles.{none-affordable, settle-done, settle-currents}
+use Rattle.model.proofs.Steps.{happens}
 
 -- tests that hold of the same
 same-test : (a b : Bool) → (a ≡ true → b ≡ true) → (b ≡ true → a ≡ true) → a ≡ b
@@ -77,68 +74,6 @@ uncovered o opens s =
     (λ r m q l is obeys h old.
     let ok : Sound o l = rw is (sound o opens s r obeys) in
     turn-uncovered o l (step l m .next) m q (turn o l (step l m .next) m q (group o opens) ok (happens l m q h)) old)
-
--- What a call keeps of each entry: current numbers never fall, and a slip that has been booked or waits stays so.
-abbrev BookedOrWaits : Transfer → Entry → Type 0
-BookedOrWaits t e = (t .number ≤ e .current) ⊎ (e .pending ≡ Full t)
-
-module _ (o : Opening) (l next : Ledger) (m : Message) (r : Reply) (g : Group o) (ok : Sound o l) (h : Happens l m r next) where
-  current-rises : (a : Account) → entryOf l a .current ≤ entryOf next a .current
-  current-rises =
-      each-entry o l next m r g ok (λ a x. entryOf l a .current ≤ x .current)
-      (λ a e e′ same le. rw same le)
-      (λ a e e′ t stands waits clear le. omega (arith, clear .current-is, stands .pending-stands t waits .1))
-      (λ a. omega arith)
-      (λ t x put. omega (arith, puts-current l m r t x put))
-      h
-
-  stays-settled : (t : Transfer) (a : Account) → BookedOrWaits t (entryOf l a) → BookedOrWaits t (entryOf next a)
-  stays-settled t =
-      each-entry o l next m r g ok (λ a x. BookedOrWaits t (entryOf l a) → BookedOrWaits t x)
-      (λ a e e′ same was old. on-balance e e′ same (was old))
-      (λ a e e′ u stands waits clear was old. on-booked a e e′ u stands waits clear (was old))
-      (λ a old. old)
-      (λ u x put. past u x (puts-eligible l m r u x put) (puts-current l m r u x put))
-      h
-    where
-      on-balance : (e e′ : Entry) → SameButBalance e e′ → BookedOrWaits t e → BookedOrWaits t e′
-      on-balance e e′ same (inl past) = inl (rw same past)
-      on-balance e e′ same (inr waits) = inr (rw same waits)
-
-      on-booked : (a : Account) (e e′ : Entry) (u : Transfer) → SoundEntry o a e → e .pending ≡ Full u → Cleared u e′ → BookedOrWaits t e → BookedOrWaits t e′
-      on-booked a e e′ u stands waits clear (inl past) = inl (omega (arith, clear .current-is, stands .pending-stands u waits .1))
-      on-booked a e e′ u stands waits clear (inr this) =
-          let same : t ≡ u = cc in
-          inl (omega (arith, clear .current-is, ap (λ (x : Transfer). x .number) same))
-
-      -- where nothing waits, it has been booked
-      past : (u : Transfer) (x : Entry) → Eligible l u → x .current ≡ entryOf l (u .account) .current
-          → BookedOrWaits t (entryOf l (u .account)) → BookedOrWaits t x
-      past u x fit same (inl done) = inl (omega arith)
-      past u x fit same (inr waits) = impossible (cc (waits, admitted o l u g ok fit .none-waits))
-
-  -- and the accepted slip has been booked, or waits
-  just-settled : (t : Transfer) → accepted (message m r) ≡ some t → BookedOrWaits t (entryOf next (t .account))
-  just-settled t is = go (turn o l next m r g ok h)
-    where
-      go : Turn o l m r next → BookedOrWaits t (entryOf next (t .account))
-      go (keeps same none-accepted not-k) = impossible (cc)
-      go (accepts u this done) = after (settle-entry (u .account) joined)
-        where
-          joined : List Entry
-          joined = setEntry (l .entries) (u .account) (withPending (done .entry) u)
-
-          read : entryAt joined (u .account) ≡ withPending (done .entry) u
-          read = entry-set-same (l .entries) (u .account) (withPending (done .entry) u) (done .fits .inside)
-
-          slip : t ≡ u
-          slip = cc
-
-          after : Turned (entryAt joined (u .account)) (entryAt (settle joined .entries) (u .account)) → BookedOrWaits t (entryOf next (t .account))
-          after (kept same) = rw (slip, done .entries-are) (inr (rw same (ap (λ (e : Entry). e .pending) read)))
-          after (booked w waits clear) =
-              let that : w ≡ u = cc (waits, ap (λ (e : Entry). e .pending) read) in
-              rw (slip, done .entries-are) (inl (omega (arith, clear .current-is, ap (λ (x : Transfer). x .number) that)))
 
 -- Which slips were accepted at a seat, and which wait there.
 module _ (o : Opening) (opens : Opens o) (s : Seat) where
@@ -207,37 +142,23 @@ module _ (o : Opening) (opens : Opens o) (s : Seat) where
       back (Full u) is h =
           all-reasons o opens s r obeys (t .account) .why-waits t (is ∙ ap Full (equal-sound u t h)) .was-accepted
 
-  -- current numbers never fall, at one event and from any place to a later one
-  one-event : (r : Run) (e : Event) (a : Account) → Obeys o (r ▹ e)
-      → entryOf (ledgerAt o s r) a .current ≤ entryOf (ledgerAt o s (r ▹ e)) a .current
-  unfolding ledgerAt
-  one-event r e a obeys = go (sameSeat (e .at) s) refl
-    where
-      call : (c : Call) → Conforms (ledgerAt o s r) c → entryOf (ledgerAt o s r) a .current ≤ entryOf (nextLedger (ledgerAt o s r) c) a .current
-      call (message m q) h =
-          current-rises o (ledgerAt o s r) (step (ledgerAt o s r) m .next) m q (group o opens) (sound o opens s r (obeys .0))
-          (happens (ledgerAt o s r) m q h) a
-      call (waitingList b q c) h = omega arith
-
-      go : (b : Bool) → sameSeat (e .at) s ≡ b
-          → entryOf (ledgerAt o s r) a .current ≤ entryOf (cond b (nextLedger (ledgerAt o s r) (e .call)) (ledgerAt o s r)) a .current
-      go true here = call (e .call) (rw (seat-is (e .at) s here) at (obeys .1))
-      go false there = omega arith
-
+  -- current numbers never fall
   never-falls : (a : Account) {p q : Run} → Obeys o q → Within p q → entryOf (ledgerAt o s p) a .current ≤ entryOf (ledgerAt o s q) a .current
-  never-falls a obeys at-end = omega arith
-  never-falls a obeys (sooner {r = r} {e = e} w) = omega (arith, never-falls a (obeys .0) w, one-event r e a obeys)
+  never-falls a {p} {q} obeys w =
+      stays o s (λ l. entryOf (ledgerAt o s p) a .current ≤ entryOf l a .current)
+      (λ r m q l is obeys h old.
+      omega (arith, current-rises o l (step l m .next) m q (group o opens) (rw is (sound o opens s r obeys)) (happens l m q h) a))
+      obeys w (omega arith)
 
 -- K's count, in a run
 run-count : (o : Opening) (run p : Run) (e : Event) (m : Message) (c : ℕ) → Opens o → Obeys o run → Within (p ▹ e) run
     → e .call ≡ message m (Accept c)
     → sumCurrents (ledgerAt o (e .at) (p ▹ e) .entries) ≡ sumCurrents (ledgerAt o (e .at) p .entries) + c
-unfolding ledgerAt
 run-count o run p e m c opens obeys w is =
     let l = ledgerAt o (e .at) p in
     let ok = sound o opens (e .at) p (obeys-before o obeys (before w)) in
     let h = happens l m (Accept c) (rw is at (obeys-at o obeys w)) in
-    rw (seat-self (e .at), is)
+    rw (ledger-after o (e .at) p e m (Accept c) refl is)
     (turn-count o l (step l m .next) m (Accept c) c ok refl (turn o l (step l m .next) m (Accept c) (group o opens) ok h))
 
 pub always : Always
@@ -246,7 +167,9 @@ always o run opens obeys =
       sums = λ p s w.
           let ok = sound o opens s p (obeys-before o obeys w) in
           (ok .sum-same, rw (ok .sum-same) (group o opens .sum-fits));
-      plain = λ p s a w. slated o opens s p (obeys-before o obeys w) .balance-is a;
+      plain = λ p s a w.
+          let match = slated o opens s p (obeys-before o obeys w) in
+          (match .balance-is a, match .count-is a);
       currents-rise = λ p q s a w v. never-falls o opens s a (obeys-before o obeys v) w;
       count-is-rise = λ p e m c w is. run-count o run p e m c opens obeys w is;
       acked-once = acked-once o opens run obeys;

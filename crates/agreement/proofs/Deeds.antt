@@ -4,8 +4,8 @@ use mathlib.Core.Path.{_≡_, refl, ap, sym}
 use mathlib.Core.Bool.{Bool, true, false, cond, not, _&&_}
 use mathlib.Core.Option.{Option, none, some}
 use Rattle.agreement.specs.Types.{Seat, Transfer, Message, Request, Circulated, Ack, Decision, Inquiry, Reply, Circulate, Acknowledge, Accept, Propose, Note, Balance, Refuse}
-use Rattle.agreement.specs.Runs.{isRefusal, Call, message, waitingList, Event, Run, _▹_, Within, happened, sameSeat, isAcknowledge, isAccept, acked, accepted, proposal, proposed, ruled, passes}
-use Rattle.agreement.specs.Undisputed.{records}
+use Rattle.agreement.specs.Runs.{Call, message, waitingList, Event, Run, _▹_, Within, happened, sameSeat, isAcknowledge, isAccept, acked, accepted, proposal, proposed, ruled, passes}
+use Rattle.agreement.specs.Undisputed.{tooEarly, brings}
 use Rattle.agreement.proofs.Places.{happened-found, seat-is}
 use Rattle.model.specs.Transfers.{equal}
 use Rattle.model.proofs.Sums.{impossible, both}
@@ -82,23 +82,23 @@ proposed-is (waitingList before r after) u e = impossible (cc)
 pub ruling-ruled : (c : Call) (t : Transfer) (r : Reply) → c ≡ message (Decision t) r → ruled c ≡ some t
 ruling-ruled c t r e = rw e refl
 
--- it recorded an ack of t from seat s
-pub records-is : (s : Seat) (t : Transfer) (c : Call) → records s t c ≡ true → (r : Reply) × (c ≡ message (Ack s t) r) × (isRefusal r ≡ false)
-records-is s t (message (Request u) r) e = impossible (cc)
-records-is s t (message (Circulated u) r) e = impossible (cc)
-records-is s t (message (Ack z u) r) e =
-    let parts = both (sameSeat z s) (equal t u && not (isRefusal r)) e in
-    let rest = both (equal t u) (not (isRefusal r)) (parts .1) in
+-- it brought an ack of t from seat s, not too early
+pub brings-is : (s : Seat) (t : Transfer) (c : Call) → brings s t c ≡ true → (r : Reply) × (c ≡ message (Ack s t) r) × (tooEarly r ≡ false)
+brings-is s t (message (Request u) r) e = impossible (cc)
+brings-is s t (message (Circulated u) r) e = impossible (cc)
+brings-is s t (message (Ack z u) r) e =
+    let parts = both (sameSeat z s) (equal t u && not (tooEarly r)) e in
+    let rest = both (equal t u) (not (tooEarly r)) (parts .1) in
     let seat = seat-is z s (parts .0) in
     let slip = sym (equal-sound t u (rest .0)) in
-    (r, λ i. message (Ack (seat i) (slip i)) r, not-true (isRefusal r) (rest .1))
+    (r, λ i. message (Ack (seat i) (slip i)) r, not-true (tooEarly r) (rest .1))
   where
     not-true : (b : Bool) → not b ≡ true → b ≡ false
     not-true true h = impossible (cc)
     not-true false h = refl
-records-is s t (message (Decision u) r) e = impossible (cc)
-records-is s t (message (Inquiry a) r) e = impossible (cc)
-records-is s t (waitingList before r after) e = impossible (cc)
+brings-is s t (message (Decision u) r) e = impossible (cc)
+brings-is s t (message (Inquiry a) r) e = impossible (cc)
+brings-is s t (waitingList before r after) e = impossible (cc)
 
 -- a slip that is equal to t is t
 pub that-slip : (t : Transfer) (x : Option Transfer) → passes (equal t) x ≡ true → x ≡ some t

@@ -13,8 +13,8 @@ use Rattle.agreement.specs.Premises.{ackedBy, Premises}
 use Rattle.agreement.specs.Slates.{leaveAtMost, leaveAll, slateAt}
 use Rattle.agreement.specs.Claims.{Claim}
 use Rattle.agreement.specs.Facts.{answeredK, mustAccept, acceptedBy, ruledFor, Facts}
-use Rattle.agreement.specs.Undisputed.{recordedAt, Undisputed}
-use Rattle.model.specs.declared.Refusal.the-variants.{PastNumber, AckRepeated, AckConflicting}
+use Rattle.agreement.specs.Undisputed.{reached, Undisputed}
+use Rattle.model.specs.declared.Refusal.the-variants.{PastNumber, FutureNumber, AckRepeated, AckConflicting}
 use Rattle.model.specs.Records.{seatOf, accountOf, noAcks, sumCurrents, entryOf}
 use Rattle.model.specs.Transfers.{equal, conflict}
 use Rattle.model.specs.Refusals.{rulesOf}
@@ -116,13 +116,13 @@ each-honest P p0 p1 p2 p3 p4 s fair = go (s .0) fair
     go (suc (suc (suc (suc (suc zero))))) h = impossible (cc)
     go (suc (suc (suc (suc (suc (suc i)))))) h = impossible (cc (le-ltb (suc (suc (suc (suc (suc (suc i)))))) 6 (omega arith)))
 
--- It is a run as Theorem 1 means it: it keeps the premises, every honest seat acked t, and all their acks were recorded at seat 0.
+-- It is a run as Theorem 1 means it: it keeps the premises, every honest seat acked t, and all their acks reached seat 0.
 pub undisputed-keeps :
     (atHonest page bad undisputedRun ≡ true)
     × Obeys page undisputedRun
     × Premises page bad undisputedRun
     × ((s : Seat) → honest page bad s ≡ true → ackedBy s t undisputedRun ≡ true)
-    × ((s : Seat) → honest page bad s ≡ true → recordedAt (seatOf 0) s t undisputedRun ≡ true)
+    × ((s : Seat) → honest page bad s ≡ true → reached (seatOf 0) s t undisputedRun ≡ true)
 unfolding ledgerAt noAcks equal conflict hasMost rulesOf openLedger lowestAffordable apply settleAtMost settle accept effect step
 undisputed-keeps = (
   refl,
@@ -134,7 +134,7 @@ undisputed-keeps = (
       then refl,
   record { acks-genuine = refl; rulings-rightful = refl },
   each-honest (λ s. ackedBy s t undisputedRun ≡ true) refl refl refl refl refl,
-  each-honest (λ s. recordedAt (seatOf 0) s t undisputedRun ≡ true) refl refl refl refl refl,
+  each-honest (λ s. reached (seatOf 0) s t undisputedRun ≡ true) refl refl refl refl refl,
 )
 
 -- .. so nothing but t is put forward or accepted for its number, and seat 0 accepts it, by Theorem 1
@@ -146,7 +146,7 @@ undisputed-claim =
 pub theorem1-tried : acceptedBy (seatOf 0) t undisputedRun ≡ true
 theorem1-tried = undisputed-claim .accepted-there undisputedRun (seatOf 0) at-end refl (undisputed-keeps .4)
 
--- .. as it is: where one ack was not recorded yet, or two were lost, t is not accepted
+-- .. as it is: where one ack has not arrived yet, or three were lost, t is not accepted
 pub theorem1-computed :
     (acceptedBy (seatOf 0) t undisputedRun ≡ true)
     × (acceptedBy (seatOf 0) t oneLacks ≡ false)
@@ -154,22 +154,40 @@ pub theorem1-computed :
 unfolding equal
 theorem1-computed = (refl, refl, refl)
 
--- .. and Theorem 1 says so only of places where all of them were recorded
+-- .. and Theorem 1 says so only of places where all of them have arrived
 pub undisputed-says : Undisputed page bad undisputedRun t
-    → ((s : Seat) → honest page bad s ≡ true → recordedAt (seatOf 0) s t oneLacks ≡ true) → false ≡ true
+    → ((s : Seat) → honest page bad s ≡ true → reached (seatOf 0) s t oneLacks ≡ true) → false ≡ true
 unfolding equal
 undisputed-says h = h .accepted-there oneLacks (seatOf 0) (sooner at-end) refl
 
--- An ack that is not refused is recorded: seat 3's at seat 0, and not at seat 1, where it was lost; of t, not of u. The bad seat's ack of
--- u is, its ack of t after it is not.
-pub recorded-tried :
-    (recordedAt (seatOf 0) (seatOf 3) t undisputedRun ≡ true)
-    × (recordedAt (seatOf 1) (seatOf 3) t undisputedRun ≡ false)
-    × (recordedAt (seatOf 0) (seatOf 3) u undisputedRun ≡ false)
-    × (recordedAt (seatOf 0) (seatOf 5) u undisputedRun ≡ true)
-    × (recordedAt (seatOf 0) (seatOf 5) t undisputedRun ≡ false)
+-- Where fewer acks accept than there are honest seats, the last of their acks are refused, and have arrived all the same: n 3, f 0. The
+-- ack of a number above the next comes too early, and is lost.
+abbrev threeSeats : Opening
+threeSeats = pageWith 3 0 (10 ∷ 3 ∷ [])
+
+abbrev lateAck : Run
+lateAck =
+    start
+    ▹ acks 0 t ▹ acks 1 t ▹ acks 2 t
+    ▹ ack 0 0 (slip 0 2 1 1) (Refuse FutureNumber)
+    ▹ ack 0 0 t Note ▹ ack 0 1 t (Accept 1) ▹ ack 0 2 t (Refuse PastNumber)
+
+pub late-obeys : Obeys threeSeats lateAck
+unfolding ledgerAt noAcks equal conflict hasMost rulesOf openLedger lowestAffordable apply settleAtMost settle accept effect step
+late-obeys = tt then refl then refl then refl then refl then refl then refl then refl
+
+-- Which acks have arrived: seat 3's at seat 0, and not at seat 1, where it was lost; of t, not of u. The bad seat's ack of u has, and its
+-- ack of t after it, though refused. The late ack has, the early one has not.
+pub reached-tried :
+    (reached (seatOf 0) (seatOf 3) t undisputedRun ≡ true)
+    × (reached (seatOf 1) (seatOf 3) t undisputedRun ≡ false)
+    × (reached (seatOf 0) (seatOf 3) u undisputedRun ≡ false)
+    × (reached (seatOf 0) (seatOf 5) u undisputedRun ≡ true)
+    × (reached (seatOf 0) (seatOf 5) t undisputedRun ≡ true)
+    × (reached (seatOf 0) (seatOf 2) t lateAck ≡ true)
+    × (reached (seatOf 0) (seatOf 0) (slip 0 2 1 1) lateAck ≡ false)
 unfolding equal
-recorded-tried = (refl, refl, refl, refl, refl)
+reached-tried = (refl, refl, refl, refl, refl, refl, refl)
 
 -- Theorem 1 needs every honest seat's ack of t. In this run of Examples.antt, which keeps the premises, seats 0 to 2 ack t, seats 3 and 4
 -- ack u, and u is put forward.

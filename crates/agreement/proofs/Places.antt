@@ -158,3 +158,29 @@ module _ (o : Opening) (s : Seat) (Q : Call → Ledger → Type 0)
         (λ r b a q l old. one-more r _ l old (λ at. listed l b a q))
         (λ r m q l is obeys h old.
         one-more r _ (step l m .next) (λ p e w at. kept r m q l (e .call) is obeys h (old p e w at)) (λ at. made r m q l is obeys h))
+
+-- the ledger after a message is what the message left
+pub ledger-after : (o : Opening) (s : Seat) (r : Run) (e : Event) (m : Message) (q : Reply) → e .at ≡ s → e .call ≡ message m q
+    → ledgerAt o s (r ▹ e) ≡ step (ledgerAt o s r) m .next
+unfolding ledgerAt
+ledger-after o s r e m q seat call = rw (seat, call, seat-self s)
+
+-- what messages keep of a seat's ledger stays from a place to every later one
+module _ (o : Opening) (s : Seat) (P : Ledger → Type 0)
+    (kept : (r : Run) (m : Message) (q : Reply) (l : Ledger) → l ≡ ledgerAt o s r → Obeys o r → Answers l m q → P l → P (step l m .next))
+  where
+    one-event : (r : Run) (e : Event) → Obeys o (r ▹ e) → P (ledgerAt o s r) → P (ledgerAt o s (r ▹ e))
+    unfolding ledgerAt
+    one-event r e obeys old = go (sameSeat (e .at) s) refl
+      where
+        call : (c : Call) → Conforms (ledgerAt o s r) c → P (nextLedger (ledgerAt o s r) c)
+        call (message m q) h = kept r m q (ledgerAt o s r) refl (obeys .0) h old
+        call (waitingList b q a) h = old
+
+        go : (b : Bool) → sameSeat (e .at) s ≡ b → P (cond b (nextLedger (ledgerAt o s r) (e .call)) (ledgerAt o s r))
+        go true here = call (e .call) (rw (seat-is (e .at) s here) at (obeys .1))
+        go false there = old
+
+    pub stays : {p r : Run} → Obeys o r → Within p r → P (ledgerAt o s p) → P (ledgerAt o s r)
+    stays obeys at-end old = old
+    stays obeys (sooner {r = r} {e = e} w) old = one-event r e obeys (stays (obeys .0) w old)

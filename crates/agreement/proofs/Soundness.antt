@@ -16,7 +16,7 @@ use Rattle.model.specs.Basics.{bit, sumOf}
 use Rattle.model.specs.Records.{seatOf, noAcks, freshEntry, withAck, withPending, sumBalances, freshLedger, withEntries, withEntry, entryOf}
 use Rattle.model.specs.Transfers.{sameNumber, equal}
 use Rattle.model.specs.Acks.{holds, conflicts, acksFor, enough}
-use Rattle.model.specs.Refusals.{firstRefusal, waitsAlready, ackFrom}
+use Rattle.model.specs.Refusals.{firstRefusal, outOfRange, waitsAlready, ackFrom}
 use Rattle.model.specs.Openings.{openRules, openAnswer, openLedger}
 use Rattle.model.specs.Settling.{settle, accept}
 use Rattle.model.specs.Calls.{entryWithAck}
@@ -69,6 +69,7 @@ pub record Sound (o : Opening) (l : Ledger) : Type 0 where
   pub seats-same : l .seats ≡ o .seats
   pub faults-same : l .faults ≡ o .faults
   pub accounts-same : l .accounts ≡ o .accounts
+  pub total-same : l .total ≡ sumOf (λ b. b) (o .balances)
   pub size : length (l .entries) ≡ 32
   pub sum-same : sumBalances (l .entries) ≡ sumOf (λ b. b) (o .balances)
   pub each : (a : Account) → SoundEntry o a (entryOf l a)
@@ -260,6 +261,7 @@ opened-sound o opens =
       seats-same = refl;
       faults-same = refl;
       accounts-same = refl;
+      total-same = refl;
       size = length-map (o .balances) freshEntry ∙ opens .full-page;
       sum-same = fresh-sum (o .balances);
       each = λ a. rw (List·getD-map freshEntry (o .balances) (a .0) 0) (quiet o a (freshEntry (getD (o .balances) (a .0) 0)) refl refl);
@@ -273,6 +275,7 @@ module _ (o : Opening) (l : Ledger) (g : Group o) (ok : Sound o l) where
         seats-same = ok .seats-same;
         faults-same = ok .faults-same;
         accounts-same = ok .accounts-same;
+        total-same = ok .total-same;
         size = set-entry-length (l .entries) a e ∙ ok .size;
         sum-same = sum-set-same (λ x. x .balance) (l .entries) (a .0) e (freshEntry 0) same ∙ ok .sum-same;
         each = set-each (SoundEntry o) (l .entries) a e new (ok .each);
@@ -285,10 +288,15 @@ module _ (o : Opening) (l : Ledger) (g : Group o) (ok : Sound o l) where
         seats-same = ok .seats-same;
         faults-same = ok .faults-same;
         accounts-same = ok .accounts-same;
+        total-same = ok .total-same;
         size = settle-length (l .entries) ∙ ok .size;
         sum-same = settle-sum (l .entries) (bounded o l g ok) .0 ∙ ok .sum-same;
         each = settle-each (SoundEntry o) (kept-sound o) (booked-sound o) (l .entries) (ok .each);
       }
+
+-- sound ledgers of one page have the same range
+pub same-range : (o : Opening) (l k : Ledger) (t : Transfer) → Sound o l → Sound o k → outOfRange l t ≡ outOfRange k t
+same-range o l k t ok too = rw (ok .accounts-same, ok .total-same, too .accounts-same, too .total-same)
 
 -- what holds of an eligible slip in a sound ledger
 pub record Admitted (o : Opening) (l : Ledger) (t : Transfer) : Type 0 where

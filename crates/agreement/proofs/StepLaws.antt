@@ -4,26 +4,28 @@
 use Prim.Native.Nat.{_-_, _*_, _<_, _≤_, ℕ, _+_}
 use native.Mathlib.Omega.{arith}
 use mathlib.Core.List.{List}
-use mathlib.Core.Path.{_≡_, refl, ap, _∙_}
+use mathlib.Core.Path.{_≡_, refl, ap, sym, _∙_}
 use mathlib.Core.Logic.{_⊎_, inl, inr}
 use mathlib.Core.Bool.{true, false, not, _&&_}
 use lib.Dec.{leb}
 use borrow.Author.Tests.{leb-true, ltb-true}
 use mathlib.Core.Option.{none, some}
 use Rattle.agreement.specs.Types.{Seat, Account, Transfer, Full, Entry, Ledger, Opening, Refusal, Message, Request, Circulated, Ack, Decision, Inquiry, Reply, Acknowledge, Accept, Propose, Balance, Refuse}
+use Rattle.model.specs.declared.Refusal.the-variants.{FutureNumber}
 use Rattle.agreement.specs.Runs.{isRefusal, message, isAccept, accepted}
 use Rattle.agreement.specs.Facts.{mustAccept}
 use Rattle.agreement.proofs.Soundness.{recorded-new, recorded-kept, Group, SoundEntry, Sound, Admitted, admitted, marked-sound, stored, noted-entry, accepted-entry, ruled-entry, waits-sound, accept-sound}
 use Rattle.model.specs.Records.{withAcked, withProposed, withPending, entryAt, setEntry, withEntries, withEntry, entryOf}
-use Rattle.model.specs.Acks.{acksFor, acksRecorded, enough, twoConflict}
-use Rattle.model.specs.Refusals.{ackFrom}
+use Rattle.model.specs.Acks.{holds, conflicts, acksFor, acksRecorded, enough, twoConflict}
+use Rattle.model.specs.Refusals.{outOfRange, waitsAlready, ackFrom, rulesOf}
 use Rattle.model.specs.Settling.{settle, accept}
-use Rattle.model.specs.Calls.{mustPropose, entryWithAck}
+use Rattle.model.specs.Calls.{Answers, mustPropose, entryWithAck}
 use Rattle.model.proofs.Sums.{impossible, both}
-use Rattle.model.proofs.Access.{set-each, with-entry-same}
+use Rattle.model.proofs.Access.{entry-set-same, set-each, with-entry-same}
 use Rattle.model.proofs.Tallies.{most-sound}
 use Rattle.model.proofs.Booking.{SameButBalance, Cleared}
 use Rattle.model.proofs.Settles.{Turned, kept, booked, settle-entry}
+use Rattle.model.proofs.Refusing.{SomeHolds, some-holds, refused-by}
 use Rattle.model.proofs.Steps.{Eligible, Recordable, Happens, refused, circulated, acknowledged, accepted-by-acks, proposed, noted, accepted-by-ruling, told}
 
 -- every call leaves a sound ledger
@@ -179,9 +181,9 @@ turn o l next m r g ok (accepted-by-ruling t e f fit same) =
     })
 turn o l next m r g ok (told a e f same) = keeps (rw same (λ b. (refl, refl, refl))) (rw e) (rw f)
 
--- A means: the slip's number is the next, the mark was clear, and now it is set.
+-- A means: the slip is eligible, so its number is the next; the mark was clear, and now it is set.
 pub record Marks (l next : Ledger) (t : Transfer) : Type 0 where
-  pub is-next : t .number ≡ entryOf l (t .account) .current + 1
+  pub eligible : Eligible l t
   pub was-clear : entryOf l (t .account) .acked ≡ false
   pub entry-is : entryOf next (t .account) ≡ withAcked (entryOf l (t .account))
 
@@ -192,7 +194,7 @@ answer-acknowledge o l next m r t g ok kind reply (circulated u e f same) = impo
 answer-acknowledge o l next m r t g ok kind reply (acknowledged u e f fit clear same) =
     let this : t ≡ u = cc in
     rw (this, same)
-    (record { is-next = fit .is-next; was-clear = clear; entry-is = with-entry-same l (u .account) _ (admitted o l u g ok fit .inside) })
+    (record { eligible = fit; was-clear = clear; entry-is = with-entry-same l (u .account) _ (admitted o l u g ok fit .inside) })
 answer-acknowledge o l next m r t g ok kind reply (accepted-by-acks s u e f fit new full same) = impossible (cc)
 answer-acknowledge o l next m r t g ok kind reply (proposed s u v e f fit new few must most same) = impossible (cc)
 answer-acknowledge o l next m r t g ok kind reply (noted s u e f fit new few same) = impossible (cc)
@@ -371,3 +373,89 @@ module _ (o : Opening) (l next : Ledger) (m : Message) (r : Reply) (g : Group o)
       rw (seat, slip, same) (omega (arith, fit .is-next), put-held z u _ fit (recorded-new o l z u g ok fit new))
   now-held s t kind taken (accepted-by-ruling u e f fit same) = impossible (cc)
   now-held s t kind taken (told a e f same) = impossible (cc)
+
+-- What a call keeps of each entry: current numbers never fall, and a slip that has been booked or waits stays so.
+abbrev pub BookedOrWaits : Transfer → Entry → Type 0
+BookedOrWaits t e = (t .number ≤ e .current) ⊎ (e .pending ≡ Full t)
+
+module _ (o : Opening) (l next : Ledger) (m : Message) (r : Reply) (g : Group o) (ok : Sound o l) (h : Happens l m r next) where
+  pub current-rises : (a : Account) → entryOf l a .current ≤ entryOf next a .current
+  current-rises =
+      each-entry o l next m r g ok (λ a x. entryOf l a .current ≤ x .current)
+      (λ a e e′ same le. rw same le)
+      (λ a e e′ t stands waits clear le. omega (arith, clear .current-is, stands .pending-stands t waits .1))
+      (λ a. omega arith)
+      (λ t x put. omega (arith, puts-current l m r t x put))
+      h
+
+  pub stays-settled : (t : Transfer) (a : Account) → BookedOrWaits t (entryOf l a) → BookedOrWaits t (entryOf next a)
+  stays-settled t =
+      each-entry o l next m r g ok (λ a x. BookedOrWaits t (entryOf l a) → BookedOrWaits t x)
+      (λ a e e′ same was old. on-balance e e′ same (was old))
+      (λ a e e′ u stands waits clear was old. on-booked a e e′ u stands waits clear (was old))
+      (λ a old. old)
+      (λ u x put. past u x (puts-eligible l m r u x put) (puts-current l m r u x put))
+      h
+    where
+      on-balance : (e e′ : Entry) → SameButBalance e e′ → BookedOrWaits t e → BookedOrWaits t e′
+      on-balance e e′ same (inl past) = inl (rw same past)
+      on-balance e e′ same (inr waits) = inr (rw same waits)
+
+      on-booked : (a : Account) (e e′ : Entry) (u : Transfer) → SoundEntry o a e → e .pending ≡ Full u → Cleared u e′ → BookedOrWaits t e → BookedOrWaits t e′
+      on-booked a e e′ u stands waits clear (inl past) = inl (omega (arith, clear .current-is, stands .pending-stands u waits .1))
+      on-booked a e e′ u stands waits clear (inr this) =
+          let same : t ≡ u = cc in
+          inl (omega (arith, clear .current-is, ap (λ (x : Transfer). x .number) same))
+
+      -- where nothing waits, it has been booked
+      past : (u : Transfer) (x : Entry) → Eligible l u → x .current ≡ entryOf l (u .account) .current
+          → BookedOrWaits t (entryOf l (u .account)) → BookedOrWaits t x
+      past u x fit same (inl done) = inl (omega arith)
+      past u x fit same (inr waits) = impossible (cc (waits, admitted o l u g ok fit .none-waits))
+
+  -- and the accepted slip has been booked, or waits
+  pub just-settled : (t : Transfer) → accepted (message m r) ≡ some t → BookedOrWaits t (entryOf next (t .account))
+  just-settled t is = go (turn o l next m r g ok h)
+    where
+      go : Turn o l m r next → BookedOrWaits t (entryOf next (t .account))
+      go (keeps same none-accepted not-k) = impossible (cc)
+      go (accepts u this done) = after (settle-entry (u .account) joined)
+        where
+          joined : List Entry
+          joined = setEntry (l .entries) (u .account) (withPending (done .entry) u)
+
+          read : entryAt joined (u .account) ≡ withPending (done .entry) u
+          read = entry-set-same (l .entries) (u .account) (withPending (done .entry) u) (done .fits .inside)
+
+          slip : t ≡ u
+          slip = cc
+
+          after : Turned (entryAt joined (u .account)) (entryAt (settle joined .entries) (u .account)) → BookedOrWaits t (entryOf next (t .account))
+          after (kept same) = rw (slip, done .entries-are) (inr (rw same (ap (λ (e : Entry). e .pending) read)))
+          after (booked w waits clear) =
+              let that : w ≡ u = cc (waits, ap (λ (e : Entry). e .pending) read) in
+              rw (slip, done .entries-are) (inl (omega (arith, clear .current-is, ap (λ (x : Transfer). x .number) that)))
+
+-- Why an ack is refused: 4 to 10.
+pub data AckRefused (l : Ledger) (s : Seat) (t : Transfer) (q : Refusal) : Type 0 where
+  unknown-seat : l .seats ≤ s .0 → AckRefused l s t q
+  out-of-range : outOfRange l t ≡ true → AckRefused l s t q
+  past-number : t .number ≤ entryOf l (t .account) .current → AckRefused l s t q
+  future-number : q ≡ FutureNumber → AckRefused l s t q
+  waits-already : waitsAlready (entryOf l (t .account) .pending) t ≡ true → AckRefused l s t q
+  repeated : holds t (ackFrom (entryOf l (t .account)) s) ≡ true → AckRefused l s t q
+  conflicting : conflicts t (ackFrom (entryOf l (t .account)) s) ≡ true → AckRefused l s t q
+
+pub ack-refused : (l : Ledger) (s : Seat) (t : Transfer) (q : Refusal) → Answers l (Ack s t) (Refuse q) → AckRefused l s t q
+unfolding rulesOf
+ack-refused l s t q h = go (some-holds (rulesOf l (Ack s t)) q (refused-by l (Ack s t) q h))
+  where
+    go : SomeHolds q (rulesOf l (Ack s t)) → AckRefused l s t q
+    go (inl is) = unknown-seat (leb-true (l .seats) (s .0) (is .0))
+    go (inr (inl is)) = out-of-range (is .0)
+    go (inr (inr (inl is))) = past-number (leb-true (t .number) (entryOf l (t .account) .current) (is .0))
+    go (inr (inr (inr (inl is)))) = future-number (sym (is .1))
+    go (inr (inr (inr (inr (inl is))))) = waits-already (is .0)
+    go (inr (inr (inr (inr (inr (inl is)))))) = repeated (is .0)
+    go (inr (inr (inr (inr (inr (inr (inl is))))))) = conflicting (is .0)
+    go (inr (inr (inr (inr (inr (inr (inr no-more))))))) = absurd no-more

@@ -1,67 +1,49 @@
 -- The paper's Theorem 1: the statement is `Theorem1` in specs/Undisputed.antt. What every honest seat acked is accepted wherever all their
--- acks were recorded, and no other slip with its account and number is put forward or accepted.
+-- acks arrived, and no other slip with its account and number is put forward or accepted.
 use Prim.Native.Nat.{ℕ, zero, suc, _+_, _*_, _≤_, _<_}
 use native.Mathlib.Decide.{decLe}
 use native.Mathlib.Omega.{arith}
 use mathlib.Core.Path.{_≡_, refl, ap, sym, _∙_}
-use mathlib.Core.Logic.{inl, inr}
-use mathlib.Core.Bool.{Bool, true, false, _&&_}
+use mathlib.Core.Logic.{_⊎_, inl, inr}
+use mathlib.Core.Bool.{Bool, true, false, not, _&&_}
 use mathlib.Core.Option.{some}
-use borrow.Author.Tests.{lt-ltb}
-use Rattle.agreement.specs.Types.{Seat, Transfer, Full, Entry, Ledger, Opening, Message, Ack, Reply}
-use Rattle.agreement.specs.Runs.{isRefusal, Opens, countBelow, FewBad, honest, Call, message, Event, Run, _▹_, Within, sameSeat, ledgerAt, Obeys, accepted, proposed, ruled}
+use lib.Dec.{eqb, ltb}
+use borrow.Author.Tests.{lt-ltb, ltb-true}
+use Rattle.agreement.specs.Types.{Seat, Transfer, Slot, Empty, Full, Entry, Ledger, Opening, Refusal, Message, Circulated, Ack, Reply, Circulate, Acknowledge, Accept, Propose, Note, Balance, Refuse}
+use Rattle.agreement.specs.Runs.{Opens, countBelow, FewBad, honest, message, Event, Run, _▹_, Within, sameSeat, ledgerAt, Obeys, isRefusal, accepted, proposed, ruled}
 use Rattle.agreement.specs.Premises.{ackedBy, Premises}
 use Rattle.agreement.specs.Facts.{acceptedBy}
-use Rattle.agreement.specs.Undisputed.{records, recordedAt, Theorem1}
-use Rattle.agreement.proofs.Places.{within-trans, happened-found, obeys-before, seat-is, past-calls}
-use Rattle.agreement.proofs.Deeds.{Accepts, by-ack, by-ruling, accepted-is, records-is, deed-found}
-use Rattle.agreement.proofs.Soundness.{group, Sound}
-use Rattle.agreement.proofs.StepLaws.{Held, stays-held, now-held}
+use Rattle.agreement.specs.Undisputed.{tooEarly, brings, reached, Theorem1}
+use Rattle.agreement.proofs.Places.{before, within-trans, happened-found, obeys-before, obeys-at, seat-is, ledger-after, stays}
+use Rattle.agreement.proofs.Deeds.{acked-is, Accepts, by-ack, by-ruling, accepted-is, brings-is, deed-found}
+use Rattle.agreement.proofs.Soundness.{group, Sound, same-range}
+use Rattle.agreement.proofs.StepLaws.{Held, stays-held, now-held, BookedOrWaits, stays-settled, answer-acknowledge, AckRefused, unknown-seat, out-of-range, past-number, future-number, waits-already, repeated, conflicting, ack-refused}
 use Rattle.agreement.proofs.Reachable.{sound}
 use Rattle.agreement.proofs.Counting.{count-lift, two-quorums, quorum-most}
-use Rattle.agreement.proofs.Acked.{acked-by-later, acked-by-once, all-from}
+use Rattle.agreement.proofs.Acked.{acked-by-found, acked-by-later, acked-by-once, all-from}
 use Rattle.agreement.proofs.Votes.{vote, Tally, votes-counted}
-use Rattle.agreement.proofs.Agree.{acks-quorum, proposed-majority, ruled-only}
+use Rattle.agreement.proofs.Agree.{number-same, acks-quorum, proposed-majority, ruled-only}
 use Rattle.agreement.proofs.Reasons.{all-reasons, decided-accepted}
 use Rattle.model.specs.Basics.{bit}
 use Rattle.model.specs.Records.{seatOf, entryOf}
 use Rattle.model.specs.Transfers.{equal}
-use Rattle.model.specs.Acks.{holds, acksFor, enough}
-use Rattle.model.specs.Refusals.{ackFrom}
+use Rattle.model.specs.Acks.{holds, conflicts, acksFor, enough}
+use Rattle.model.specs.Refusals.{outOfRange, waitsAlready, ackFrom}
+use Rattle.model.specs.Replies.{codeOf}
 use Rattle.model.specs.Calls.{step, Answers}
 use Rattle.model.proofs.Sums.{impossible, both}
-use Rattle.model.proofs.Equality.{equal-refl}
-use Rattle.model.proofs.Steps.{happens}
+use Rattle.model.proofs.Equality.{equal-sound, equal-refl, conflict-sound}
+use Rattle.model.proofs.Refusing.{refusal-keeps}
+use Rattle.model.proofs.Steps.{Happens, happens}
 
 -- every number below n is counted
 count-all : (p : ℕ → Bool) (n : ℕ) → ((i : ℕ) → p i ≡ true) → countBelow p n ≡ n
 count-all p zero all = refl
 count-all p (suc n) all = omega (arith, ap bit (all n), count-all p n all)
 
--- an ack that was recorded at seat z is held there, or its number was booked
-module _ (o : Opening) (opens : Opens o) (z s : Seat) (t : Transfer) where
-  Recorded : Call → Ledger → Type 0
-  Recorded c l = records s t c ≡ true → (1 ≤ t .number) × Held s t (entryOf l (t .account))
-
-  just-recorded : (l : Ledger) (m : Message) (q : Reply) → Sound o l → Answers l m q → Recorded (message m q) (step l m .next)
-  unfolding Recorded
-  just-recorded l m q ok h is =
-      let found = records-is s t (message m q) is in
-      let kind : m ≡ Ack s t = cc (found .1) in
-      let reply : q ≡ found .0 = cc (found .1) in
-      now-held o l (step l m .next) m q (group o opens) ok s t kind (ap isRefusal reply ∙ found .2) (happens l m q h)
-
-  recorded-held : (r : Run) → Obeys o r → recordedAt z s t r ≡ true → (1 ≤ t .number) × Held s t (entryOf (ledgerAt o z r) (t .account))
-  unfolding Recorded
-  recorded-held r obeys h =
-      let found = happened-found (λ e. sameSeat (e .at) z && records s t (e .call)) r h in
-      let parts = both (sameSeat (found .1 .at) z) (records s t (found .1 .call)) (found .3) in
-      past-calls o z Recorded (λ l b a q is. impossible (cc))
-      (λ r m q l is obeys h. just-recorded l m q (rw is (sound o opens z r obeys)) h)
-      (λ r m q l c is obeys h old this.
-      let yet = old this in
-      (yet .0, stays-held o l (step l m .next) m q (group o opens) (rw is (sound o opens z r obeys)) s t (happens l m q h) (t .account) (yet .1)))
-      r obeys (found .0) (found .1) (found .2) (seat-is (found .1 .at) z (parts .0)) (parts .1)
+-- An ack of t from seat s has arrived: its number was booked, or it is recorded, or another slip with that number was accepted first.
+abbrev Arrived : Seat → Transfer → Entry → Type 0
+Arrived s t e = Held s t e ⊎ ((p : Transfer) × (p .account ≡ t .account) × (p .number ≡ t .number) × BookedOrWaits p e)
 
 module _ (o : Opening) (bad : Seat → Bool) (run : Run) (opens : Opens o) (few : FewBad o bad) (obeys : Obeys o run) (kept : Premises o bad run)
     (t : Transfer) (all-acked : (s : Seat) → honest o bad s ≡ true → ackedBy s t run ≡ true)
@@ -141,35 +123,152 @@ module _ (o : Opening) (bad : Seat → Bool) (run : Run) (opens : Opens o) (few 
             let counts = count-lift (λ i. true) (λ i. true) (λ i. bad (seatOf i)) (λ i. holds t (vote x i)) (o .seats) either in
             omega (arith, count-all (λ i. true) (o .seats) (λ i. refl))
 
-    -- t's number was booked, or all acks are still held: either way it was accepted
-    recorded-accepted : (p : Run) (z : Seat) → Within p run → honest o bad z ≡ true
-        → ((s : Seat) → honest o bad s ≡ true → recordedAt z s t p ≡ true)
+    -- t is in range in every sound ledger, since it was acked somewhere
+    acked-eligible : (z : Seat) → honest o bad z ≡ true → (1 ≤ t .number) × ((l : Ledger) → Sound o l → outOfRange l t ≡ false)
+    acked-eligible z fair =
+        let found = acked-by-found z t run (all-acked z fair) in
+        let e = found .1 in
+        let k = ledgerAt o (e .at) (found .0) in
+        let ok = sound o opens (e .at) (found .0) (obeys-before o obeys (before (found .2))) in
+        let answer = happens k (Circulated t) Acknowledge (rw (acked-is (e .call) t (found .4)) at (obeys-at o obeys (found .2))) in
+        let fit = answer-acknowledge o k _ (Circulated t) Acknowledge t (group o opens) ok refl refl answer .eligible in
+        (omega (arith, fit .is-next), λ l too. same-range o l k t too ok ∙ fit .in-range)
+
+    -- an ack of t from an honest seat that is refused, and not as too early, had arrived before
+    refused-arrived : (q : Run) (z s : Seat) (x : Refusal) → Within q run → honest o bad s ≡ true → eqb (codeOf x) 7 ≡ false
+        → AckRefused (ledgerAt o z q) s t x → Arrived s t (entryOf (ledgerAt o z q) (t .account))
+    refused-arrived q z s x w fair late why = go why
+      where
+        l : Ledger
+        l = ledgerAt o z q
+
+        ok : Sound o l
+        ok = sound o opens z q (obeys-before o obeys w)
+
+        e : Entry
+        e = entryOf l (t .account)
+
+        -- the place of the seat's ack holds t, for it acked nothing else
+        place : (y : Slot) → ackFrom e s ≡ y → (holds t y ≡ true) ⊎ (conflicts t y ≡ true) → Arrived s t e
+        place Empty at (inl is) = impossible (cc)
+        place Empty at (inr is) = impossible (cc)
+        place (Full u) at (inl is) = inl (inr (at ∙ ap Full (equal-sound u t is)))
+        place (Full u) at (inr is) =
+            let clash = conflict-sound u t is in
+            let theirs = acked-by-later s u w (all-from o bad opens run (kept .acks-genuine) z q (obeys-before o obeys w) w (t .account) s u at fair) in
+            absurd (clash .differ (acked-by-once o opens run obeys s u t theirs (all-acked s fair) (clash .account) (clash .number)))
+
+        waits : (y : Slot) → e .pending ≡ y → waitsAlready y t ≡ true → Arrived s t e
+        waits Empty at is = impossible (cc)
+        waits (Full p) at is =
+            let same = number-same p t is in
+            inr (p, same .0, same .1, inr at)
+
+        go : AckRefused l s t x → Arrived s t e
+        go (unknown-seat above) =
+            absurd (omega (arith, ok .seats-same, ltb-true (s .0) (o .seats) (both (ltb (s .0) (o .seats)) (not (bad s)) fair .0)))
+        go (out-of-range is) = impossible (cc (acked-eligible s fair .1 l ok, is))
+        go (past-number is) = inl (inl is)
+        go (future-number is) = impossible (cc (late, is))
+        go (waits-already is) = waits (e .pending) refl is
+        go (repeated is) = place (ackFrom e s) refl (inl is)
+        go (conflicting is) = place (ackFrom e s) refl (inr is)
+
+    -- so an ack that is not too early has arrived after its call
+    arrives : (q : Run) (d : Event) (z s : Seat) (r : Reply) → Within (q ▹ d) run → honest o bad s ≡ true → d .at ≡ z
+        → d .call ≡ message (Ack s t) r → tooEarly r ≡ false → Arrived s t (entryOf (ledgerAt o z (q ▹ d)) (t .account))
+    arrives q d z s r w fair seat call late =
+        rw (ledger-after o z q d (Ack s t) r seat call) (go r refl (rw (seat, call) at (obeys-at o obeys w)))
+      where
+        l : Ledger
+        l = ledgerAt o z q
+
+        taken : (y : Reply) → Answers l (Ack s t) y → isRefusal y ≡ false → Arrived s t (entryOf (step l (Ack s t) .next) (t .account))
+        taken y h is =
+            let ok = sound o opens z q (obeys-before o obeys (before w)) in
+            inl (now-held o l (step l (Ack s t) .next) (Ack s t) y (group o opens) ok s t refl is (happens l (Ack s t) y h) .1)
+
+        go : (y : Reply) → r ≡ y → Answers l (Ack s t) y → Arrived s t (entryOf (step l (Ack s t) .next) (t .account))
+        go Circulate at h = taken Circulate h refl
+        go Acknowledge at h = taken Acknowledge h refl
+        go (Accept c) at h = taken (Accept c) h refl
+        go (Propose u) at h = taken (Propose u) h refl
+        go Note at h = taken Note h refl
+        go (Balance b) at h = taken (Balance b) h refl
+        go (Refuse x) at h =
+            rw (refusal-keeps l (Ack s t) x h)
+            (refused-arrived q z s x (before w) fair (rw at at late) (ack-refused l s t x h))
+
+    -- and stays so
+    stays-arrived : (z s : Seat) {p r : Run} → Obeys o r → Within p r
+        → Arrived s t (entryOf (ledgerAt o z p) (t .account)) → Arrived s t (entryOf (ledgerAt o z r) (t .account))
+    stays-arrived z s =
+        stays o z (λ l. Arrived s t (entryOf l (t .account)))
+        (λ r m q l is here h. go l m q (rw is (sound o opens z r here)) (happens l m q h))
+      where
+        go : (l : Ledger) (m : Message) (q : Reply) → Sound o l → Happens l m q (step l m .next)
+            → Arrived s t (entryOf l (t .account)) → Arrived s t (entryOf (step l m .next) (t .account))
+        go l m q ok h (inl held) = inl (stays-held o l (step l m .next) m q (group o opens) ok s t h (t .account) held)
+        go l m q ok h (inr other) =
+            inr
+            (other .0, other .1, other .2, stays-settled o l (step l m .next) m q (group o opens) ok h (other .0) (t .account) (other .3))
+
+    -- t's number was booked, or a slip of it waits, or all acks are held: either way t was accepted
+    arrived-accepted : (p : Run) (z : Seat) → Within p run → honest o bad z ≡ true
+        → ((s : Seat) → honest o bad s ≡ true → reached z s t p ≡ true)
         → acceptedBy z t p ≡ true
-    recorded-accepted p z w fair recorded = go (decLe (t .number) (entryOf (ledgerAt o z p) (t .account) .current))
+    arrived-accepted p z w fair all = go (decLe (t .number) (e .current)) (e .pending) refl
       where
         here : Obeys o p
         here = obeys-before o obeys w
 
-        held : (s : Seat) → honest o bad s ≡ true → (1 ≤ t .number) × Held s t (entryOf (ledgerAt o z p) (t .account))
-        held s fair = recorded-held o opens z s t p here (recorded s fair)
+        e : Entry
+        e = entryOf (ledgerAt o z p) (t .account)
 
-        go : Dec (t .number ≤ entryOf (ledgerAt o z p) (t .account) .current) → acceptedBy z t p ≡ true
-        go (yes past) =
-            let was = all-reasons o opens z p here (t .account) .why-booked (t .number) (held z fair .0) past in
-            let found = deed-found accepted z (was .0) p (was .3) in
-            let same =
-            only-accepted (found .0) (found .1) (was .0) (within-trans (found .2) w) (found .4) (sym (was .1)) (sym (was .2)) in
-            rw same (was .3)
-        go (no yet) = decided-accepted o opens z p here t (held-enough p z w (λ s fair. still s (held s fair .1)))
-          where
-            still : (s : Seat) → Held s t (entryOf (ledgerAt o z p) (t .account)) → ackFrom (entryOf (ledgerAt o z p) (t .account)) s ≡ Full t
-            still s (inl past) = absurd (yet past)
-            still s (inr is) = is
+        arrived : (s : Seat) → honest o bad s ≡ true → Arrived s t e
+        arrived s fairly =
+            let found = happened-found (λ d. sameSeat (d .at) z && brings s t (d .call)) p (all s fairly) in
+            let d = found .1 in
+            let parts = both (sameSeat (d .at) z) (brings s t (d .call)) (found .3) in
+            let ack = brings-is s t (d .call) (parts .1) in
+            stays-arrived z s here (found .2)
+            (arrives (found .0) d z s (ack .0) (within-trans (found .2) w) fairly (seat-is (d .at) z (parts .0)) (ack .1) (ack .2))
+
+        -- a slip with t's account and number that was accepted there is t
+        that-one : (v : Transfer) → v .account ≡ t .account → v .number ≡ t .number → acceptedBy z v p ≡ true → acceptedBy z t p ≡ true
+        that-one v account number is =
+            let found = deed-found accepted z v p is in
+            let same = only-accepted (found .0) (found .1) v (within-trans (found .2) w) (found .4) (sym account) (sym number) in
+            rw same is
+
+        -- what waits has the next number, and that is t's
+        next : (t .number ≤ e .current → ⊥) → Arrived z t e → t .number ≡ e .current + 1
+        next yet (inl (inl past)) = absurd (yet past)
+        next yet (inl (inr is)) = sound o opens z p here .each (t .account) .acks-stand z t is .2
+        next yet (inr (v, account, number, inl past)) = absurd (yet (omega arith))
+        next yet (inr (v, account, number, inr waits)) = omega (arith, sound o opens z p here .each (t .account) .pending-stands v waits .1)
+
+        -- where nothing waits, all acks are held
+        held : (t .number ≤ e .current → ⊥) → e .pending ≡ Empty → (s : Seat) → Arrived s t e → ackFrom e s ≡ Full t
+        held yet empty s (inl (inl past)) = absurd (yet past)
+        held yet empty s (inl (inr is)) = is
+        held yet empty s (inr (v, account, number, inl past)) = absurd (yet (omega arith))
+        held yet empty s (inr (v, account, number, inr waits)) = impossible (cc)
+
+        go : Dec (t .number ≤ e .current) → (y : Slot) → e .pending ≡ y → acceptedBy z t p ≡ true
+        go (yes past) y at =
+            let was = all-reasons o opens z p here (t .account) .why-booked (t .number) (acked-eligible z fair .0) past in
+            that-one (was .0) (was .1) (was .2) (was .3)
+        go (no yet) (Full v) at =
+            let stands = sound o opens z p here .each (t .account) .pending-stands v at in
+            that-one v (stands .0) (omega (arith, stands .1, next yet (arrived z fair)))
+            (all-reasons o opens z p here (t .account) .why-waits v at .was-accepted)
+        go (no yet) Empty at = decided-accepted o opens z p here t (held-enough p z w (λ s fairly. held yet at s (arrived s fairly)))
 
 pub theorem1 : Theorem1
 theorem1 o bad run t opens few at-honest obeys kept all-acked =
     record {
-      accepted-there = recorded-accepted o bad run opens few obeys kept t all-acked;
+      accepted-there = arrived-accepted o bad run opens few obeys kept t all-acked;
       none-other-proposed = only-proposed o bad run opens few obeys kept t all-acked;
       none-other-accepted = only-accepted o bad run opens few obeys kept t all-acked;
     }

@@ -45,8 +45,9 @@ pub record Facts (o : Opening) (run : Run) : Type 0 where
   -- "Balances always add up to the opening sum", which is below 2^32
   pub sums : (p : Run) (s : Seat) → Within p run
       → (sumBalances (ledgerAt o s p .entries) ≡ sumOf (λ b. b) (o .balances)) × (sumBalances (ledgerAt o s p .entries) < 4_294_967_296)
-  -- and each of them is the slate's, in plain numbers: no sum ever reached the modulus
-  pub plain : (p : Run) (s : Seat) (a : Account) → Within p run → entryOf (ledgerAt o s p) a .balance ≡ slateAt o s p .balance a
+  -- each balance is the slate's, in plain numbers, so no sum ever reached the modulus; and each current number is the slate's count
+  pub plain : (p : Run) (s : Seat) (a : Account) → Within p run
+      → (entryOf (ledgerAt o s p) a .balance ≡ slateAt o s p .balance a) × (entryOf (ledgerAt o s p) a .current ≡ slateAt o s p .count a)
   -- current numbers never fall
   pub currents-rise : (p q : Run) (s : Seat) (a : Account) → Within p q → Within q run
       → entryOf (ledgerAt o s p) a .current ≤ entryOf (ledgerAt o s q) a .current
@@ -64,7 +65,7 @@ pub record Facts (o : Opening) (run : Run) : Type 0 where
       → t .number ≡ entryOf (ledgerAt o s p) (t .account) .current + 1
       → acceptedBy s t p
       ≡ enough (o .seats) (o .faults) (acksFor t (entryOf (ledgerAt o s p) (t .account) .acks)) || ruledFor s t p
-  -- and then it waits; no other slip does
+  -- and exactly then it waits
   pub waits-exactly : (p : Run) (s : Seat) (t : Transfer) → Within p run
       → t .number ≡ entryOf (ledgerAt o s p) (t .account) .current + 1
       → acceptedBy s t p ≡ holds t (entryOf (ledgerAt o s p) (t .account) .pending)

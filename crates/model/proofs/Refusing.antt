@@ -3,6 +3,7 @@ use Prim.Native.Nat.{ℕ, _+_}
 use native.Mathlib.Omega.{arith}
 use borrow.Author.Tests.{leb-false, ltb-false}
 use mathlib.Core.Path.{_≡_, refl}
+use mathlib.Core.Logic.{_⊎_, inl, inr}
 use mathlib.Core.Bool.{Bool, true, false, cond}
 use mathlib.Core.List.{List, [], _∷_}
 use mathlib.Core.Option.{Option, none, some}
@@ -30,6 +31,20 @@ none-holds (r ∷ rs) e = go (r .0) refl (none-holds rs)
     go : (b : Bool) → r .0 ≡ b → (firstRefusal rs ≡ none → AllFail rs) → (r .0 ≡ false) × AllFail rs
     go true h rest = let found : some (r .1) ≡ none = rw h at e in impossible (cc)
     go false h rest = (h, rest (rw h at e))
+
+-- one of the rules has this refusal, and its test holds
+abbrev pub SomeHolds : Refusal → List Rule → Type 0
+SomeHolds q [] = ⊥
+SomeHolds q (r ∷ rs) = ((r .0 ≡ true) × (r .1 ≡ q)) ⊎ SomeHolds q rs
+
+-- what is refused met the test of one of its rules
+pub some-holds : (rules : List Rule) (q : Refusal) → firstRefusal rules ≡ some q → SomeHolds q rules
+some-holds [] q e = impossible (cc)
+some-holds (r ∷ rs) q e = go (r .0) refl (some-holds rs q)
+  where
+    go : (b : Bool) → r .0 ≡ b → (firstRefusal rs ≡ some q → SomeHolds q rs) → ((r .0 ≡ true) × (r .1 ≡ q)) ⊎ SomeHolds q rs
+    go true h rest = let found : some (r .1) ≡ some q = rw h at e in inl (h, cc)
+    go false h rest = inr (rest (rw h at e))
 
 -- a slip that neither 6 nor 7 refuses has the next number
 pub next-number : (e : Entry) (t : Transfer) → pastNumber e t ≡ false → futureNumber e t ≡ false → t .number ≡ e .current + 1

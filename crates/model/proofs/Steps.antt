@@ -19,6 +19,7 @@ use Rattle.model.proofs.Refusing.{AllFail, none-holds, next-number}
 
 -- what a slip is that 5 to 8 do not refuse
 pub record Eligible (l : Ledger) (t : Transfer) : Type 0 where
+  pub in-range : outOfRange l t ≡ false
   pub account-known : t .account .0 < l .accounts
   pub recipient-known : t .recipient .0 < l .accounts
   pub is-next : t .number ≡ entryOf l (t .account) .current + 1
@@ -37,6 +38,7 @@ eligible l t range next idle =
     let three = neither (accounts || number) value (four .0) in
     let known = neither (unknownAccount l (t .account)) (unknownAccount l (t .recipient)) (neither accounts number (three .0) .0) in
     record {
+      in-range = range;
       account-known = omega (arith, leb-false (l .accounts) (t .account .0) (known .0));
       recipient-known = omega (arith, leb-false (l .accounts) (t .recipient .0) (known .1));
       is-next = next;

@@ -8,70 +8,60 @@ use mathlib.Core.Option.{some}
 use Rattle.agreement.specs.Types.{Seat, Account, Transfer, Full, Entry, Ledger, Opening, Message, Circulated, Ack, Reply, Acknowledge}
 use Rattle.agreement.specs.Runs.{Opens, honest, Call, message, waitingList, Event, Run, _▹_, Within, at-end, sooner, throughout, sameSeat, ledgerAt, Obeys, acked, passes}
 use Rattle.agreement.specs.Premises.{implies, ackedBy, genuine}
-use Rattle.agreement.proofs.Places.{before, Order, same-event, earlier, later, order, happened-later, throughout-at, obeys-before, obeys-at, ledger-induction, past-calls}
+use Rattle.agreement.proofs.Places.{before, Order, same-event, earlier, later, order, happened-later, throughout-at, obeys-before, obeys-at}
 use Rattle.agreement.proofs.Deeds.{acked-is, deed-found}
 use Rattle.agreement.proofs.Soundness.{opened-entry, Group, group, Sound, no-acks, recorded-read}
-use Rattle.agreement.proofs.Reachable.{sound}
-use Rattle.agreement.proofs.StepLaws.{Puts, puts-mark, puts-ack, puts-accepted, puts-ruled, each-entry, answer-acknowledge, Records}
+use Rattle.agreement.proofs.Reachable.{sound, run-induction, past-calls}
+use Rattle.agreement.proofs.Counting.{bit-most}
+use Rattle.agreement.proofs.StepLaws.{Puts, puts-mark, puts-ack, puts-accepted, puts-ruled, each-entry, answer-acknowledge, Recording}
 use Rattle.model.specs.Basics.{bit}
 use Rattle.model.specs.Records.{entryOf}
 use Rattle.model.specs.Transfers.{equal}
 use Rattle.model.specs.Refusals.{ackFrom}
-use Rattle.model.specs.Calls.{step, Answers, entryWithAck}
+use Rattle.model.specs.Calls.{step, entryWithAck}
 use Rattle.model.proofs.Sums.{impossible, both}
 use Rattle.model.proofs.Steps.{Eligible, Recordable, Happens, happens}
 
 -- the last number of an account that this entry has booked or acked
-abbrev reached : Entry → ℕ
-reached e = e .current + bit (e .acked)
+abbrev lastNumber : Entry → ℕ
+lastNumber e = e .current + bit (e .acked)
 
 -- it never falls
-rises : (o : Opening) (l next : Ledger) (m : Message) (r : Reply) → Group o → Sound o l → Happens l m r next
-    → (a : Account) → reached (entryOf l a) ≤ reached (entryOf next a)
-rises o l next m r g ok =
-    each-entry o l next m r g ok (λ a x. reached (entryOf l a) ≤ reached x)
+number-rises : (o : Opening) (l next : Ledger) (m : Message) (r : Reply) → Group o → Sound o l → Happens l m r next
+    → (a : Account) → lastNumber (entryOf l a) ≤ lastNumber (entryOf next a)
+number-rises o l next m r g ok =
+    each-entry o l next m r g ok (λ a x. lastNumber (entryOf l a) ≤ lastNumber x)
     (λ a e e′ same h. rw same h)
     (λ a e e′ t stands waits clear h.
-    let number = stands .pending-stands t waits .1 in
-    omega (arith, clear .current-is, one (e .acked)))
+    omega (arith, clear .current-is, bit-most (e .acked), stands .pending-stands t waits .1))
     (λ a. omega arith)
     puts
   where
-    one : (b : Bool) → bit b ≤ 1
-    one true = omega arith
-    one false = omega arith
-
-    puts : (t : Transfer) (x : Entry) → Puts l m r t x → reached (entryOf l (t .account)) ≤ reached x
-    puts t x (puts-mark e f fit is) = rw is (omega (arith, one (entryOf l (t .account) .acked)))
+    puts : (t : Transfer) (x : Entry) → Puts l m r t x → lastNumber (entryOf l (t .account)) ≤ lastNumber x
+    puts t x (puts-mark e f fit is) = rw is (omega (arith, bit-most (entryOf l (t .account) .acked)))
     puts t x (puts-ack s e fit new (inl is)) = rw is (omega arith)
     puts t x (puts-ack s e fit new (inr is)) = rw is (omega arith)
     puts t x (puts-accepted s c e f fit new full is) = rw is (omega arith)
     puts t x (puts-ruled c e f fit is) = rw is (omega arith)
 
-module _ (o : Opening) (opens : Opens o) (s : Seat) where
-  -- what the seat acked, it has reached
-  Reached : Call → Ledger → Type 0
-  Reached c l = (t : Transfer) → acked c ≡ some t → t .number ≤ reached (entryOf l (t .account))
+module _ (o : Opening) (opens : Opens o) where
+  -- the last number is not below that of what the seat acked
+  abbrev AckedUpTo : Call → Ledger → Type 0
+  AckedUpTo c l = (t : Transfer) → acked c ≡ some t → t .number ≤ lastNumber (entryOf l (t .account))
 
-  sound-at : (r : Run) (l : Ledger) → l ≡ ledgerAt o s r → Obeys o r → Sound o l
-  sound-at r l is obeys = rw is (sound o opens s r obeys)
-
-  just-reached : (l : Ledger) (m : Message) (q : Reply) → Sound o l → Answers l m q → Reached (message m q) (step l m .next)
-  unfolding Reached
-  just-reached l m q ok h t is =
+  acked-now : (l : Ledger) (m : Message) (q : Reply) → Sound o l → Happens l m q (step l m .next) → AckedUpTo (message m q) (step l m .next)
+  acked-now l m q ok h t is =
       let call = acked-is (message m q) t is in
       let kind : m ≡ Circulated t = cc in
       let reply : q ≡ Acknowledge = cc in
-      let marks = answer-acknowledge o l (step l m .next) m q t (group o opens) ok kind reply (happens l m q h) in
+      let marks = answer-acknowledge o l (step l m .next) m q t (group o opens) ok kind reply h in
       rw (marks .entry-is) (omega (arith, marks .eligible .is-next))
 
-  all-reached : (r : Run) → Obeys o r → (p : Run) (e : Event) → Within (p ▹ e) r → e .at ≡ s → Reached (e .call) (ledgerAt o s r)
-  unfolding Reached
-  all-reached =
-      past-calls o s Reached (λ l b a q t is. impossible (cc))
-      (λ r m q l is obeys h. just-reached l m q (sound-at r l is obeys) h)
-      (λ r m q l c is obeys h yet t this.
-      omega (arith, yet t this, rises o l (step l m .next) m q (group o opens) (sound-at r l is obeys) (happens l m q h) (t .account)))
+  acked-so-far : (s : Seat) (r : Run) → Obeys o r → (p : Run) (e : Event) → Within (p ▹ e) r → e .at ≡ s → AckedUpTo (e .call) (ledgerAt o s r)
+  acked-so-far s =
+      past-calls o opens s AckedUpTo (λ l b a q t is. impossible (cc)) acked-now
+      (λ l m q c ok h yet t this.
+      omega (arith, yet t this, number-rises o l (step l m .next) m q (group o opens) ok h (t .account)))
 
 -- the call that acked a slip
 pub acked-by-found : (s : Seat) (t : Transfer) (r : Run) → ackedBy s t r ≡ true
@@ -83,9 +73,9 @@ pub acked-by-later : (s : Seat) (t : Transfer) {p r : Run} → Within p r → ac
 acked-by-later s t w h = happened-later (λ e. sameSeat (e .at) s && passes (equal t) (acked (e .call))) w h
 
 module _ (o : Opening) (opens : Opens o) (run : Run) (obeys : Obeys o run) where
-  -- a slip that is acked was not reached before
+  -- the number of a slip that is acked is above the last one
   not-yet : (p : Run) (e : Event) (t : Transfer) → Within (p ▹ e) run → acked (e .call) ≡ some t
-      → reached (entryOf (ledgerAt o (e .at) p) (t .account)) < t .number
+      → lastNumber (entryOf (ledgerAt o (e .at) p) (t .account)) < t .number
   not-yet p e t w is =
       let l = ledgerAt o (e .at) p in
       let ok = sound o opens (e .at) p (obeys-before o obeys (before w)) in
@@ -96,9 +86,8 @@ module _ (o : Opening) (opens : Opens o) (run : Run) (obeys : Obeys o run) where
   -- an earlier ack of the same number at the same seat cannot be
   never-again : (p q : Run) (e d : Event) (t u : Transfer) → Within (q ▹ d) run → Within (p ▹ e) q → e .at ≡ d .at
       → acked (e .call) ≡ some t → acked (d .call) ≡ some u → t .account ≡ u .account → t .number ≡ u .number → ⊥
-  unfolding Reached
   never-again p q e d t u w first seat ist isu account number =
-      let past = all-reached o opens (d .at) q (obeys-before o obeys (before w)) p e first seat t ist in
+      let past = acked-so-far o opens (d .at) q (obeys-before o obeys (before w)) p e first seat t ist in
       omega (arith, not-yet q d u w isu, rw account at past)
 
   -- a seat acks at most one slip per account and number
@@ -165,14 +154,13 @@ module _ (o : Opening) (bad : Seat → Bool) (opens : Opens o) where
   pub all-from : (run : Run) → throughout (λ before e. genuine o bad before (e .call)) run ≡ true → (s : Seat) (r : Run) → Obeys o r → Within r run
       → (a : Account) → FromSenders o bad r (entryOf (ledgerAt o s r) a)
   all-from run fair s =
-      ledger-induction o s (λ r l. Within r run → (a : Account) → FromSenders o bad r (entryOf l a))
+      run-induction o opens s (λ r l. Within r run → (a : Account) → FromSenders o bad r (entryOf l a))
       (λ w a i t h honestly. impossible (cc (h, ap (λ (e : Entry). ackFrom e i) (opened-entry o opens a), no-acks i)))
       (λ r e l other old w a. more r e (entryOf l a) (old (before w) a))
       (λ r b a q l old w c. more r (record { at = s; call = waitingList b q a }) (entryOf l c) (old (before w) c))
-      (λ r m q l is obeys h old w a.
-      let ok : Sound o l = rw is (sound o opens s r obeys) in
+      (λ r m q l ok h old w a.
       more r (record { at = s; call = message m q }) (entryOf (step l m .next) a)
-      (step-from r l (step l m .next) m q ok (throughout-at (λ p e. genuine o bad p (e .call)) fair w) (happens l m q h) (old (before w)) a))
+      (step-from r l (step l m .next) m q ok (throughout-at (λ p e. genuine o bad p (e .call)) fair w) h (old (before w)) a))
     where
       more : (r : Run) (d : Event) (e : Entry) → FromSenders o bad r e → FromSenders o bad (r ▹ d) e
       more r d e old i t h honestly = acked-by-later i t {p = r} {r = r ▹ d} (sooner at-end) (old i t h honestly)
@@ -180,7 +168,7 @@ module _ (o : Opening) (bad : Seat → Bool) (opens : Opens o) where
   -- and of the acks as they are during a call: the new one recorded, and nothing cleared yet
   pub call-from : (run : Run) → throughout (λ before e. genuine o bad before (e .call)) run ≡ true → Obeys o run
       → (p : Run) (e : Event) (m : Message) (q : Reply) (s : Seat) (t : Transfer) → Within (p ▹ e) run → e .call ≡ message m q → m ≡ Ack s t
-      → Records (ledgerAt o (e .at) p) s t
+      → Recording (ledgerAt o (e .at) p) s t
       → FromSenders o bad run (entryWithAck (ledgerAt o (e .at) p) s t)
   call-from run fair obeys p e m q s t w call kind new i u h honestly =
       let here = obeys-before o obeys (before w) in

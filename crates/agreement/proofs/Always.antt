@@ -9,15 +9,15 @@ use borrow.Author.Tests.{leb-false}
 use Rattle.agreement.specs.Types.{Seat, Account, Transfer, Slot, Empty, Full, Ledger, Opening, Message, Request, Circulated, Ack, Decision, Inquiry, Reply, Accept}
 use Rattle.agreement.specs.Runs.{Opens, Call, message, waitingList, Event, Run, _▹_, Within, sameSeat, ledgerAt, Conforms, Obeys, accepted, ruled, passes}
 use Rattle.agreement.specs.Facts.{answeredK, mustAccept, acceptedBy, taken, ruledFor, Always}
-use Rattle.agreement.proofs.Places.{before, happened-found, happened-holds, obeys-before, obeys-at, ledger-induction, past-calls, ledger-after, stays}
+use Rattle.agreement.proofs.Places.{before, happened-found, happened-holds, obeys-before, obeys-at, ledger-after}
 use Rattle.agreement.proofs.Deeds.{that-slip, deed-found}
-use Rattle.agreement.proofs.Soundness.{opened-entry, group, Sound}
-use Rattle.agreement.proofs.Reachable.{sound}
+use Rattle.agreement.proofs.Soundness.{opened-entry, next-waits, group, Sound}
+use Rattle.agreement.proofs.Reachable.{sound, stays, everywhere, past-calls}
 use Rattle.agreement.proofs.StepLaws.{answer-exactly, BookedOrWaits, current-rises, stays-settled, just-settled, Turn, keeps, accepts, turn}
 use Rattle.agreement.proofs.Slated.{slated}
 use Rattle.agreement.proofs.Reasons.{all-reasons, decided-accepted}
 use Rattle.agreement.proofs.Acked.{acked-once}
-use Rattle.model.specs.Records.{freshEntry, withPending, sumCurrents, setEntry, entryOf}
+use Rattle.model.specs.Records.{freshEntry, withPending, sumCurrents, setEntry, withEntry, entryOf}
 use Rattle.model.specs.Transfers.{equal}
 use Rattle.model.specs.Acks.{holds, acksFor, enough}
 use Rattle.model.specs.Settling.{affordable, settle}
@@ -53,10 +53,9 @@ turn-count : (o : Opening) (l next : Ledger) (m : Message) (r : Reply) (c : ℕ)
 turn-count o l next m r c ok is (keeps same none-accepted not-k) = impossible (cc (rw is at not-k))
 turn-count o l next m r c ok is (accepts t this done) =
     let joined = setEntry (l .entries) (t .account) (withPending (done .entry) t) in
-    let waits = done .waits-soundly in
     let before = sum-set-same (λ e. e .current) (l .entries) (t .account .0) (withPending (done .entry) t) (freshEntry 0) (done .same-current) in
     let count : c ≡ settle joined .applied = cc (is, done .replied) in
-    rw (done .entries-are) (omega (arith, settle-currents joined (λ a u h. waits .each a .pending-stands u h .1)))
+    rw (done .entries-are) (omega (arith, settle-currents joined (next-waits o (withEntry l (t .account) (withPending (done .entry) t)) (done .waits-soundly))))
 
 -- no waiting slip is covered after a call, if none was before
 turn-uncovered : (o : Opening) (l next : Ledger) (m : Message) (r : Reply) → Turn o l m r next
@@ -68,12 +67,9 @@ turn-uncovered o l next m r (accepts t this done) old a =
 
 uncovered : (o : Opening) → Opens o → (s : Seat) (r : Run) → Obeys o r → (a : Account) → affordable (entryOf (ledgerAt o s r) a) ≡ false
 uncovered o opens s =
-    ledger-induction o s (λ r l. (a : Account) → affordable (entryOf l a) ≡ false) (λ a. rw (opened-entry o opens a) refl)
-    (λ r e l other old. old)
-    (λ r b a q l old. old)
-    (λ r m q l is obeys h old.
-    let ok : Sound o l = rw is (sound o opens s r obeys) in
-    turn-uncovered o l (step l m .next) m q (turn o l (step l m .next) m q (group o opens) ok (happens l m q h)) old)
+    everywhere o opens s (λ l. (a : Account) → affordable (entryOf l a) ≡ false)
+    (λ l m q ok h old. turn-uncovered o l (step l m .next) m q (turn o l (step l m .next) m q (group o opens) ok h) old)
+    (λ a. rw (opened-entry o opens a) refl)
 
 -- Which slips were accepted at a seat, and which wait there.
 module _ (o : Opening) (opens : Opens o) (s : Seat) where
@@ -83,11 +79,9 @@ module _ (o : Opening) (opens : Opens o) (s : Seat) where
 
   all-settled : (r : Run) → Obeys o r → (p : Run) (e : Event) → Within (p ▹ e) r → e .at ≡ s → SettledCall (e .call) (ledgerAt o s r)
   all-settled =
-      past-calls o s SettledCall (λ l b a q t is. impossible (cc))
-      (λ r m q l is obeys h.
-      just-settled o l (step l m .next) m q (group o opens) (rw is (sound o opens s r obeys)) (happens l m q h))
-      (λ r m q l c is obeys h old t this.
-      stays-settled o l (step l m .next) m q (group o opens) (rw is (sound o opens s r obeys)) (happens l m q h) t (t .account) (old t this))
+      past-calls o opens s SettledCall (λ l b a q t is. impossible (cc))
+      (λ l m q ok h. just-settled o l (step l m .next) m q (group o opens) ok h)
+      (λ l m q c ok h old t this. stays-settled o l (step l m .next) m q (group o opens) ok h t (t .account) (old t this))
 
   -- a slip of the next number that was accepted waits
   accepted-waits : (r : Run) → Obeys o r → (t : Transfer) → t .number ≡ entryOf (ledgerAt o s r) (t .account) .current + 1
@@ -145,9 +139,8 @@ module _ (o : Opening) (opens : Opens o) (s : Seat) where
   -- current numbers never fall
   never-falls : (a : Account) {p q : Run} → Obeys o q → Within p q → entryOf (ledgerAt o s p) a .current ≤ entryOf (ledgerAt o s q) a .current
   never-falls a {p} {q} obeys w =
-      stays o s (λ l. entryOf (ledgerAt o s p) a .current ≤ entryOf l a .current)
-      (λ r m q l is obeys h old.
-      omega (arith, current-rises o l (step l m .next) m q (group o opens) (rw is (sound o opens s r obeys)) (happens l m q h) a))
+      stays o opens s (λ l. entryOf (ledgerAt o s p) a .current ≤ entryOf l a .current)
+      (λ l m q ok h old. omega (arith, current-rises o l (step l m .next) m q (group o opens) ok h a))
       obeys w (omega arith)
 
 -- K's count, in a run

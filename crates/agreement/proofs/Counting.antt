@@ -14,6 +14,10 @@ use Rattle.model.specs.Acks.{holds, isFull}
 use Rattle.model.proofs.Sums.{impossible}
 use Rattle.model.proofs.Equality.{equal-sound, equal-refl}
 
+pub bit-most : (b : Bool) → bit b ≤ 1
+bit-most true = omega arith
+bit-most false = omega arith
+
 -- what holds of the bits of each number below n holds of the counts
 pub count-lift : (p q r s : ℕ → Bool) (n : ℕ)
     → ((i : ℕ) → i < n → bit (p i) + bit (q i) ≤ 1 + bit (r i) + bit (s i))
@@ -55,10 +59,6 @@ module _ (bad : ℕ → Bool) (n f : ℕ) (v w : ℕ → Slot)
     held t Empty e = impossible (cc)
     held t (Full u) e = ap Full (equal-sound u t e)
 
-    at-most-one : (b : Bool) → bit b ≤ 1
-    at-most-one true = omega arith
-    at-most-one false = omega arith
-
     -- a seat votes for different slips only if it is bad
     not-both : (t u : Transfer) → equal t u ≡ false → (i : ℕ) → i < n
         → bit (holds t (v i)) + bit (holds u (w i)) ≤ 1 + bit (bad i) + bit false
@@ -70,7 +70,7 @@ module _ (bad : ℕ → Bool) (n f : ℕ) (v w : ℕ → Slot)
             let same = agree i t u below h (held t (v i) e) (held u (w i) d) in
             impossible (cc (other, equal-refl t, same))
         go true e false d b h = omega arith
-        go false e y d b h = omega (arith, at-most-one y)
+        go false e y d b h = omega (arith, bit-most y)
 
     -- more than (n + 3f)/2 votes for t, and for u: they are one slip
     pub two-quorums : (t u : Transfer)
@@ -92,7 +92,7 @@ module _ (bad : ℕ → Bool) (n f : ℕ) (v w : ℕ → Slot)
       where
         go : (x : Bool) → holds t (v i) ≡ x → (y : Slot) → w i ≡ y → (b : Bool) → bad i ≡ b
             → bit x + bit (isFull y) ≤ 1 + bit b + bit (holds t y)
-        go false e y d b h = omega (arith, at-most-one (isFull y))
+        go false e y d b h = omega (arith, bit-most (isFull y))
         go true e Empty d b h = omega arith
         go true e (Full u) d true h = omega arith
         go true e (Full u) d false h =

@@ -13,9 +13,9 @@ use lib.ListN.{length, getD}
 use borrow.Author.Tests.{eq-eqb, ne-eqb}
 use Rattle.agreement.specs.Types.{Seat, Account, Transfer, Full, Entry, Ledger, Opening, Message, Reply}
 use Rattle.agreement.specs.Runs.{Opens, message, Event, Run, start, _▹_, Within, at-end, ledgerAt, Obeys, accepted}
-use Rattle.agreement.proofs.Places.{before, within-trans, nothing-yet, last-or-sooner, obeys-before, ledger-induction}
-use Rattle.agreement.proofs.Soundness.{opened-entry, group, SoundEntry, Sound, bounded}
-use Rattle.agreement.proofs.Reachable.{sound}
+use Rattle.agreement.proofs.Places.{before, within-trans, nothing-yet, last-or-sooner, obeys-before}
+use Rattle.agreement.proofs.Soundness.{opened-entry, next-waits, group, SoundEntry, Sound, bounded}
+use Rattle.agreement.proofs.Reachable.{run-induction, everywhere}
 use Rattle.agreement.proofs.StepLaws.{Turn, keeps, accepts, turn, puts-current, each-entry}
 use Rattle.agreement.proofs.Agree.{same-number, number-same}
 use Rattle.model.specs.Transfers.{sameAccount}
@@ -27,7 +27,6 @@ use Rattle.model.proofs.Sums.{impossible}
 use Rattle.model.proofs.Access.{set-each, same-account}
 use Rattle.model.proofs.Booking.{Affordable, share, apply-clears, apply-others, apply-balance, apply-length}
 use Rattle.model.proofs.Settles.{Bounded, NextWaits, settle-induction, waited, apply-bounded, apply-next}
-use Rattle.model.proofs.Steps.{happens}
 
 -- the sum of f over the numbers below n, and over the numbers from 1 to n
 abbrev below : (ℕ → ℕ) → ℕ → ℕ
@@ -55,9 +54,9 @@ below-change f g (suc n) a lower h = go (ℕ-discrete n a) (below-change f g n a
     go (no other) rest = omega (arith, h n other, rest (omega arith) h)
 
 -- what a slip takes, and what it brings to account b; nothing where there is none
-abbrev taken : Option Transfer → ℕ
-taken none = 0
-taken (some t) = t .value
+abbrev valueOf : Option Transfer → ℕ
+valueOf none = 0
+valueOf (some t) = t .value
 
 abbrev brought : Account → Option Transfer → ℕ
 brought b none = 0
@@ -67,7 +66,7 @@ brought b (some t) = share b (t .recipient) (t .value)
 module _ (slipOf : Account → ℕ → Option Transfer) (o : Opening) where
   -- what account b paid for its first c numbers
   paid : Account → ℕ → ℕ
-  paid b c = upTo (λ m. taken (slipOf b m)) c
+  paid b c = upTo (λ m. valueOf (slipOf b m)) c
 
   -- what the first c numbers of account a brought to account b
   broughtBy : Account → Account → ℕ → ℕ
@@ -192,7 +191,7 @@ module _ (slipOf : Account → ℕ → Option Transfer) (o : Opening) where
       (withPending (done .entry) t) (λ u h. let same : t ≡ u = cc in rw (← same) (slips t this)) (bal .waits-are) in
       rw (done .entries-are)
       (settle-balanced joined (bounded o (withEntry l (t .account) (withPending (done .entry) t)) g waits)
-      (λ a u h. waits .each a .pending-stands u h .1)
+      (next-waits o (withEntry l (t .account) (withPending (done .entry) t)) waits)
       (waits .size ∙ sym (opens .full-page))
       (restated (l .entries) joined states pending bal))
 
@@ -201,37 +200,34 @@ module _ (slipOf : Account → ℕ → Option Transfer) (o : Opening) where
       → ((p : Run) (e : Event) (t : Transfer) → Within (p ▹ e) run → accepted (e .call) ≡ some t → slipOf (t .account) (t .number) ≡ some t)
       → (s : Seat) (r : Run) → Obeys o r → Within r run → Balanced (ledgerAt o s r .entries)
   all-balanced opens run slips s =
-      ledger-induction o s (λ r l. Within r run → Balanced (l .entries)) (λ w. opened-balanced opens)
+      run-induction o opens s (λ r l. Within r run → Balanced (l .entries)) (λ w. opened-balanced opens)
       (λ r e l other bal w. bal (before w))
       (λ r b a q l bal w. bal (before w))
-      (λ r m q l is obeys h bal w.
-      let ok : Sound o l = rw is (sound o opens s r obeys) in
-      turn-balanced l (step l m .next) m q opens ok (turn o l (step l m .next) m q (group o opens) ok (happens l m q h))
+      (λ r m q l ok h bal w.
+      turn-balanced l (step l m .next) m q opens ok (turn o l (step l m .next) m q (group o opens) ok h)
       (λ t this. slips r _ t w this) (bal (before w)))
 
 -- an account behind the k-th never books anything
 behind : (o : Opening) → Opens o → (s : Seat) (r : Run) → Obeys o r → (a : Account) → o .accounts ≤ a .0 → entryOf (ledgerAt o s r) a .current ≡ 0
-behind o opens s r obeys a = all r obeys a
+behind o opens s r obeys = all r obeys
   where
     Unused : Account → Entry → Type 0
     Unused a e = o .accounts ≤ a .0 → e .current ≡ 0
 
+    none-waits : (a : Account) (e : Entry) (t : Transfer) → SoundEntry o a e → e .pending ≡ Full t → o .accounts ≤ a .0 → ⊥
+    none-waits a e t stands waits above =
+        let found = stands .pending-stands t waits in
+        omega (arith, found .2, ap (λ (b : Account). b .0) (found .0))
+
     all : (r : Run) → Obeys o r → (a : Account) → Unused a (entryOf (ledgerAt o s r) a)
     all =
-        ledger-induction o s (λ r l. (a : Account) → Unused a (entryOf l a)) (λ a above. rw (opened-entry o opens a) refl)
-        (λ r e l other old. old)
-        (λ r b a q l old. old)
-        (λ r m q l is obeys h old.
-        let ok : Sound o l = rw is (sound o opens s r obeys) in
+        everywhere o opens s (λ l. (a : Account) → Unused a (entryOf l a))
+        (λ l m q ok h old.
         each-entry o l (step l m .next) m q (group o opens) ok Unused
         (λ a e e′ same was above. ap (λ (x : Entry). x .current) same ∙ was above)
-        (λ a e e′ t stands waits clear was above. absurd (within-accounts a e t stands waits above))
-        old (λ t x put above. puts-current l m q t x put ∙ old (t .account) above) (happens l m q h))
-      where
-        within-accounts : (a : Account) (e : Entry) (t : Transfer) → SoundEntry o a e → e .pending ≡ Full t → o .accounts ≤ a .0 → ⊥
-        within-accounts a e t stands waits above =
-            let found = stands .pending-stands t waits in
-            omega (arith, found .2, ap (λ (b : Account). b .0) (found .0))
+        (λ a e e′ t stands waits clear was above. absurd (none-waits a e t stands waits above))
+        old (λ t x put above. puts-current l m q t x put ∙ old (t .account) above) h)
+        (λ a above. rw (opened-entry o opens a) refl)
 
 -- The slip that a run accepted for an account and number, by whichever seat.
 isOf : Account → ℕ → Transfer → Bool

@@ -4,7 +4,7 @@ use mathlib.Core.Path.{_≡_, refl, ap, sym}
 use mathlib.Core.Bool.{Bool, true, false, cond, not, _&&_}
 use mathlib.Core.Option.{Option, none, some}
 use Rattle.agreement.specs.Types.{Seat, Transfer, Message, Request, Circulated, Ack, Decision, Inquiry, Reply, Circulate, Acknowledge, Accept, Propose, Note, Balance, Refuse}
-use Rattle.agreement.specs.Runs.{Call, message, waitingList, Event, Run, _▹_, Within, happened, sameSeat, isAcknowledge, isAccept, acked, accepted, proposal, proposed, ruled, passes}
+use Rattle.agreement.specs.Runs.{Call, message, waitingList, Event, Run, _▹_, Within, happened, sameSeat, isAcknowledge, isAccept, acked, accepted, proposal, proposed, passes}
 use Rattle.agreement.specs.Undisputed.{tooEarly, brings}
 use Rattle.agreement.proofs.Places.{happened-found, seat-is}
 use Rattle.model.specs.Transfers.{equal}
@@ -77,10 +77,6 @@ proposal-is (Refuse q) u e = impossible (cc)
 pub proposed-is : (c : Call) (u : Transfer) → proposed c ≡ some u → (m : Message) × (c ≡ message m (Propose u))
 proposed-is (message m r) u e = (m, ap (message m) (proposal-is r u e))
 proposed-is (waitingList before r after) u e = impossible (cc)
-
--- a ruling answered K is one
-pub ruling-ruled : (c : Call) (t : Transfer) (r : Reply) → c ≡ message (Decision t) r → ruled c ≡ some t
-ruling-ruled c t r e = rw e refl
 
 -- it brought an ack of t from seat s, not too early
 pub brings-is : (s : Seat) (t : Transfer) (c : Call) → brings s t c ≡ true → (r : Reply) × (c ≡ message (Ack s t) r) × (tooEarly r ≡ false)

@@ -2,18 +2,18 @@
 -- say something of the runs of Examples.antt and of two more.
 use Prim.Native.Nat.{ℕ, zero, suc, _≤_, _<_}
 use mathlib.Core.Path.{_≡_, refl}
-use mathlib.Core.Bool.{Bool, true, false, Bool·beq}
+use mathlib.Core.Bool.{Bool, true, false, Bool·beq, false≢true}
 use mathlib.Core.List.{[], _∷_}
 use native.Mathlib.Omega.{arith}
-use lib.Dec.{lit≤}
+use lib.Dec.{lit≤, lit<}
 use borrow.Author.Tests.{le-ltb}
-use Rattle.agreement.specs.Types.{Seat, Account, Transfer, Opening, Ack, Inquiry, Accept, Propose, Note, Balance, Refuse}
+use Rattle.agreement.specs.Types.{Seat, Transfer, Opening, Ack, Inquiry, Accept, Propose, Note, Balance, Refuse}
 use Rattle.agreement.specs.Runs.{Opens, FewBad, honest, Event, Run, start, _▹_, at-end, sooner, throughout, atHonest, ledgerAt, Obeys, proposed}
 use Rattle.agreement.specs.Premises.{ackedBy, Premises}
 use Rattle.agreement.specs.Slates.{leaveAtMost, leaveAll, slateAt}
-use Rattle.agreement.specs.Claims.{Claim}
+use Rattle.agreement.specs.Claims.{SameCounts, Claim}
 use Rattle.agreement.specs.Facts.{answeredK, mustAccept, acceptedBy, ruledFor, Facts}
-use Rattle.agreement.specs.Undisputed.{reached, Undisputed}
+use Rattle.agreement.specs.Undisputed.{AllAcked, reached, AllReached, Undisputed}
 use Rattle.model.specs.declared.Refusal.the-variants.{PastNumber, FutureNumber, AckRepeated, AckConflicting}
 use Rattle.model.specs.Records.{seatOf, accountOf, noAcks, sumCurrents, entryOf}
 use Rattle.model.specs.Transfers.{equal, conflict}
@@ -121,8 +121,8 @@ pub undisputed-keeps :
     (atHonest page bad undisputedRun ≡ true)
     × Obeys page undisputedRun
     × Premises page bad undisputedRun
-    × ((s : Seat) → honest page bad s ≡ true → ackedBy s t undisputedRun ≡ true)
-    × ((s : Seat) → honest page bad s ≡ true → reached (seatOf 0) s t undisputedRun ≡ true)
+    × AllAcked page bad t undisputedRun
+    × AllReached page bad (seatOf 0) t undisputedRun
 unfolding ledgerAt noAcks equal conflict hasMost rulesOf openLedger lowestAffordable apply settleAtMost settle accept effect step
 undisputed-keeps = (
   refl,
@@ -155,26 +155,63 @@ unfolding equal
 theorem1-computed = (refl, refl, refl)
 
 -- .. and Theorem 1 says so only of places where all of them have arrived
-pub undisputed-says : Undisputed page bad undisputedRun t
-    → ((s : Seat) → honest page bad s ≡ true → reached (seatOf 0) s t oneLacks ≡ true) → false ≡ true
+pub undisputed-says : Undisputed page bad undisputedRun t → AllReached page bad (seatOf 0) t oneLacks → false ≡ true
 unfolding equal
 undisputed-says h = h .accepted-there oneLacks (seatOf 0) (sooner at-end) refl
 
--- Where fewer acks accept than there are honest seats, the last of their acks are refused, and have arrived all the same: n 3, f 0. The
--- ack of a number above the next comes too early, and is lost.
+-- Where fewer acks accept than there are honest seats, the last of their acks are refused, and have arrived all the same: n 3, f 0. Seat 1
+-- is ahead, and its ack of the next number comes to seat 0 too early, and is lost.
 abbrev threeSeats : Opening
 threeSeats = pageWith 3 0 (10 ∷ 3 ∷ [])
+
+abbrev t2 : Transfer
+t2 = slip 0 2 4 1
+
+-- no seat is bad
+abbrev nobody : Seat → Bool
+nobody s = false
 
 abbrev lateAck : Run
 lateAck =
     start
     ▹ acks 0 t ▹ acks 1 t ▹ acks 2 t
-    ▹ ack 0 0 (slip 0 2 1 1) (Refuse FutureNumber)
+    ▹ ack 1 0 t Note ▹ ack 1 1 t (Accept 1) ▹ acks 1 t2
+    ▹ ack 0 1 t2 (Refuse FutureNumber)
     ▹ ack 0 0 t Note ▹ ack 0 1 t (Accept 1) ▹ ack 0 2 t (Refuse PastNumber)
 
-pub late-obeys : Obeys threeSeats lateAck
+each-of-three : (P : Seat → Type 0) → P (seatOf 0) → P (seatOf 1) → P (seatOf 2) → (s : Seat) → honest threeSeats nobody s ≡ true → P s
+each-of-three P p0 p1 p2 s fair = go (s .0) fair
+  where
+    go : (i : ℕ) → honest threeSeats nobody (seatOf i) ≡ true → P (seatOf i)
+    go zero h = p0
+    go (suc zero) h = p1
+    go (suc (suc zero)) h = p2
+    go (suc (suc (suc i))) h = impossible (cc (le-ltb (suc (suc (suc i))) 3 (omega arith)))
+
+pub late-keeps :
+    Opens threeSeats
+    × FewBad threeSeats nobody
+    × (atHonest threeSeats nobody lateAck ≡ true)
+    × Obeys threeSeats lateAck
+    × Premises threeSeats nobody lateAck
+    × AllAcked threeSeats nobody t lateAck
+    × AllReached threeSeats nobody (seatOf 0) t lateAck
 unfolding ledgerAt noAcks equal conflict hasMost rulesOf openLedger lowestAffordable apply settleAtMost settle accept effect step
-late-obeys = tt then refl then refl then refl then refl then refl then refl then refl
+late-keeps = (
+  record { full-page = refl; not-refused = refl },
+  lit≤ tt,
+  refl,
+  tt then refl then refl then refl then refl then refl then refl then refl then refl then refl then refl,
+  record { acks-genuine = refl; rulings-rightful = refl },
+  each-of-three (λ s. ackedBy s t lateAck ≡ true) refl refl refl,
+  each-of-three (λ s. reached (seatOf 0) s t lateAck ≡ true) refl refl refl,
+)
+
+pub late-accepted : acceptedBy (seatOf 0) t lateAck ≡ true
+late-accepted =
+    let kept = late-keeps in
+    theorem1 threeSeats nobody lateAck t (kept .0) (kept .1) (kept .2) (kept .3) (kept .4) (kept .5) .accepted-there
+    lateAck (seatOf 0) at-end refl (kept .6)
 
 -- Which acks have arrived: seat 3's at seat 0, and not at seat 1, where it was lost; of t, not of u. The bad seat's ack of u has, and its
 -- ack of t after it, though refused. The late ack has, the early one has not.
@@ -185,16 +222,17 @@ pub reached-tried :
     × (reached (seatOf 0) (seatOf 5) u undisputedRun ≡ true)
     × (reached (seatOf 0) (seatOf 5) t undisputedRun ≡ true)
     × (reached (seatOf 0) (seatOf 2) t lateAck ≡ true)
-    × (reached (seatOf 0) (seatOf 0) (slip 0 2 1 1) lateAck ≡ false)
+    × (reached (seatOf 0) (seatOf 1) t2 lateAck ≡ false)
 unfolding equal
 reached-tried = (refl, refl, refl, refl, refl, refl, refl)
 
 -- Theorem 1 needs every honest seat's ack of t. In this run of Examples.antt, which keeps the premises, seats 0 to 2 ack t, seats 3 and 4
 -- ack u, and u is put forward.
-pub all-acks-needed : (ackedBy (seatOf 0) t free ≡ true) × (Undisputed page bad free t → ⊥)
+pub all-acks-needed : (ackedBy (seatOf 0) t free ≡ true) × (AllAcked page bad t free → ⊥) × (Undisputed page bad free t → ⊥)
 unfolding equal conflict
 all-acks-needed = (
   refl,
+  λ all. false≢true (all (seatOf 3) refl),
   λ claim.
       let found = happened-found (putsForward u) free refl in
       let apart = conflict-sound t u refl in
@@ -214,18 +252,11 @@ witness-claim =
 abbrev single : Opening
 single = pageWith 1 0 (10 ∷ 3 ∷ [])
 
-abbrev t2 : Transfer
-t2 = slip 0 2 4 1
-
 abbrev two : Run
 two = start ▹ acks 0 t ▹ ack 0 0 t (Accept 1) ▹ acks 0 t2 ▹ ack 0 0 t2 (Accept 1)
 
 abbrev alone : Run
 alone = two ▹ asked 0 (Inquiry (accountOf 0)) (Balance 2) ▹ acks 0 v ▹ ack 0 0 v (Accept 1)
-
--- no seat is bad
-abbrev nobody : Seat → Bool
-nobody s = false
 
 -- two numbers are equal
 infix 4 _is_
@@ -255,7 +286,7 @@ pub claim-says : Claim single nobody alone
     × (8 is 8)
     × (2 is 2)
     × (2 is 2)
-    × (((a : Account) → a .0 < 2 → slateAt single (seatOf 0) two .count a ≡ slateAt single (seatOf 0) alone .count a) → 2 is 8)
+    × (SameCounts single (seatOf 0) two (seatOf 0) alone → 2 is 8)
 unfolding ledgerAt noAcks equal conflict hasMost rulesOf openLedger lowestAffordable apply settleAtMost settle accept effect step slateAt leaveAll leaveAtMost
 claim-says c = (
   c .agree (start ▹ acks 0 t) (start ▹ acks 0 t ▹ ack 0 0 t (Accept 1) ▹ acks 0 t2) (ack 0 0 t (Accept 1)) (ack 0 0 t2 (Accept 1)) t t2
@@ -265,6 +296,15 @@ claim-says c = (
   c .told two (asked 0 (Inquiry (accountOf 0)) (Balance 2)) (accountOf 0) 2 (sooner (sooner at-end)) refl,
   λ same. c .equal-counts two alone (seatOf 0) (seatOf 0) (sooner (sooner (sooner at-end))) refl at-end refl same (accountOf 0),
 )
+
+-- .. for their counts are not equal in every account, though they are in the first
+pub counts-differ : (slateAt single (seatOf 0) two .count (accountOf 0) ≡ slateAt single (seatOf 0) alone .count (accountOf 0))
+    × (SameCounts single (seatOf 0) two (seatOf 0) alone → ⊥)
+unfolding slateAt leaveAll leaveAtMost equal
+counts-differ = (refl, λ same. zero-not-one (same (accountOf 1) (lit< tt)))
+  where
+    zero-not-one : 0 is 1 → ⊥
+    zero-not-one e = impossible (cc)
 
 -- The facts of every run: current numbers rise; K's count is the rise; of t and t2, which one seat acked, nothing, since their numbers
 -- differ; nothing of t, which was accepted, has no acks left and waits no more, since its number is not the next; and nothing of number 0.

@@ -1,5 +1,5 @@
--- Places in a run: how they are ordered, and what the tests over a run say at each of them.
-use mathlib.Core.Path.{_≡_, refl, ap, sym, _∙_}
+-- Places in a run: how they are ordered, what the tests over a run say at each of them, and how a seat's ledger gets from one to the next.
+use mathlib.Core.Path.{_≡_, refl, ap, sym}
 use mathlib.Core.Logic.{_⊎_, inl, inr}
 use mathlib.Core.Bool.{Bool, true, false, cond, or-true}
 use borrow.Author.Tests.{eq-eqb, eqb-true}
@@ -12,6 +12,7 @@ use Rattle.model.specs.Calls.{step, Answers}
 use Rattle.model.specs.Openings.{openLedger}
 use Rattle.model.proofs.Sums.{impossible, both}
 
+-- the start is a place
 pub the-start : (r : Run) → Within start r
 the-start start = at-end
 the-start (r ▹ e) = sooner (the-start r)
@@ -99,88 +100,37 @@ seat-is s z e = ap seatOf (eqb-true (s .0) (z .0) e)
 pub seat-self : (s : Seat) → sameSeat s s ≡ true
 seat-self s = eq-eqb (s .0) (s .0) refl
 
--- To show P of a seat's ledger at every place of a run that obeys, show it of the opened ledger, and that it stays: at an event
--- elsewhere, at a waiting list, and at a message.
-module _ (o : Opening) (s : Seat) (P : Run → Ledger → Type 0)
-    (opened : P start (openLedger o .ledger))
-    (elsewhere : (r : Run) (e : Event) (l : Ledger) → sameSeat (e .at) s ≡ false → P r l → P (r ▹ e) l)
-    (listed : (r : Run) (b a : List ℕ) (q : ListReply) (l : Ledger) → P r l → P (r ▹ record { at = s; call = waitingList b q a }) l)
-    (answered : (r : Run) (m : Message) (q : Reply) (l : Ledger)
-    → l ≡ ledgerAt o s r → Obeys o r → Answers l m q → P r l → P (r ▹ record { at = s; call = message m q }) (step l m .next))
-  where
-    at-seat : (r : Run) (e : Event) (c : Call) → e .call ≡ c → e .at ≡ s → Obeys o r → Conforms (ledgerAt o s r) c
-        → P r (ledgerAt o s r) → P (r ▹ record { at = s; call = c }) (nextLedger (ledgerAt o s r) c)
-    at-seat r e (message m q) same at obeys ok yet = answered r m q (ledgerAt o s r) refl obeys ok yet
-    at-seat r e (waitingList b q a) same at obeys ok yet = listed r b a q (ledgerAt o s r) yet
-
-    pub ledger-induction : (r : Run) → Obeys o r → P r (ledgerAt o s r)
-    unfolding ledgerAt
-    ledger-induction start ok = opened
-    ledger-induction (r ▹ e) ok = go (sameSeat (e .at) s) refl (ledger-induction r (ok .0))
-      where
-        go : (b : Bool) → sameSeat (e .at) s ≡ b → P r (ledgerAt o s r)
-            → P (r ▹ e) (cond b (nextLedger (ledgerAt o s r) (e .call)) (ledgerAt o s r))
-        go true here yet =
-            let seat = seat-is (e .at) s here in
-            let this : (record { at = s; call = e .call }) ≡ e = λ i. record { at = sym seat i; call = e .call } in
-            rw (← this)
-            (at-seat r e (e .call) refl seat (ok .0) (rw seat at (ok .1)) yet)
-        go false there yet = elsewhere r e (ledgerAt o s r) there yet
-
--- To show Q of every earlier call at a seat and of the seat's ledger now: show it of each call when it is made, and that later
--- messages keep it.
-module _ (o : Opening) (s : Seat) (Q : Call → Ledger → Type 0)
-    (listed : (l : Ledger) (b a : List ℕ) (q : ListReply) → Q (waitingList b q a) l)
-    (made : (r : Run) (m : Message) (q : Reply) (l : Ledger)
-    → l ≡ ledgerAt o s r → Obeys o r → Answers l m q → Q (message m q) (step l m .next))
-    (kept : (r : Run) (m : Message) (q : Reply) (l : Ledger) (c : Call)
-    → l ≡ ledgerAt o s r → Obeys o r → Answers l m q → Q c l → Q c (step l m .next))
-  where
-    Past : Run → Ledger → Type 0
-    Past r l = (p : Run) (e : Event) → Within (p ▹ e) r → e .at ≡ s → Q (e .call) l
-
-    -- one more event d at the seat
-    one-more : (r : Run) (d : Event) (l : Ledger)
-        → ((p : Run) (e : Event) → Within (p ▹ e) r → e .at ≡ s → Q (e .call) l)
-        → (d .at ≡ s → Q (d .call) l)
-        → (p : Run) (e : Event) → Within (p ▹ e) (r ▹ d) → e .at ≡ s → Q (e .call) l
-    one-more r d l old new p e w at = go (last-or-sooner w)
-      where
-        go : ((p ≡ r) × (e ≡ d)) ⊎ Within (p ▹ e) r → Q (e .call) l
-        go (inl last) = rw (last .1) (new (sym (ap (λ (x : Event). x .at) (last .1)) ∙ at))
-        go (inr yet) = old p e yet at
-
-    pub past-calls : (r : Run) → Obeys o r → (p : Run) (e : Event) → Within (p ▹ e) r → e .at ≡ s → Q (e .call) (ledgerAt o s r)
-    unfolding Past
-    past-calls =
-        ledger-induction o s Past (λ p e w at. nothing-yet w)
-        (λ r d l other old. one-more r d l old (λ at. impossible (cc (other, seat-self s, at))))
-        (λ r b a q l old. one-more r _ l old (λ at. listed l b a q))
-        (λ r m q l is obeys h old.
-        one-more r _ (step l m .next) (λ p e w at. kept r m q l (e .call) is obeys h (old p e w at)) (λ at. made r m q l is obeys h))
-
 -- the ledger after a message is what the message left
 pub ledger-after : (o : Opening) (s : Seat) (r : Run) (e : Event) (m : Message) (q : Reply) → e .at ≡ s → e .call ≡ message m q
     → ledgerAt o s (r ▹ e) ≡ step (ledgerAt o s r) m .next
 unfolding ledgerAt
 ledger-after o s r e m q seat call = rw (seat, call, seat-self s)
 
--- what messages keep of a seat's ledger stays from a place to every later one
-module _ (o : Opening) (s : Seat) (P : Ledger → Type 0)
-    (kept : (r : Run) (m : Message) (q : Reply) (l : Ledger) → l ≡ ledgerAt o s r → Obeys o r → Answers l m q → P l → P (step l m .next))
+-- What stays true of a seat's ledger at one more event: at one elsewhere, at a waiting list, and at a message.
+module _ (o : Opening) (s : Seat) (P : Run → Ledger → Type 0)
+    (elsewhere : (r : Run) (e : Event) (l : Ledger) → sameSeat (e .at) s ≡ false → P r l → P (r ▹ e) l)
+    (listed : (r : Run) (b a : List ℕ) (q : ListReply) (l : Ledger) → P r l → P (r ▹ record { at = s; call = waitingList b q a }) l)
+    (answered : (r : Run) (m : Message) (q : Reply) (l : Ledger)
+    → l ≡ ledgerAt o s r → Obeys o r → Answers l m q → P r l → P (r ▹ record { at = s; call = message m q }) (step l m .next))
   where
-    one-event : (r : Run) (e : Event) → Obeys o (r ▹ e) → P (ledgerAt o s r) → P (ledgerAt o s (r ▹ e))
+    at-seat : (r : Run) (c : Call) → Obeys o r → Conforms (ledgerAt o s r) c
+        → P r (ledgerAt o s r) → P (r ▹ record { at = s; call = c }) (nextLedger (ledgerAt o s r) c)
+    at-seat r (message m q) obeys ok yet = answered r m q (ledgerAt o s r) refl obeys ok yet
+    at-seat r (waitingList b q a) obeys ok yet = listed r b a q (ledgerAt o s r) yet
+
+    pub one-event : (r : Run) (e : Event) → Obeys o (r ▹ e) → P r (ledgerAt o s r) → P (r ▹ e) (ledgerAt o s (r ▹ e))
     unfolding ledgerAt
-    one-event r e obeys old = go (sameSeat (e .at) s) refl
+    one-event r e ok yet = go (sameSeat (e .at) s) refl
       where
-        call : (c : Call) → Conforms (ledgerAt o s r) c → P (nextLedger (ledgerAt o s r) c)
-        call (message m q) h = kept r m q (ledgerAt o s r) refl (obeys .0) h old
-        call (waitingList b q a) h = old
+        go : (b : Bool) → sameSeat (e .at) s ≡ b → P (r ▹ e) (cond b (nextLedger (ledgerAt o s r) (e .call)) (ledgerAt o s r))
+        go true here =
+            let seat = seat-is (e .at) s here in
+            let this : (record { at = s; call = e .call }) ≡ e = λ i. record { at = sym seat i; call = e .call } in
+            rw (← this) (at-seat r (e .call) (ok .0) (rw seat at (ok .1)) yet)
+        go false there = elsewhere r e (ledgerAt o s r) there yet
 
-        go : (b : Bool) → sameSeat (e .at) s ≡ b → P (cond b (nextLedger (ledgerAt o s r) (e .call)) (ledgerAt o s r))
-        go true here = call (e .call) (rw (seat-is (e .at) s here) at (obeys .1))
-        go false there = old
-
-    pub stays : {p r : Run} → Obeys o r → Within p r → P (ledgerAt o s p) → P (ledgerAt o s r)
-    stays obeys at-end old = old
-    stays obeys (sooner {r = r} {e = e} w) old = one-event r e obeys (stays (obeys .0) w old)
+    -- so at every place, if it is true of the opened ledger
+    pub ledger-induction : P start (openLedger o .ledger) → (r : Run) → Obeys o r → P r (ledgerAt o s r)
+    unfolding ledgerAt
+    ledger-induction opened start ok = opened
+    ledger-induction opened (r ▹ e) ok = one-event r e ok (ledger-induction opened r (ok .0))

@@ -9,9 +9,9 @@ use mathlib.Core.Option.{some}
 use Rattle.agreement.specs.Types.{Seat, Account, Transfer, Full, Entry, Ledger, Opening, Message, Decision, Reply, Accept}
 use Rattle.agreement.specs.Runs.{Opens, message, waitingList, Event, Run, _▹_, Within, at-end, sooner, sameSeat, ledgerAt, Obeys, accepted, ruled, passes}
 use Rattle.agreement.specs.Facts.{acceptedBy, taken, ruledFor}
-use Rattle.agreement.proofs.Places.{happened-holds, happened-later, seat-self, ledger-induction}
+use Rattle.agreement.proofs.Places.{happened-holds, happened-later, seat-self}
 use Rattle.agreement.proofs.Soundness.{opened-entry, group, SoundEntry, Sound, admitted}
-use Rattle.agreement.proofs.Reachable.{sound}
+use Rattle.agreement.proofs.Reachable.{sound, run-induction}
 use Rattle.agreement.proofs.StepLaws.{Puts, puts-mark, puts-ack, puts-accepted, puts-ruled, each-entry}
 use Rattle.model.specs.Records.{entryOf}
 use Rattle.model.specs.Transfers.{equal}
@@ -20,7 +20,7 @@ use Rattle.model.specs.Calls.{step}
 use Rattle.model.proofs.Sums.{impossible}
 use Rattle.model.proofs.Equality.{equal-refl}
 use Rattle.model.proofs.Booking.{Cleared}
-use Rattle.model.proofs.Steps.{Eligible, Happens, happens}
+use Rattle.model.proofs.Steps.{Eligible, Happens}
 
 module _ (o : Opening) (opens : Opens o) (s : Seat) where
   abbrev isAccepted : Transfer → Event → Bool
@@ -140,14 +140,12 @@ module _ (o : Opening) (opens : Opens o) (s : Seat) where
   -- at every place of a run that obeys
   pub all-reasons : (r : Run) → Obeys o r → (a : Account) → Reasons r a (entryOf (ledgerAt o s r) a)
   all-reasons =
-      ledger-induction o s (λ r l. (a : Account) → Reasons r a (entryOf l a))
+      run-induction o opens s (λ r l. (a : Account) → Reasons r a (entryOf l a))
       (λ a. rw (opened-entry o opens a) (record { why-waits = λ t waits. impossible (cc); why-booked = λ m from to. absurd (omega arith) }))
       (λ r e l other old a. reasons-stay r (r ▹ e) a (entryOf l a) (entryOf l a) (sooner at-end) refl refl refl (old a))
       (λ r b a q l old c.
       reasons-stay r (r ▹ record { at = s; call = waitingList b q a }) c (entryOf l c) (entryOf l c) (sooner at-end) refl refl refl (old c))
-      (λ r m q l is obeys h old.
-      let ok : Sound o l = rw is (sound o opens s r obeys) in
-      step-reasons r m q l (step l m .next) ok (happens l m q h) old)
+      (λ r m q l ok h old. step-reasons r m q l (step l m .next) ok h old)
 
   -- a slip with enough recorded acks was accepted
   pub decided-accepted : (r : Run) → Obeys o r → (t : Transfer)

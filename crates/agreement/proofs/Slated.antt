@@ -1,14 +1,12 @@
 -- Each ledger is its slate, at every place of a run that obeys: the second point of demand 3. It needs no premises.
 use Prim.Native.Nat.{ℕ}
 use mathlib.Core.Path.{_≡_, refl, ap, _∙_}
-use mathlib.Core.Bool.{true}
-use borrow.Author.Tests.{eq-eqb}
 use Rattle.agreement.specs.Types.{Seat, Account, Entry, Ledger, Opening, Message, Reply, Balance, Inquiry}
-use Rattle.agreement.specs.Runs.{Opens, message, Event, Run, _▹_, Within, sameSeat, ledgerAt, Obeys, accepted}
+use Rattle.agreement.specs.Runs.{Opens, message, Event, Run, _▹_, Within, ledgerAt, Obeys, accepted}
 use Rattle.agreement.specs.Slates.{Slate, freshSlate, nextSlate, slateAt, join}
-use Rattle.agreement.proofs.Places.{before, obeys-before, obeys-at, ledger-induction}
-use Rattle.agreement.proofs.Soundness.{opened-entry, Group, group, Sound, bounded}
-use Rattle.agreement.proofs.Reachable.{sound}
+use Rattle.agreement.proofs.Places.{before, obeys-before, obeys-at, seat-self}
+use Rattle.agreement.proofs.Soundness.{next-waits, opened-entry, Group, group, Sound, bounded}
+use Rattle.agreement.proofs.Reachable.{run-induction}
 use Rattle.agreement.proofs.StepLaws.{Turn, keeps, accepts, turn, answer-balance}
 use Rattle.agreement.proofs.SlateSettles.{Matches, quiet-matches, join-matches, settle-matches}
 use Rattle.model.specs.Records.{setEntry, withPending, withEntry}
@@ -36,25 +34,21 @@ turn-matches o l next m r s g ok (accepts t this done) match =
     join-matches (l .entries) s (done .entry) t (done .fits .inside) (done .fits .none-waits) (done .same-balance) (done .same-current) match in
     rw (this, done .entries-are)
     (settle-matches es (join s t) (bounded o (withEntry l (t .account) (withPending (done .entry) t)) g waits)
-    (λ a u h. waits .each a .pending-stands u h .1)
+    (next-waits o (withEntry l (t .account) (withPending (done .entry) t)) waits)
     (λ a u h. waits .each a .pending-stands u h .0)
     joined)
 
 module _ (o : Opening) (opens : Opens o) (s : Seat) where
-  here : sameSeat s s ≡ true
-  here = eq-eqb (s .0) (s .0) refl
-
   -- at the start and after each call
   pub slated : (r : Run) → Obeys o r → Matches (ledgerAt o s r .entries) (slateAt o s r)
   unfolding slateAt
   slated =
-      ledger-induction o s (λ r l. Matches (l .entries) (slateAt o s r)) (opened-matches o opens)
+      run-induction o opens s (λ r l. Matches (l .entries) (slateAt o s r)) (opened-matches o opens)
       (λ r e l other match. rw other match)
-      (λ r b a q l match. rw here match)
-      (λ r m q l is obeys h match.
-      let ok : Sound o l = rw is (sound o opens s r obeys) in
+      (λ r b a q l match. rw (seat-self s) match)
+      (λ r m q l ok h match.
       let g = group o opens in
-      rw here (turn-matches o l (step l m .next) m q (slateAt o s r) g ok (turn o l (step l m .next) m q g ok (happens l m q h)) match))
+      rw (seat-self s) (turn-matches o l (step l m .next) m q (slateAt o s r) g ok (turn o l (step l m .next) m q g ok h) match))
 
 -- the balance in each reply B is the slate's
 pub told-slate : (o : Opening) (run p : Run) (e : Event) (a : Account) (b : ℕ) → Opens o → Obeys o run

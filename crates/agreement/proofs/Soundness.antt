@@ -24,7 +24,7 @@ use Rattle.model.proofs.Sums.{impossible, neither, sum-set, sum-set-same}
 use Rattle.model.proofs.Equality.{equal-sound, equal-refl, Conflict, conflict-complete}
 use Rattle.model.proofs.Access.{no-acks-length, set-each, set-entry-length}
 use Rattle.model.proofs.Booking.{SameButBalance, Cleared}
-use Rattle.model.proofs.Settles.{Bounded, settle-each, settle-sum, settle-length}
+use Rattle.model.proofs.Settles.{Bounded, NextWaits, settle-each, settle-sum, settle-length}
 use Rattle.model.proofs.Refusing.{none-holds}
 use Rattle.model.proofs.Witnesses.{fresh-sum}
 use Rattle.model.proofs.Steps.{Eligible, Recordable}
@@ -248,6 +248,10 @@ bounded o l g ok =
       sum-fits = rw (ok .sum-same) (g .sum-fits);
       recipients = λ a t h. omega (arith, ok .each a .pending-stands t h .3, ok .size, g .accounts-fit);
     }
+
+-- and each waiting slip has its account's next number
+pub next-waits : (o : Opening) (l : Ledger) → Sound o l → NextWaits (l .entries)
+next-waits o l ok a t h = ok .each a .pending-stands t h .1
 
 -- an opened ledger has fresh entries with the page's balances
 pub opened-entry : (o : Opening) → Opens o → (a : Account) → entryOf (openLedger o .ledger) a ≡ freshEntry (getD (o .balances) (a .0) 0)

@@ -130,6 +130,22 @@ pub record Accepting (o : Opening) (l : Ledger) (r : Reply) (next : Ledger) (t :
   pub entries-are : next .entries ≡ settle (setEntry (l .entries) (t .account) (withPending entry t)) .entries
   pub replied : r ≡ Accept (settle (setEntry (l .entries) (t .account) (withPending entry t)) .applied)
 
+accepting : (o : Opening) (l next : Ledger) (r : Reply) (t : Transfer) (e : Entry) → Group o → Sound o l → Eligible l t
+    → e .balance ≡ entryOf l (t .account) .balance → e .current ≡ entryOf l (t .account) .current → SoundEntry o (t .account) (withPending e t)
+    → r ≡ Accept (accept (l .entries) e t .applied) → next ≡ withEntries l (accept (l .entries) e t .entries)
+    → Accepting o l r next t
+unfolding accept
+accepting o l next r t e g ok fit balance current waits reply same =
+    record {
+      entry = e;
+      same-balance = balance;
+      same-current = current;
+      fits = admitted o l t g ok fit;
+      waits-soundly = waits-sound o l t e g ok balance waits;
+      entries-are = ap (λ (x : Ledger). x .entries) same;
+      replied = reply;
+    }
+
 -- an entry with the same state is put
 put-same : (l : Ledger) (a : Account) (x : Entry) → SameState (entryOf l a) x → (b : Account) → SameState (entryOf l b) (entryOf (withEntry l a x) b)
 put-same l a x same = set-each (λ b y. SameState (entryOf l b) y) (l .entries) a x same (λ b. (refl, refl, refl))
@@ -148,37 +164,18 @@ pub data Turn (o : Opening) (l : Ledger) (m : Message) (r : Reply) (next : Ledge
   accepts : (t : Transfer) → accepted (message m r) ≡ some t → Accepting o l r next t → Turn o l m r next
 
 pub turn : (o : Opening) (l next : Ledger) (m : Message) (r : Reply) → Group o → Sound o l → Happens l m r next → Turn o l m r next
-unfolding accept
 turn o l next m r g ok (refused q e same) = keeps (rw same (λ a. (refl, refl, refl))) (refused-accepts m r q e) (rw e)
 turn o l next m r g ok (circulated t e f same) = keeps (rw same (λ a. (refl, refl, refl))) (rw e) (rw f)
 turn o l next m r g ok (acknowledged t e f fit clear same) =
     keeps (rw same (put-same l (t .account) (withAcked (entryOf l (t .account))) (refl, refl, refl))) (rw e) (rw f)
 turn o l next m r g ok (accepted-by-acks s t e f fit new full same) =
-    accepts t (rw (e, f))
-    (record {
-      entry = entryWithAck l s t;
-      same-balance = refl;
-      same-current = refl;
-      fits = admitted o l t g ok fit;
-      waits-soundly = waits-sound o l t (entryWithAck l s t) g ok refl (accepted-entry o l s t g ok fit new);
-      entries-are = ap (λ (x : Ledger). x .entries) same;
-      replied = f;
-    })
+    accepts t (rw (e, f)) (accepting o l next r t (entryWithAck l s t) g ok fit refl refl (accepted-entry o l s t g ok fit new) f same)
 turn o l next m r g ok (proposed s t u e f fit new few must most same) =
     keeps (rw same (put-same l (t .account) (withProposed (entryWithAck l s t)) (refl, refl, refl))) (rw (e, f)) (rw f)
 turn o l next m r g ok (noted s t e f fit new few same) =
     keeps (rw same (put-same l (t .account) (entryWithAck l s t) (refl, refl, refl))) (rw (e, f)) (rw f)
 turn o l next m r g ok (accepted-by-ruling t e f fit same) =
-    accepts t (rw (e, f))
-    (record {
-      entry = entryOf l (t .account);
-      same-balance = refl;
-      same-current = refl;
-      fits = admitted o l t g ok fit;
-      waits-soundly = waits-sound o l t (entryOf l (t .account)) g ok refl (ruled-entry o l t g ok fit);
-      entries-are = ap (λ (x : Ledger). x .entries) same;
-      replied = f;
-    })
+    accepts t (rw (e, f)) (accepting o l next r t (entryOf l (t .account)) g ok fit refl refl (ruled-entry o l t g ok fit) f same)
 turn o l next m r g ok (told a e f same) = keeps (rw same (λ b. (refl, refl, refl))) (rw e) (rw f)
 
 -- A means: the slip is eligible, so its number is the next; the mark was clear, and now it is set.
@@ -202,14 +199,14 @@ answer-acknowledge o l next m r t g ok kind reply (accepted-by-ruling u e f fit 
 answer-acknowledge o l next m r t g ok kind reply (told a e f same) = impossible (cc)
 
 -- an ack is recorded: what K and P rest on
-pub record Records (l : Ledger) (s : Seat) (t : Transfer) : Type 0 where
+pub record Recording (l : Ledger) (s : Seat) (t : Transfer) : Type 0 where
   pub eligible : Eligible l t
   pub recordable : Recordable l s t
 
 -- K to an ack means: with it, twice the count of acks for its slip exceeds n + 3f.
 pub answer-accept : (l next : Ledger) (m : Message) (r : Reply) (s : Seat) (t : Transfer) (c : ℕ)
     → m ≡ Ack s t → r ≡ Accept c → Happens l m r next
-    → Records l s t × (l .seats + 3 * l .faults < 2 * acksFor t (entryWithAck l s t .acks))
+    → Recording l s t × (l .seats + 3 * l .faults < 2 * acksFor t (entryWithAck l s t .acks))
 answer-accept l next m r s t c kind reply (refused q e same) = impossible (cc)
 answer-accept l next m r s t c kind reply (circulated u e f same) = impossible (cc)
 answer-accept l next m r s t c kind reply (acknowledged u e f fit clear same) = impossible (cc)
@@ -228,7 +225,7 @@ pub record Proposes (l : Ledger) (m : Message) (u : Transfer) : Type 0 where
   pub sender : Seat
   pub slip : Transfer
   pub is-ack : m ≡ Ack sender slip
-  pub records : Records l sender slip
+  pub records : Recording l sender slip
   pub recorded : l .seats ≤ acksRecorded (entryWithAck l sender slip .acks) + l .faults
   pub most : (v : Transfer) → acksFor v (entryWithAck l sender slip .acks) ≤ acksFor u (entryWithAck l sender slip .acks)
 
@@ -354,23 +351,22 @@ module _ (o : Opening) (l next : Ledger) (m : Message) (r : Reply) (g : Group o)
       go (kept same) = balance-held s t before after same yet
       go (booked u was clear) = booked-held s t (t .account) before after u sound was clear yet
 
-  pub now-held : (s : Seat) (t : Transfer) → m ≡ Ack s t → isRefusal r ≡ false → Happens l m r next
-      → (1 ≤ t .number) × Held s t (entryOf next (t .account))
+  pub now-held : (s : Seat) (t : Transfer) → m ≡ Ack s t → isRefusal r ≡ false → Happens l m r next → Held s t (entryOf next (t .account))
   now-held s t kind taken (refused q e same) = impossible (cc (rw e at taken))
   now-held s t kind taken (circulated u e f same) = impossible (cc)
   now-held s t kind taken (acknowledged u e f fit clear same) = impossible (cc)
   now-held s t kind taken (accepted-by-acks z u e f fit new full same) =
       let seat : s ≡ z = cc in
       let slip : t ≡ u = cc in
-      rw (seat, slip, same) (omega (arith, fit .is-next), accepted-held z u fit new)
+      rw (seat, slip, same) (accepted-held z u fit new)
   now-held s t kind taken (proposed z u v e f fit new few must most same) =
       let seat : s ≡ z = cc in
       let slip : t ≡ u = cc in
-      rw (seat, slip, same) (omega (arith, fit .is-next), put-held z u _ fit (recorded-new o l z u g ok fit new))
+      rw (seat, slip, same) (put-held z u _ fit (recorded-new o l z u g ok fit new))
   now-held s t kind taken (noted z u e f fit new few same) =
       let seat : s ≡ z = cc in
       let slip : t ≡ u = cc in
-      rw (seat, slip, same) (omega (arith, fit .is-next), put-held z u _ fit (recorded-new o l z u g ok fit new))
+      rw (seat, slip, same) (put-held z u _ fit (recorded-new o l z u g ok fit new))
   now-held s t kind taken (accepted-by-ruling u e f fit same) = impossible (cc)
   now-held s t kind taken (told a e f same) = impossible (cc)
 

@@ -7,18 +7,18 @@ use mathlib.Core.Path.{_≡_, refl, ap, sym, _∙_}
 use mathlib.Core.Logic.{_⊎_, inl, inr}
 use mathlib.Core.Bool.{Bool, true, false, not, _&&_}
 use mathlib.Core.Option.{some}
-use lib.Dec.{eqb, ltb}
+use lib.Dec.{ltb}
 use borrow.Author.Tests.{lt-ltb, ltb-true}
 use Rattle.agreement.specs.Types.{Seat, Transfer, Slot, Empty, Full, Entry, Ledger, Opening, Refusal, Message, Circulated, Ack, Reply, Circulate, Acknowledge, Accept, Propose, Note, Balance, Refuse}
 use Rattle.agreement.specs.Runs.{Opens, countBelow, FewBad, honest, message, Event, Run, _▹_, Within, sameSeat, ledgerAt, Obeys, isRefusal, accepted, proposed, ruled}
-use Rattle.agreement.specs.Premises.{ackedBy, Premises}
+use Rattle.agreement.specs.Premises.{Premises}
 use Rattle.agreement.specs.Facts.{acceptedBy}
-use Rattle.agreement.specs.Undisputed.{tooEarly, brings, reached, Theorem1}
-use Rattle.agreement.proofs.Places.{before, within-trans, happened-found, obeys-before, obeys-at, seat-is, ledger-after, stays}
+use Rattle.agreement.specs.Undisputed.{AllAcked, tooEarly, brings, AllReached, Theorem1}
+use Rattle.agreement.proofs.Places.{before, within-trans, happened-found, obeys-before, obeys-at, seat-is, ledger-after}
 use Rattle.agreement.proofs.Deeds.{acked-is, Accepts, by-ack, by-ruling, accepted-is, brings-is, deed-found}
 use Rattle.agreement.proofs.Soundness.{group, Sound, same-range}
 use Rattle.agreement.proofs.StepLaws.{Held, stays-held, now-held, BookedOrWaits, stays-settled, answer-acknowledge, AckRefused, unknown-seat, out-of-range, past-number, future-number, waits-already, repeated, conflicting, ack-refused}
-use Rattle.agreement.proofs.Reachable.{sound}
+use Rattle.agreement.proofs.Reachable.{sound, stays}
 use Rattle.agreement.proofs.Counting.{count-lift, two-quorums, quorum-most}
 use Rattle.agreement.proofs.Acked.{acked-by-found, acked-by-later, acked-by-once, all-from}
 use Rattle.agreement.proofs.Votes.{vote, Tally, votes-counted}
@@ -29,7 +29,6 @@ use Rattle.model.specs.Records.{seatOf, entryOf}
 use Rattle.model.specs.Transfers.{equal}
 use Rattle.model.specs.Acks.{holds, conflicts, acksFor, enough}
 use Rattle.model.specs.Refusals.{outOfRange, waitsAlready, ackFrom}
-use Rattle.model.specs.Replies.{codeOf}
 use Rattle.model.specs.Calls.{step, Answers}
 use Rattle.model.proofs.Sums.{impossible, both}
 use Rattle.model.proofs.Equality.{equal-sound, equal-refl, conflict-sound}
@@ -46,7 +45,7 @@ abbrev Arrived : Seat → Transfer → Entry → Type 0
 Arrived s t e = Held s t e ⊎ ((p : Transfer) × (p .account ≡ t .account) × (p .number ≡ t .number) × BookedOrWaits p e)
 
 module _ (o : Opening) (bad : Seat → Bool) (run : Run) (opens : Opens o) (few : FewBad o bad) (obeys : Obeys o run) (kept : Premises o bad run)
-    (t : Transfer) (all-acked : (s : Seat) → honest o bad s ≡ true → ackedBy s t run ≡ true)
+    (t : Transfer) (all-acked : AllAcked o bad t run)
   where
     honestly : (i : ℕ) → i < o .seats → bad (seatOf i) ≡ false → honest o bad (seatOf i) ≡ true
     honestly i below fair = rw (lt-ltb i (o .seats) below, fair)
@@ -135,7 +134,7 @@ module _ (o : Opening) (bad : Seat → Bool) (run : Run) (opens : Opens o) (few 
         (omega (arith, fit .is-next), λ l too. same-range o l k t too ok ∙ fit .in-range)
 
     -- an ack of t from an honest seat that is refused, and not as too early, had arrived before
-    refused-arrived : (q : Run) (z s : Seat) (x : Refusal) → Within q run → honest o bad s ≡ true → eqb (codeOf x) 7 ≡ false
+    refused-arrived : (q : Run) (z s : Seat) (x : Refusal) → Within q run → honest o bad s ≡ true → tooEarly (Refuse x) ≡ false
         → AckRefused (ledgerAt o z q) s t x → Arrived s t (entryOf (ledgerAt o z q) (t .account))
     refused-arrived q z s x w fair late why = go why
       where
@@ -186,7 +185,7 @@ module _ (o : Opening) (bad : Seat → Bool) (run : Run) (opens : Opens o) (few 
         taken : (y : Reply) → Answers l (Ack s t) y → isRefusal y ≡ false → Arrived s t (entryOf (step l (Ack s t) .next) (t .account))
         taken y h is =
             let ok = sound o opens z q (obeys-before o obeys (before w)) in
-            inl (now-held o l (step l (Ack s t) .next) (Ack s t) y (group o opens) ok s t refl is (happens l (Ack s t) y h) .1)
+            inl (now-held o l (step l (Ack s t) .next) (Ack s t) y (group o opens) ok s t refl is (happens l (Ack s t) y h))
 
         go : (y : Reply) → r ≡ y → Answers l (Ack s t) y → Arrived s t (entryOf (step l (Ack s t) .next) (t .account))
         go Circulate at h = taken Circulate h refl
@@ -203,8 +202,7 @@ module _ (o : Opening) (bad : Seat → Bool) (run : Run) (opens : Opens o) (few 
     stays-arrived : (z s : Seat) {p r : Run} → Obeys o r → Within p r
         → Arrived s t (entryOf (ledgerAt o z p) (t .account)) → Arrived s t (entryOf (ledgerAt o z r) (t .account))
     stays-arrived z s =
-        stays o z (λ l. Arrived s t (entryOf l (t .account)))
-        (λ r m q l is here h. go l m q (rw is (sound o opens z r here)) (happens l m q h))
+        stays o opens z (λ l. Arrived s t (entryOf l (t .account))) go
       where
         go : (l : Ledger) (m : Message) (q : Reply) → Sound o l → Happens l m q (step l m .next)
             → Arrived s t (entryOf l (t .account)) → Arrived s t (entryOf (step l m .next) (t .account))
@@ -215,7 +213,7 @@ module _ (o : Opening) (bad : Seat → Bool) (run : Run) (opens : Opens o) (few 
 
     -- t's number was booked, or a slip of it waits, or all acks are held: either way t was accepted
     arrived-accepted : (p : Run) (z : Seat) → Within p run → honest o bad z ≡ true
-        → ((s : Seat) → honest o bad s ≡ true → reached z s t p ≡ true)
+        → AllReached o bad z t p
         → acceptedBy z t p ≡ true
     arrived-accepted p z w fair all = go (decLe (t .number) (e .current)) (e .pending) refl
       where

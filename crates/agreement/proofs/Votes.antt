@@ -9,7 +9,7 @@ use Rattle.agreement.specs.Types.{Seat, Account, Transfer, Slot, Empty, 
 use Rattle.agreement.specs.Runs.{Opens, countBelow, FewBad, honest, Run, Obeys}
 use Rattle.agreement.proofs.Counting.{count-places, count-more, two-quorums, quorum-most}
 use Rattle.agreement.proofs.Soundness.{group, Sound, accepted-entry, recorded-counted}
-use Rattle.agreement.proofs.StepLaws.{Records, Proposes}
+use Rattle.agreement.proofs.StepLaws.{Recording, Proposes}
 use Rattle.agreement.proofs.Acked.{FromSenders, acked-by-once}
 use Rattle.model.specs.Basics.{bit, count}
 use Rattle.model.specs.Records.{seatOf}
@@ -34,7 +34,7 @@ module _ (o : Opening) (bad : Seat → Bool) (run : Run) (opens : Opens o) where
   same-tally a b m k x account number tally = rw (← account, ← number) tally
 
   -- what K and P rest on is such a tally
-  pub tally-of : (l : Ledger) (s : Seat) (t : Transfer) → Sound o l → Records l s t → FromSenders o bad run (entryWithAck l s t)
+  pub tally-of : (l : Ledger) (s : Seat) (t : Transfer) → Sound o l → Recording l s t → FromSenders o bad run (entryWithAck l s t)
       → Tally o bad run (t .account) (t .number) (entryWithAck l s t)
   tally-of l s t ok new from =
       let entry = accepted-entry o l s t (group o opens) ok (new .eligible) (new .recordable) in
@@ -113,7 +113,7 @@ module _ (o : Opening) (bad : Seat → Bool) (run : Run) (opens : Opens o) (few 
 
 -- K rests on a quorum, and P on a majority
 module _ (o : Opening) (bad : Seat → Bool) (run : Run) (opens : Opens o) (l : Ledger) (ok : Sound o l) where
-  pub accept-quorum : (s : Seat) (t : Transfer) → Records l s t → FromSenders o bad run (entryWithAck l s t)
+  pub accept-quorum : (s : Seat) (t : Transfer) → Recording l s t → FromSenders o bad run (entryWithAck l s t)
       → l .seats + 3 * l .faults < 2 * acksFor t (entryWithAck l s t .acks) → Quorum o bad run t
   accept-quorum s t new from many =
       let tally = tally-of o bad run opens l s t ok new from in

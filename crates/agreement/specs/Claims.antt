@@ -9,6 +9,10 @@ use Rattle.agreement.specs.Premises.{Premises}
 use Rattle.agreement.specs.Slates.{slateAt}
 use Rattle.model.specs.Records.{entryOf}
 
+-- "their counts are equal in every account": of seat s at place p and seat z at place q, for each of the k accounts
+abbrev pub SameCounts : Opening → Seat → Run → Seat → Run → Type 0
+SameCounts o s p z q = (a : Account) → a .0 < o .accounts → slateAt o s p .count a ≡ slateAt o z q .count a
+
 -- "Of every run that keeps the premises, demand 3 says": a single claim about the whole list.
 pub record Claim (o : Opening) (bad : Seat → Bool) (run : Run) : Type 0 where
   -- "Any two accepted slips with equal account and number are equal, whether one honest seat accepted them or two."
@@ -29,7 +33,7 @@ pub record Claim (o : Opening) (bad : Seat → Bool) (run : Run) : Type 0 where
   pub equal-counts : (p q : Run) (s z : Seat)
       → Within p run → honest o bad s ≡ true
       → Within q run → honest o bad z ≡ true
-      → ((a : Account) → a .0 < o .accounts → slateAt o s p .count a ≡ slateAt o z q .count a)
+      → SameCounts o s p z q
       → (a : Account) → slateAt o s p .balance a ≡ slateAt o z q .balance a
 
 -- Demand 3: for every opening page that is not refused, every choice of at most f bad seats, and every run at honest seats that obeys

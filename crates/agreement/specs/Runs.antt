@@ -9,6 +9,7 @@ use lib.ListN.{length}
 use Rattle.agreement.specs.Types.{Seat, Transfer, Ledger, Opening, Message, Request, Circulated, Ack, Decision, Inquiry, Reply, Circulate, Acknowledge, Accept, Propose, Note, Balance, Refuse, Opened, ListReply}
 use Rattle.model.specs.Basics.{bit}
 use Rattle.model.specs.Records.{seatOf}
+use Rattle.model.specs.Replies.{letterOf}
 use Rattle.model.specs.Openings.{openLedger}
 use Rattle.model.specs.Calls.{step, Answers, Lists}
 
@@ -90,33 +91,15 @@ abbrev pub Obeys : Opening → Run → Type 0
 Obeys o start = Unit {0}
 Obeys o (r ▹ e) = Obeys o r × Conforms (ledgerAt o (e .at) r) (e .call)
 
--- "A call's arguments and reply tell what it did." Whether the reply has this letter
+-- "A call's arguments and reply tell what it did." Whether it was answered A, K, or R
 abbrev pub isAcknowledge : Reply → Bool
-isAcknowledge Circulate = false
-isAcknowledge Acknowledge = true
-isAcknowledge (Accept c) = false
-isAcknowledge (Propose t) = false
-isAcknowledge Note = false
-isAcknowledge (Balance b) = false
-isAcknowledge (Refuse q) = false
+isAcknowledge r = eqb (letterOf r) 65
 
 abbrev pub isAccept : Reply → Bool
-isAccept Circulate = false
-isAccept Acknowledge = false
-isAccept (Accept c) = true
-isAccept (Propose t) = false
-isAccept Note = false
-isAccept (Balance b) = false
-isAccept (Refuse q) = false
+isAccept r = eqb (letterOf r) 75
 
 abbrev pub isRefusal : Reply → Bool
-isRefusal Circulate = false
-isRefusal Acknowledge = false
-isRefusal (Accept c) = false
-isRefusal (Propose t) = false
-isRefusal Note = false
-isRefusal (Balance b) = false
-isRefusal (Refuse q) = true
+isRefusal r = eqb (letterOf r) 82
 
 -- "A slip answered A is acked by that seat."
 abbrev pub acked : Call → Option Transfer

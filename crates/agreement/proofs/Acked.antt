@@ -12,7 +12,7 @@ use Rattle.agreement.proofs.Places.{before, Order, same-event, earlier,
 use Rattle.agreement.proofs.Deeds.{acked-is, deed-found}
 use Rattle.agreement.proofs.Soundness.{opened-entry, Group, group, Sound, no-acks, recorded-read}
 use Rattle.agreement.proofs.Reachable.{sound, run-induction, past-calls}
-use Rattle.agreement.proofs.Counting.{bit-most}
+use Rattle.agreement.proofs.Quorums.{bit-most}
 use Rattle.agreement.proofs.StepLaws.{Puts, puts-mark, puts-ack, puts-accepted, puts-ruled, each-entry, answer-acknowledge, Recording}
 use Rattle.model.specs.Basics.{bit}
 use Rattle.model.specs.Records.{entryOf}

@@ -4,7 +4,7 @@ use Rattle.agreement.specs.Claims.{Demand3}
 use Rattle.agreement.proofs.Places.{obeys-before}
 use Rattle.agreement.proofs.Slated.{slated, told-slate}
 use Rattle.agreement.proofs.Agree.{accepted-agree}
-use Rattle.agreement.proofs.Counts.{counts-balances}
+use Rattle.agreement.proofs.EqualCounts.{counts-balances}
 
 pub demand3 : Demand3
 demand3 o bad run opens few at-honest obeys kept =

@@ -6,11 +6,11 @@ pub mod StepLaws
 pub mod Reachable
 pub mod SlateSettles
 pub mod Slated
-pub mod Counting
+pub mod Quorums
 pub mod Acked
 pub mod Votes
 pub mod Agree
-pub mod Counts
+pub mod EqualCounts
 pub mod Demand3
 pub mod Reasons
 pub mod Always

@@ -19,7 +19,7 @@ use Rattle.agreement.proofs.Deeds.{acked-is, Accepts, by-ack, by-ruling
 use Rattle.agreement.proofs.Soundness.{group, Sound, same-range}
 use Rattle.agreement.proofs.StepLaws.{Held, stays-held, now-held, BookedOrWaits, stays-settled, answer-acknowledge, AckRefused, unknown-seat, out-of-range, past-number, future-number, waits-already, repeated, conflicting, ack-refused}
 use Rattle.agreement.proofs.Reachable.{sound, stays}
-use Rattle.agreement.proofs.Counting.{count-lift, two-quorums, quorum-most}
+use Rattle.agreement.proofs.Quorums.{count-lift, two-quorums, quorum-most}
 use Rattle.agreement.proofs.Acked.{acked-by-found, acked-by-later, acked-by-once, all-from}
 use Rattle.agreement.proofs.Votes.{vote, Tally, votes-counted}
 use Rattle.agreement.proofs.Agree.{number-same, acks-quorum, proposed-majority, ruled-only}

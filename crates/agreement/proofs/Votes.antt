@@ -7,7 +7,7 @@ use lib.ListN.{length}
 use borrow.Author.Tests.{lt-ltb}
 use Rattle.agreement.specs.Types.{Seat, Account, Transfer, Slot, Empty, Full, AckSlot, Entry, Ledger, Opening, Message}
 use Rattle.agreement.specs.Runs.{Opens, countBelow, FewBad, honest, Run, Obeys}
-use Rattle.agreement.proofs.Counting.{count-places, count-more, two-quorums, quorum-most}
+use Rattle.agreement.proofs.Quorums.{count-places, count-more, two-quorums, quorum-most}
 use Rattle.agreement.proofs.Soundness.{group, Sound, accepted-entry, recorded-counted}
 use Rattle.agreement.proofs.StepLaws.{Recording, Proposes}
 use Rattle.agreement.proofs.Acked.{FromSenders, acked-by-once}

@@ -26,12 +26,13 @@ use Rattle.model.specs.Settling.{waiting, accept}
 use Rattle.model.specs.Calls.{step, effect, mustPropose, accepted, tallied, ListsUnlessRefused, Lists}
 use Rattle.model.proofs.Refusing.{refuses, not-refused}
 use Rattle.model.proofs.Listing.{list-count}
-use Rattle.ledger.specs.declared.results.Check.{Check}
-use Rattle.ledger.specs.declared.results.Check.the-variants.{Passed, Failed}
-use Rattle.ledger.specs.declared.results.Tally.{Tally}
-use Rattle.ledger.specs.Results.{checkOf, tallyOf}
+use Rattle.basics.specs.declared.results.Check.{Check}
+use Rattle.basics.specs.declared.results.Check.the-variants.{Passed, Failed}
+use Rattle.tally.specs.declared.Tally.{Tally}
+use Rattle.basics.specs.Results.{checkOf}
+use Rattle.tally.specs.Results.{tallyOf}
 use Rattle.ledger.specs.Promises.{Answered, codeIfAny, OpenedAs, listValues, ListedAs}
-use Rattle.ledger.proofs.ReadBack.{passed, failed}
+use Rattle.basics.proofs.ReadBack.{passed, failed}
 
 pub answered : (l : Ledger) (m : Message) (r : Answer) → Meets (step l m) r → Answered l m r
 answered l m r h = record { meets = h; told = (r .reply, h .0, refl, refl) }

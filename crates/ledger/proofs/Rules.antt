@@ -5,9 +5,9 @@ use mathlib.Core.List.{List, [], _∷_, _++_}
 use Rattle.model.specs.declared.Refusal.{Refusal}
 use Rattle.model.specs.Refusals.{Rule, firstRefusal}
 use Rattle.model.proofs.Sums.{impossible}
-use Rattle.ledger.specs.declared.results.Check.{Check}
-use Rattle.ledger.specs.declared.results.Check.the-variants.{Passed, Failed}
-use Rattle.ledger.specs.Results.{checkOf}
+use Rattle.basics.specs.declared.results.Check.{Check}
+use Rattle.basics.specs.declared.results.Check.the-variants.{Passed, Failed}
+use Rattle.basics.specs.Results.{checkOf}
 
 -- where none of the first rules holds, those after them decide
 pub passes : (rules more : List Rule) (q : Check) → Passed ≡ checkOf (firstRefusal rules) → q ≡ checkOf (firstRefusal more)

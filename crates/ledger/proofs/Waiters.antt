@@ -19,7 +19,7 @@ use Rattle.model.specs.Basics.{bit, count}
 use Rattle.model.specs.Records.{accountOf, entryAt, freshEntry}
 use Rattle.model.specs.Settling.{isWaiting}
 use Rattle.model.specs.Calls.{WaitingAccounts, ListsUnlessRefused}
-use Rattle.ledger.proofs.Loops.{there}
+use Rattle.basics.proofs.Loops.{there}
 
 abbrev waitsAt : List Entry → ℕ → Bool
 waitsAt es a = isWaiting (entryAt es (accountOf a))

@@ -1,8 +1,8 @@
 // The tests of each call, in document 01's order: the refusal of the first that holds.
-use crate::acks::is_against;
-use crate::acks::is_held;
-use crate::results::Check;
-use crate::transfers::same_number;
+use basics::results::Check;
+use basics::slots::is_against;
+use basics::slots::is_held;
+use basics::transfers::same_number;
 use model::Entry;
 use model::Ledger;
 use model::Refusal;
@@ -11,7 +11,7 @@ use model::Slot;
 use model::Transfer;
 ghost use mathlib.Core.Path.{_≡_};
 ghost use Rattle.model.specs.Refusals.{firstRefusal, outOfRange, waitsAlready, ackFrom, transferRules, requestRules, circulatedRules, ackRules};
-ghost use Rattle.ledger.specs.Results.{checkOf};
+ghost use Rattle.basics.specs.Results.{checkOf};
 
 fn is_out_of_range(l: Ledger, t: Transfer) -> bool
     ensures { λ r. ⌜ r ≡ outOfRange l t ⌝ }

@@ -1,23 +1,17 @@
 // The ledger's operations: the opening, the five kinds of message, and the waiting list. Each is total: it takes any value of its
 // types, and its contract says what it replies and leaves, by document 01's definitions. What a function promises is a record of
 // specs/Promises.antt.
-use crate::acks::is_enough;
-use crate::acks::most_acked;
-use crate::acks::must_propose;
-use crate::acks::tally;
 use crate::checks::ack_check;
 use crate::checks::circulated_check;
 use crate::checks::request_check;
 use crate::checks::transfer_check;
-use crate::entries::entry_of;
-use crate::entries::with_ack;
-use crate::entries::with_acked;
-use crate::entries::with_entry;
-use crate::entries::with_proposed;
 use crate::listing::list;
-use crate::openings::open_page;
-use crate::results::Check;
-use crate::settling::accept_into;
+use basics::entries::entry_of;
+use basics::entries::with_ack;
+use basics::entries::with_acked;
+use basics::entries::with_entry;
+use basics::entries::with_proposed;
+use basics::results::Check;
 use model::Account;
 use model::Answer;
 use model::Entry;
@@ -30,6 +24,12 @@ use model::Refusal;
 use model::Reply;
 use model::Seat;
 use model::Transfer;
+use opening::open_page;
+use settling::accept_into;
+use tally::is_enough;
+use tally::most_acked;
+use tally::must_propose;
+use tally::tally_of;
 ghost use mathlib.Core.Path.{_≡_};
 ghost use Rattle.model.specs.declared.Message.the-variants.{Request, Circulated, Ack, Decision, Inquiry};
 ghost use Rattle.model.specs.Replies.{Meets};
@@ -37,14 +37,8 @@ ghost use Rattle.model.specs.Settling.{accept};
 ghost use Rattle.model.specs.Calls.{tallied, accepted};
 ghost use Rattle.ledger.specs.Promises.{Answered, OpenedAs, ListedAs};
 
-mod acks;
 mod checks;
-mod entries;
 mod listing;
-mod openings;
-mod results;
-mod settling;
-mod transfers;
 
 // The opening: a ledger of the page, or the refusal and a ledger that refuses everything.
 pub fn open(page: Opening) -> OpenAnswer
@@ -172,7 +166,7 @@ fn by_tally(l: Ledger, e: Entry, t: Transfer) -> Answer
     ensures { λ r. ⌜ Meets (tallied l e t) r ⌝ }
 {
     let acks = e.acks;
-    let y = tally(t, acks);
+    let y = tally_of(t, acks);
     if is_enough(l.seats, l.faults, y.equal) {
         return by_accepting(l, e, t);
     }

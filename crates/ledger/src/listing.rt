@@ -1,5 +1,5 @@
 // The waiting list.
-use crate::acks::is_full;
+use basics::slots::is_full;
 use model::Ledger;
 use model::ListReply;
 use model::Refusal;

@@ -6,8 +6,8 @@ use borrow.Author.Needs.{needs}
 use Rattle.ledger.proofs.by_tally.Statement.{statement}
 use Rattle.ledger.proofs.by_tally.Tie as tie
 
-tally-requires : tie.Need-tally-requires
-tally-requires c κs = search needs
+tally-of-requires : tie.Need-tally-of-requires
+tally-of-requires c κs = search needs
 
 is-enough-requires : tie.Need-is-enough-requires
 is-enough-requires c κs = search needs
@@ -16,7 +16,7 @@ by-accepting-requires : tie.Need-by-accepting-requires
 by-accepting-requires c κs = search needs
 
 returns : tie.Need-returns
-returns c = tally-accepts _ _ _ _ (c .before .before .before .tally .ensures) _ (c .before .before .is-enough .ensures) _ (c .before .if1 .taken) (c .by-accepting .ensures)
+returns c = tally-accepts _ _ _ _ (c .before .before .before .tally-of .ensures) _ (c .before .before .is-enough .ensures) _ (c .before .if1 .taken) (c .by-accepting .ensures)
 
 must-propose-requires : tie.Need-must-propose-requires
 must-propose-requires c κs = search needs
@@ -33,7 +33,7 @@ with-entry-requires c κs = search needs
 returns-2 : tie.Need-returns-2
 returns-2 c =
     let a = c .before .before .before .before .before .before .before .before .before .args in
-    tally-proposes (a .l) (a .e) (a .t) _ (c .before .before .before .before .before .before .before .tally .ensures) _ (c .before .before .before .before .before .before .is-enough .ensures) (c .before .before .before .before .before .if1 .left) _ (c .before .before .before .before .must-propose .ensures) _ _
+    tally-proposes (a .l) (a .e) (a .t) _ (c .before .before .before .before .before .before .before .tally-of .ensures) _ (c .before .before .before .before .before .before .is-enough .ensures) (c .before .before .before .before .before .if1 .left) _ (c .before .before .before .before .must-propose .ensures) _ _
     (c .before .before .before .if2 .taken)
     refl
     (c .before .before .most-acked .ensures)
@@ -45,7 +45,7 @@ with-entry-requires-2 c κs = search needs
 returns-3 : tie.Need-returns-3
 returns-3 c =
     let a = c .before .before .before .before .before .before .before .args in
-    tally-notes (a .l) (a .e) (a .t) _ (c .before .before .before .before .before .tally .ensures) _ (c .before .before .before .before .is-enough .ensures) (c .before .before .before .if1 .left) _ (c .before .before .must-propose .ensures) _
+    tally-notes (a .l) (a .e) (a .t) _ (c .before .before .before .before .before .tally-of .ensures) _ (c .before .before .before .before .is-enough .ensures) (c .before .before .before .if1 .left) _ (c .before .before .must-propose .ensures) _
     (c .before .if2 .left)
     refl
     (c .with-entry2 .ensures)
@@ -54,7 +54,7 @@ pub by-tally-spec : {M : Type 1} → statement M
 by-tally-spec =
     tie.close
     (tie.spec
-    tally-requires
+    tally-of-requires
     is-enough-requires
     by-accepting-requires
     returns

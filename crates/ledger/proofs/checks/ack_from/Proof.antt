@@ -2,7 +2,7 @@
 use native.Mathlib.Omega.{arith}
 use mathlib.Core.Path.{refl}
 use lib.ListN.{List·getD-eq-default}
-use Rattle.ledger.proofs.Typed.{acks-length}
+use Rattle.basics.proofs.Typed.{acks-length}
 use borrow.Author.Needs.{needs}
 use Rattle.ledger.proofs.checks.ack_from.Statement.{statement}
 use Rattle.ledger.proofs.checks.ack_from.Tie as tie

@@ -6,7 +6,7 @@ use mathlib.Core.Logic.{⊎-elim}
 use lib.ListN.{length}
 use borrow.Author.Needs.{needs}
 use borrow.Author.Tests.{lt-ltb, le-ltb}
-use Rattle.ledger.proofs.Typed.{entries-length}
+use Rattle.basics.proofs.Typed.{entries-length}
 use Rattle.ledger.proofs.Waiters.{ListedBelow, listed-none, listed-same, listed-more, listed-all}
 use Rattle.ledger.proofs.listing.list.Statement.{statement}
 use Rattle.ledger.proofs.listing.list.Tie as tie

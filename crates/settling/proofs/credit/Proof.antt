@@ -1,0 +1,17 @@
+-- The wrapping sum is the sum modulo 2^32.
+use mathlib.Core.Path.{_∙_}
+use borrow.Author.Needs.{needs}
+use Rattle.settling.proofs.credit.Statement.{statement}
+use Rattle.settling.proofs.credit.Tie as tie
+
+wrapping-add-u32-requires : tie.Need-wrapping-add-u32-requires
+wrapping-add-u32-requires c κs = search needs
+
+with-balance-requires : tie.Need-with-balance-requires
+with-balance-requires c κs = search needs
+
+returns : tie.Need-returns
+returns c = rw (← c .before .wrapping-add-u32 .ensures) (c .with-balance .ensures)
+
+pub credit-spec : {M : Type 1} → statement M
+credit-spec = tie.close (tie.spec wrapping-add-u32-requires with-balance-requires returns)

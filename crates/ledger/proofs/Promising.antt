@@ -23,7 +23,7 @@ use Rattle.model.specs.Refusals.{Rule, firstRefusal, rulesOf, listRules}
 use Rattle.model.specs.Replies.{valuesOfOpen, valuesOfList, Meets}
 use Rattle.model.specs.Openings.{openRules, openAnswer, openLedger}
 use Rattle.model.specs.Settling.{waiting, accept}
-use Rattle.model.specs.Calls.{step, effect, mustPropose, accepted, tallied, ListsUnlessRefused, Lists}
+use Rattle.model.specs.Calls.{replies, step, effect, mustPropose, accepted, tallied, ListsUnlessRefused, Lists}
 use Rattle.model.proofs.Refusing.{refuses, not-refused}
 use Rattle.model.proofs.Listing.{list-count}
 use Rattle.basics.specs.declared.results.Check.{Check}
@@ -52,8 +52,8 @@ module _
     tried : q ≡ checkOf (firstRefusal (rulesOf l m))
     tried = q-is ∙ ap (λ rs. checkOf (firstRefusal rs)) (ap rules e-is ∙ sym rules-are)
 
-    pub refused : (r : Refusal) → q ≡ Failed r → Answered l m (record { reply = Refuse r; ledger = l })
-    refused r e = answered l m _ (rw (refuses l m r (failed _ r (sym tried ∙ e))) (refl, refl))
+    pub refused : (r : Refusal) (x : Answer) → q ≡ Failed r → Meets (replies (Refuse r) l) x → Answered l m x
+    refused r x e h = answered l m x (rw (refuses l m r (failed _ r (sym tried ∙ e))) h)
 
     pub served : (r : Answer) → q ≡ Passed → Meets (effect l m) r → Answered l m r
     served r e h = answered l m r (rw (not-refused l m (passed _ (sym tried ∙ e))) h)

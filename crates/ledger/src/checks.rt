@@ -10,7 +10,7 @@ use model::Seat;
 use model::Slot;
 use model::Transfer;
 ghost use mathlib.Core.Path.{_≡_};
-ghost use Rattle.model.specs.Refusals.{firstRefusal, outOfRange, waitsAlready, ackFrom, transferRules, requestRules, circulatedRules, ackRules};
+ghost use Rattle.model.specs.Refusals.{firstRefusal, outOfRange, aboveBalance, waitsAlready, ackFrom, transferRules, requestRules, circulatedRules, ackRules};
 ghost use Rattle.basics.specs.Results.{checkOf};
 
 fn is_out_of_range(l: Ledger, t: Transfer) -> bool
@@ -29,6 +29,12 @@ fn is_out_of_range(l: Ledger, t: Transfer) -> bool
         return true;
     }
     l.total < t.value
+}
+
+fn lacks_funds(e: Entry, t: Transfer) -> bool
+    ensures { λ r. ⌜ r ≡ aboveBalance e t ⌝ }
+{
+    e.balance < t.value
 }
 
 fn waits(s: Slot, t: Transfer) -> bool
@@ -79,7 +85,7 @@ pub fn request_check(l: Ledger, e: Entry, t: Transfer) -> Check
     match transfer_check(l, e, t) {
         Check::Failed(r) => Check::Failed(r),
         Check::Passed => {
-            if e.balance < t.value {
+            if lacks_funds(e, t) {
                 return Check::Failed(Refusal::InsufficientFunds);
             }
             Check::Passed
@@ -96,7 +102,7 @@ pub fn circulated_check(l: Ledger, e: Entry, t: Transfer) -> Check
             if e.acked {
                 return Check::Failed(Refusal::AlreadyAcked);
             }
-            if e.balance < t.value {
+            if lacks_funds(e, t) {
                 return Check::Failed(Refusal::InsufficientFunds);
             }
             Check::Passed

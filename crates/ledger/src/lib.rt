@@ -32,9 +32,10 @@ use tally::must_propose;
 use tally::tally_of;
 ghost use mathlib.Core.Path.{_≡_};
 ghost use Rattle.model.specs.declared.Message.the-variants.{Request, Circulated, Ack, Decision, Inquiry};
+ghost use Rattle.model.specs.declared.Reply.the-variants.{Refuse};
 ghost use Rattle.model.specs.Replies.{Meets};
 ghost use Rattle.model.specs.Settling.{accept};
-ghost use Rattle.model.specs.Calls.{tallied, accepted};
+ghost use Rattle.model.specs.Calls.{replies, tallied, accepted};
 ghost use Rattle.ledger.specs.Promises.{Answered, OpenedAs, ListedAs};
 
 mod checks;
@@ -53,10 +54,7 @@ pub fn request(l: Ledger, t: Transfer) -> Answer
 {
     let e = entry_of(l, t.account);
     match request_check(l, e, t) {
-        Check::Failed(r) => Answer {
-            reply: Reply::Refuse(r),
-            ledger: l,
-        },
+        Check::Failed(r) => refuse(l, r),
         Check::Passed => Answer {
             reply: Reply::Circulate,
             ledger: l,
@@ -70,10 +68,7 @@ pub fn acknowledge(l: Ledger, t: Transfer) -> Answer
 {
     let e = entry_of(l, t.account);
     match circulated_check(l, e, t) {
-        Check::Failed(r) => Answer {
-            reply: Reply::Refuse(r),
-            ledger: l,
-        },
+        Check::Failed(r) => refuse(l, r),
         Check::Passed => Answer {
             reply: Reply::Acknowledge,
             ledger: with_entry(l, t.account, with_acked(e)),
@@ -87,10 +82,7 @@ pub fn record_ack(l: Ledger, s: Seat, t: Transfer) -> Answer
 {
     let e = entry_of(l, t.account);
     match ack_check(l, e, s, t) {
-        Check::Failed(r) => Answer {
-            reply: Reply::Refuse(r),
-            ledger: l,
-        },
+        Check::Failed(r) => refuse(l, r),
         Check::Passed => by_tally(l, with_ack(e, s, t), t),
     }
 }
@@ -101,10 +93,7 @@ pub fn decide(l: Ledger, t: Transfer) -> Answer
 {
     let e = entry_of(l, t.account);
     match transfer_check(l, e, t) {
-        Check::Failed(r) => Answer {
-            reply: Reply::Refuse(r),
-            ledger: l,
-        },
+        Check::Failed(r) => refuse(l, r),
         Check::Passed => by_accepting(l, e, t),
     }
 }
@@ -114,10 +103,7 @@ pub fn inquire(l: Ledger, a: Account) -> Answer
     ensures { λ r. ⌜ Answered l (Inquiry a) r ⌝ }
 {
     if l.accounts <= a.0 {
-        return Answer {
-            reply: Reply::Refuse(Refusal::OutOfRange),
-            ledger: l,
-        };
+        return refuse(l, Refusal::OutOfRange);
     }
     let e = entry_of(l, a);
     Answer {
@@ -144,6 +130,16 @@ pub fn list_waiting(l: Ledger, buffer: &mut [u8]) -> ListReply
     ensures { λ r. ⌜ ListedAs l (now (buffer .entry)) r (now (buffer .exit)) ⌝ }
 {
     list(l, buffer)
+}
+
+// A refusal replies its code and changes nothing.
+fn refuse(l: Ledger, r: Refusal) -> Answer
+    ensures { λ a. ⌜ Meets (replies (Refuse r) l) a ⌝ }
+{
+    Answer {
+        reply: Reply::Refuse(r),
+        ledger: l,
+    }
 }
 
 // The transfer waits in the account's entry as given, settling begins, and K carries how many transfers it applied.

@@ -18,6 +18,9 @@ circulated-check-requires c κs = search needs
 enum-known-r : tie.Need-enum-known-r
 enum-known-r c = search needs
 
+refuse-requires : tie.Need-refuse-requires
+refuse-requires c κs = search needs
+
 enum-told : tie.Need-enum-told
 enum-told c = search needs
 
@@ -30,8 +33,8 @@ with-entry-requires c κs = search needs
 returns : tie.Need-returns
 unfolding rulesOf
 returns c =
-    let a = c .before .before .before .before .before .args in
-    refused (a .l) (Circulated (a .t)) (λ e. circulatedRules (a .l) e (a .t)) (a .t .account) refl _ (c .before .before .before .before .entry-of .ensures) _ (c .before .before .before .circulated-check .ensures) _ (c .before .r .given .1)
+    let a = c .before .before .before .before .before .before .args in
+    refused (a .l) (Circulated (a .t)) (λ e. circulatedRules (a .l) e (a .t)) (a .t .account) refl _ (c .before .before .before .before .before .entry-of .ensures) _ (c .before .before .before .before .circulated-check .ensures) _ _ (c .before .before .r .given .1) (c .refuse .ensures)
 
 returns-2 : tie.Need-returns-2
 unfolding rulesOf effect
@@ -46,6 +49,7 @@ acknowledge-spec =
     entry-of-requires
     circulated-check-requires
     enum-known-r
+    refuse-requires
     enum-told
     with-acked-requires
     with-entry-requires

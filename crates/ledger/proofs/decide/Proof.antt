@@ -19,6 +19,9 @@ transfer-check-requires c κs = search needs
 enum-known-r : tie.Need-enum-known-r
 enum-known-r c = search needs
 
+refuse-requires : tie.Need-refuse-requires
+refuse-requires c κs = search needs
+
 enum-told : tie.Need-enum-told
 enum-told c = search needs
 
@@ -28,8 +31,8 @@ by-accepting-requires c κs = search needs
 returns : tie.Need-returns
 unfolding rulesOf
 returns c =
-    let a = c .before .before .before .before .before .args in
-    refused (a .l) (Decision (a .t)) (λ e. decisionRules (a .l) e (a .t)) (a .t .account) refl _ (c .before .before .before .before .entry-of .ensures) _ (c .before .before .before .transfer-check .ensures) _ (c .before .r .given .1)
+    let a = c .before .before .before .before .before .before .args in
+    refused (a .l) (Decision (a .t)) (λ e. decisionRules (a .l) e (a .t)) (a .t .account) refl _ (c .before .before .before .before .before .entry-of .ensures) _ (c .before .before .before .before .transfer-check .ensures) _ _ (c .before .before .r .given .1) (c .refuse .ensures)
 
 returns-2 : tie.Need-returns-2
 unfolding rulesOf effect
@@ -44,6 +47,7 @@ decide-spec =
     entry-of-requires
     transfer-check-requires
     enum-known-r
+    refuse-requires
     enum-told
     by-accepting-requires
     returns

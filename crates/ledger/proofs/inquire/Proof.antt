@@ -11,11 +11,14 @@ use borrow.Author.Needs.{needs}
 use Rattle.ledger.proofs.inquire.Statement.{statement}
 use Rattle.ledger.proofs.inquire.Tie as tie
 
+refuse-requires : tie.Need-refuse-requires
+refuse-requires c κs = search needs
+
 returns : tie.Need-returns
 unfolding rulesOf effect step
 returns c =
-    let a = c .before .before .before .args in
-    answered (a .l) (Inquiry (a .a)) _ (rw (le-leb _ _ (c .if1 .taken)) (refl, refl))
+    let a = c .before .before .before .before .args in
+    answered (a .l) (Inquiry (a .a)) _ (rw (le-leb _ _ (c .before .if1 .taken)) (c .refuse .ensures))
 
 entry-of-requires : tie.Need-entry-of-requires
 entry-of-requires c κs = search needs
@@ -28,4 +31,4 @@ returns-2 c =
     (rw (lt-leb _ _ (c .before .if1 .left)) (ap (λ (e : Entry). Balance (e .balance)) (c .entry-of .ensures), refl))
 
 pub inquire-spec : {M : Type 1} → statement M
-inquire-spec = tie.close (tie.spec returns entry-of-requires returns-2)
+inquire-spec = tie.close (tie.spec refuse-requires returns entry-of-requires returns-2)

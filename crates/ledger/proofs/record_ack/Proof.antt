@@ -19,6 +19,9 @@ ack-check-requires c κs = search needs
 enum-known-r : tie.Need-enum-known-r
 enum-known-r c = search needs
 
+refuse-requires : tie.Need-refuse-requires
+refuse-requires c κs = search needs
+
 enum-told : tie.Need-enum-told
 enum-told c = search needs
 
@@ -31,8 +34,8 @@ by-tally-requires c κs = search needs
 returns : tie.Need-returns
 unfolding rulesOf
 returns c =
-    let a = c .before .before .before .before .before .args in
-    refused (a .l) (Ack (a .s) (a .t)) (λ e. ackRules (a .l) e (a .s) (a .t)) (a .t .account) refl _ (c .before .before .before .before .entry-of .ensures) _ (c .before .before .before .ack-check .ensures) _ (c .before .r .given .1)
+    let a = c .before .before .before .before .before .before .args in
+    refused (a .l) (Ack (a .s) (a .t)) (λ e. ackRules (a .l) e (a .s) (a .t)) (a .t .account) refl _ (c .before .before .before .before .before .entry-of .ensures) _ (c .before .before .before .before .ack-check .ensures) _ _ (c .before .before .r .given .1) (c .refuse .ensures)
 
 returns-2 : tie.Need-returns-2
 unfolding rulesOf effect
@@ -47,6 +50,7 @@ record-ack-spec =
     entry-of-requires
     ack-check-requires
     enum-known-r
+    refuse-requires
     enum-told
     with-ack-requires
     by-tally-requires

@@ -17,14 +17,17 @@ request-check-requires c κs = search needs
 enum-known-r : tie.Need-enum-known-r
 enum-known-r c = search needs
 
+refuse-requires : tie.Need-refuse-requires
+refuse-requires c κs = search needs
+
 enum-told : tie.Need-enum-told
 enum-told c = search needs
 
 returns : tie.Need-returns
 unfolding rulesOf
 returns c =
-    let a = c .before .before .before .before .before .args in
-    refused (a .l) (Request (a .t)) (λ e. requestRules (a .l) e (a .t)) (a .t .account) refl _ (c .before .before .before .before .entry-of .ensures) _ (c .before .before .before .request-check .ensures) _ (c .before .r .given .1)
+    let a = c .before .before .before .before .before .before .args in
+    refused (a .l) (Request (a .t)) (λ e. requestRules (a .l) e (a .t)) (a .t .account) refl _ (c .before .before .before .before .before .entry-of .ensures) _ (c .before .before .before .before .request-check .ensures) _ _ (c .before .before .r .given .1) (c .refuse .ensures)
 
 returns-2 : tie.Need-returns-2
 unfolding rulesOf effect
@@ -35,4 +38,11 @@ returns-2 c =
 pub request-spec : {M : Type 1} → statement M
 request-spec =
     tie.close
-    (tie.spec entry-of-requires request-check-requires enum-known-r enum-told returns returns-2)
+    (tie.spec
+    entry-of-requires
+    request-check-requires
+    enum-known-r
+    refuse-requires
+    enum-told
+    returns
+    returns-2)

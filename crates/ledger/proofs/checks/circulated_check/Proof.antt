@@ -1,7 +1,6 @@
 -- What every transfer meets comes first; then the mark, then the funds.
 use mathlib.Core.Path.{sym, _∙_}
 use mathlib.Core.List.{List, [], _∷_}
-use borrow.Author.Tests.{lt-ltb, le-ltb}
 use Rattle.model.specs.declared.Entry.{Entry}
 use Rattle.model.specs.declared.Transfer.{Transfer}
 use Rattle.model.specs.declared.Refusal.the-variants.{AlreadyAcked, InsufficientFunds}
@@ -30,11 +29,15 @@ returns c =
     let passed = sym (c .before .enum-told .given .1) ∙ c .before .before .before .transfer-check .ensures in
     passes (transferRules (a .l) (a .e) (a .t)) (after (a .e) (a .t)) _ passed (rw (c .if1 .taken))
 
+lacks-funds-requires : tie.Need-lacks-funds-requires
+lacks-funds-requires c κs = search needs
+
 returns-2 : tie.Need-returns-2
 returns-2 c =
-    let a = c .before .before .before .before .before .before .before .args in
-    let passed = sym (c .before .before .before .before .enum-told .given .1) ∙ c .before .before .before .before .before .before .transfer-check .ensures in
-    passes (transferRules (a .l) (a .e) (a .t)) (after (a .e) (a .t)) _ passed (rw (c .before .before .before .if1 .left, lt-ltb _ _ (c .if2 .taken)))
+    let a = c .before .before .before .before .before .before .args in
+    let passed = sym (c .before .before .before .enum-told .given .1) ∙ c .before .before .before .before .before .transfer-check .ensures in
+    passes (transferRules (a .l) (a .e) (a .t)) (after (a .e) (a .t)) _ passed
+    (rw (c .before .before .if1 .left, ← c .before .lacks-funds .ensures, c .if2 .taken))
 
 returns-3 : tie.Need-returns-3
 returns-3 c =
@@ -44,11 +47,12 @@ returns-3 c =
 
 returns-4 : tie.Need-returns-4
 returns-4 c =
-    let a = c .before .before .before .before .before .before .before .args in
-    let passed = sym (c .before .before .before .before .enum-told .given .1) ∙ c .before .before .before .before .before .before .transfer-check .ensures in
-    passes (transferRules (a .l) (a .e) (a .t)) (after (a .e) (a .t)) _ passed (rw (c .before .before .before .if1 .left, le-ltb _ _ (c .if2 .left)))
+    let a = c .before .before .before .before .before .before .args in
+    let passed = sym (c .before .before .before .enum-told .given .1) ∙ c .before .before .before .before .before .transfer-check .ensures in
+    passes (transferRules (a .l) (a .e) (a .t)) (after (a .e) (a .t)) _ passed
+    (rw (c .before .before .if1 .left, ← c .before .lacks-funds .ensures, c .if2 .left))
 
 pub circulated-check-spec : {M : Type 1} → statement M
 circulated-check-spec =
     tie.close
-    (tie.spec transfer-check-requires enum-known-r enum-told returns returns-2 returns-3 returns-4)
+    (tie.spec transfer-check-requires enum-known-r enum-told returns lacks-funds-requires returns-2 returns-3 returns-4)

@@ -1,7 +1,6 @@
 -- What every transfer meets comes first; then the funds.
 use mathlib.Core.Path.{sym, _∙_}
 use mathlib.Core.List.{List, [], _∷_}
-use borrow.Author.Tests.{lt-ltb, le-ltb}
 use Rattle.model.specs.declared.Entry.{Entry}
 use Rattle.model.specs.declared.Transfer.{Transfer}
 use Rattle.model.specs.declared.Refusal.the-variants.{InsufficientFunds}
@@ -24,11 +23,14 @@ enum-told c = search needs
 abbrev after : Entry → Transfer → List Rule
 after e t = (aboveBalance e t, InsufficientFunds) ∷ []
 
+lacks-funds-requires : tie.Need-lacks-funds-requires
+lacks-funds-requires c κs = search needs
+
 returns : tie.Need-returns
 returns c =
-    let a = c .before .before .before .before .before .before .args in
-    let passed = sym (c .before .before .before .enum-told .given .1) ∙ c .before .before .before .before .before .transfer-check .ensures in
-    passes (transferRules (a .l) (a .e) (a .t)) (after (a .e) (a .t)) _ passed (rw (lt-ltb _ _ (c .if1 .taken)))
+    let a = c .before .before .before .before .before .args in
+    let passed = sym (c .before .before .enum-told .given .1) ∙ c .before .before .before .before .transfer-check .ensures in
+    passes (transferRules (a .l) (a .e) (a .t)) (after (a .e) (a .t)) _ passed (rw (← c .before .lacks-funds .ensures, c .if1 .taken))
 
 returns-2 : tie.Need-returns-2
 returns-2 c =
@@ -38,10 +40,10 @@ returns-2 c =
 
 returns-3 : tie.Need-returns-3
 returns-3 c =
-    let a = c .before .before .before .before .before .before .args in
-    let passed = sym (c .before .before .before .enum-told .given .1) ∙ c .before .before .before .before .before .transfer-check .ensures in
-    passes (transferRules (a .l) (a .e) (a .t)) (after (a .e) (a .t)) _ passed (rw (le-ltb _ _ (c .if1 .left)))
+    let a = c .before .before .before .before .before .args in
+    let passed = sym (c .before .before .enum-told .given .1) ∙ c .before .before .before .before .transfer-check .ensures in
+    passes (transferRules (a .l) (a .e) (a .t)) (after (a .e) (a .t)) _ passed (rw (← c .before .lacks-funds .ensures, c .if1 .left))
 
 pub request-check-spec : {M : Type 1} → statement M
 request-check-spec =
-    tie.close (tie.spec transfer-check-requires enum-known-r enum-told returns returns-2 returns-3)
+    tie.close (tie.spec transfer-check-requires enum-known-r enum-told lacks-funds-requires returns returns-2 returns-3)

@@ -29,8 +29,5 @@ pub fn is_against(t: Transfer, s: Slot) -> bool
 pub fn is_full(s: Slot) -> bool
     ensures { λ r. ⌜ r ≡ isFull s ⌝ }
 {
-    match s {
-        Slot::Empty => false,
-        Slot::Full(_) => true,
-    }
+    if let Slot::Full(_) = s { true } else { false }
 }

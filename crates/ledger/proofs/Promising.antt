@@ -18,7 +18,7 @@ use Rattle.model.specs.declared.OpenAnswer.{OpenAnswer}
 use Rattle.model.specs.declared.ListReply.{ListReply}
 use Rattle.model.specs.declared.ListReply.the-variants.{Listed}
 use Rattle.model.specs.Records.{freshLedger, entryOf, withEntry, withProposed}
-use Rattle.model.specs.Acks.{enough, acksFor, acksRecorded, hasMost}
+use Rattle.model.specs.Acks.{enough, acksFor, hasMost}
 use Rattle.model.specs.Refusals.{Rule, firstRefusal, rulesOf, listRules}
 use Rattle.model.specs.Replies.{valuesOfOpen, valuesOfList, Meets}
 use Rattle.model.specs.Openings.{openRules, openAnswer, openLedger}
@@ -30,7 +30,7 @@ use Rattle.basics.specs.declared.results.Check.{Check}
 use Rattle.basics.specs.declared.results.Check.the-variants.{Passed, Failed}
 use Rattle.tally.specs.declared.Tally.{Tally}
 use Rattle.basics.specs.Results.{checkOf}
-use Rattle.tally.specs.Results.{tallyOf}
+use Rattle.tally.specs.Results.{tallyOf, proposesWith}
 use Rattle.ledger.specs.Promises.{Answered, codeIfAny, OpenedAs, listValues, ListedAs}
 use Rattle.basics.proofs.ReadBack.{passed, failed}
 
@@ -66,9 +66,9 @@ module _ (l : Ledger) (e : Entry) (t : Transfer) (y : Tally) (y-is : y ≡ tally
   pub tally-accepts : (r : Answer) → k ≡ true → Meets (accepted l (accept (l .entries) e t)) r → Meets (tallied l e t) r
   tally-accepts r holds h = rw (sym accepts-is ∙ holds) h
 
-  module _ (few : k ≡ false) (p : Bool) (p-is : y .recorded ≡ acksRecorded (e .acks) → p ≡ mustPropose l e) where
+  module _ (few : k ≡ false) (p : Bool) (p-is : p ≡ proposesWith (l .seats) (l .faults) (y .recorded) e) where
     proposes-is : p ≡ mustPropose l e
-    proposes-is = p-is (ap (λ (z : Tally). z .recorded) y-is)
+    proposes-is = p-is ∙ ap (λ (z : Tally). proposesWith (l .seats) (l .faults) (z .recorded) e) y-is
 
     pub tally-proposes : (r : Answer) (u : Transfer) → p ≡ true → r .reply ≡ Propose u → hasMost (e .acks) u ≡ true
         → r .ledger ≡ withEntry l (t .account) (withProposed e) → Meets (tallied l e t) r

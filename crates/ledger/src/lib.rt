@@ -166,7 +166,7 @@ fn by_tally(l: Ledger, e: Entry, t: Transfer) -> Answer
     if is_enough(l.seats, l.faults, y.equal) {
         return by_accepting(l, e, t);
     }
-    if must_propose(l, e, y.recorded) {
+    if must_propose(l.seats, l.faults, y.recorded, e) {
         return Answer {
             reply: Reply::Propose(most_acked(acks, t)),
             ledger: with_entry(l, t.account, with_proposed(e)),

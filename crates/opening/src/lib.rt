@@ -58,7 +58,7 @@ fn sum(balances: [u32; 32]) -> u64
     all
 }
 
-pub fn open_check(page: Opening, total: u64) -> Check
+fn open_check(page: Opening, total: u64) -> Check
     ensures { λ r. ⌜ (total ≡ sumOf (λ b. b) (page .balances) → r ≡ checkOf (firstRefusal (openRules page))) ⌝ }
 {
     if is_bad_group(page) {

@@ -4,16 +4,14 @@ use basics::slots::is_full;
 use basics::slots::is_held;
 use model::AckSlot;
 use model::Entry;
-use model::Ledger;
 use model::Slot;
 use model::Transfer;
 ghost use mathlib.Core.Path.{_≡_};
 ghost use mathlib.Core.Bool.{true};
 ghost use Prim.Native.Nat.{_+_, _<_, _≤_};
 ghost use Rattle.model.specs.Basics.{bit, any};
-ghost use Rattle.model.specs.Acks.{conflicts, acksFor, acksRecorded, enough, conflictsWithAny, twoConflict, noMoreThan, hasMost};
-ghost use Rattle.model.specs.Calls.{mustPropose};
-ghost use Rattle.tally.specs.Results.{tallyOf, counted};
+ghost use Rattle.model.specs.Acks.{conflicts, acksFor, enough, conflictsWithAny, twoConflict, noMoreThan, hasMost};
+ghost use Rattle.tally.specs.Results.{tallyOf, counted, proposesWith};
 
 // The running tally of one number, for one transfer.
 pub struct Tally {
@@ -93,7 +91,7 @@ fn slot_contested(acks: [AckSlot; 16], s: Slot) -> bool
 }
 
 // Two of the recorded acks conflict.
-pub fn two_conflict(acks: [AckSlot; 16]) -> bool
+fn two_conflict(acks: [AckSlot; 16]) -> bool
     ensures { λ r. ⌜ r ≡ twoConflict acks ⌝ }
 {
     let mut i: usize = 0;
@@ -137,17 +135,15 @@ pub fn most_acked(acks: [AckSlot; 16], first: Transfer) -> Transfer
     best
 }
 
-// At least n - f acks are recorded, two conflict, and nothing was put forward for this number.
-pub fn must_propose(l: Ledger, e: Entry, recorded: u8) -> bool
-    ensures { λ r. ⌜ (recorded ≡ acksRecorded (e .acks) → r ≡ mustPropose l e) ⌝ }
+// At least n - f acks are recorded, two conflict, and nothing was put forward for this number. The dear test comes last.
+pub fn must_propose(seats: u8, faults: u8, recorded: u8, e: Entry) -> bool
+    ensures { λ r. ⌜ r ≡ proposesWith seats faults recorded e ⌝ }
 {
-    let n = l.seats;
-    let f = l.faults;
     let acks = e.acks;
     if e.proposed {
         return false;
     }
-    if (recorded as u32) + (f as u32) < (n as u32) {
+    if (recorded as u32) + (faults as u32) < (seats as u32) {
         return false;
     }
     two_conflict(acks)

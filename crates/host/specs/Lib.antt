@@ -1,0 +1,2 @@
+-- What the exported functions promise beside the model's definitions.
+pub mod Quorums

@@ -1,0 +1,45 @@
+// What a host in Rust or C calls: the exported functions of the static library. Each takes any numbers and any bytes, and its
+// contract fixes the result by document 01's definitions.
+use crate::pages::page_of;
+use basics::codes::code_of;
+use ledger::open;
+use model::OpenReply;
+use tally::is_enough;
+ghost use mathlib.Core.Path.{_≡_};
+ghost use Rattle.model.specs.Acks.{enough};
+ghost use Rattle.model.specs.Bundles.{openingOf};
+ghost use Rattle.model.specs.Openings.{openRules};
+ghost use Rattle.model.specs.Refusals.{firstRefusal};
+ghost use Rattle.ledger.specs.Promises.{codeIfAny};
+ghost use Rattle.host.specs.Quorums.{Fewest};
+
+mod pages;
+
+// The code that the opening of a page is refused by, 0 where it opens. The page is a bundle's body: n, f, k, 32 balances.
+#[no_mangle]
+pub extern "C" fn ledger_opening_code(page: &[u8]) -> u8
+    ensures { λ r. ⌜ r ≡ codeIfAny (firstRefusal (openRules (openingOf (now (page .entry))))) ⌝ }
+{
+    let answer = open(page_of(page));
+    let reply = answer.reply;
+    match reply {
+        OpenReply::Opened => 0,
+        OpenReply::OpenRefused(r) => code_of(r),
+    }
+}
+
+// How many equal acks accept a transfer: the fewest of which twice as many exceed n + 3f.
+#[no_mangle]
+pub extern "C" fn ledger_acks_needed(seats: u8, faults: u8) -> u16
+    ensures { λ r. ⌜ Fewest seats faults r ⌝ }
+{
+    ((seats as u16) + 3 * (faults as u16)) / 2 + 1
+}
+
+// So many equal acks accept a transfer.
+#[no_mangle]
+pub extern "C" fn ledger_is_enough(seats: u8, faults: u8, acks: u8) -> bool
+    ensures { λ r. ⌜ r ≡ enough seats faults acks ⌝ }
+{
+    is_enough(seats, faults, acks)
+}

@@ -1,0 +1,115 @@
+// Calls the exported functions of target/staticlib/libhost.a from Rust, and holds them to document 01's known answers.
+
+extern "C" {
+    // A byte slice of Rattle is passed as its pointer, then its length.
+    fn ledger_opening_code(page: *const u8, length: usize) -> u8;
+    fn ledger_acks_needed(seats: u8, faults: u8) -> u16;
+    fn ledger_is_enough(seats: u8, faults: u8, acks: u8) -> bool;
+}
+
+// The exported functions ask nothing of their arguments, so each wrapper is safe for every value.
+
+fn opening_code(page: &[u8]) -> u8 {
+    unsafe { ledger_opening_code(page.as_ptr(), page.len()) }
+}
+
+fn acks_needed(seats: u8, faults: u8) -> u16 {
+    unsafe { ledger_acks_needed(seats, faults) }
+}
+
+fn is_enough(seats: u8, faults: u8, acks: u8) -> bool {
+    unsafe { ledger_is_enough(seats, faults, acks) }
+}
+
+// An opening page as a bundle's body has it: n, f, k, then 32 balances of 4 bytes, little-endian; those not given are 0.
+fn page(n: u8, f: u8, k: u8, balances: &[u32]) -> Vec<u8> {
+    let mut bytes = vec![n, f, k];
+    for i in 0..32 {
+        bytes.extend(balances.get(i).copied().unwrap_or(0).to_le_bytes());
+    }
+    bytes
+}
+
+#[derive(Default)]
+struct Checks {
+    passed: u32,
+    failed: u32,
+}
+
+impl Checks {
+    fn same<T: PartialEq + std::fmt::Debug>(&mut self, what: &str, is: T, wanted: T) {
+        if is == wanted {
+            self.passed += 1;
+        } else {
+            self.failed += 1;
+            println!("host: {what}: {is:?} and not {wanted:?}");
+        }
+    }
+}
+
+// Document 01's table: n, f and how many equal acks accept a transfer.
+const NEEDED: [(u8, u8, u16); 7] = [
+    (1, 0, 1),
+    (2, 0, 2),
+    (6, 1, 5),
+    (7, 1, 6),
+    (8, 1, 6),
+    (11, 2, 9),
+    (16, 3, 13),
+];
+
+// The table, and the two functions on acks against each other.
+fn acks(checks: &mut Checks) {
+    for (n, f, needed) in NEEDED {
+        let what = format!("acks needed at n {n}, f {f}");
+        checks.same(&what, acks_needed(n, f), needed);
+    }
+    for n in 1..=16 {
+        for f in 0..=3 {
+            for count in 0..=16 {
+                let what = format!("whether {count} acks are enough at n {n}, f {f}");
+                let wanted = u16::from(count) >= acks_needed(n, f);
+                checks.same(&what, is_enough(n, f, count), wanted);
+            }
+        }
+    }
+}
+
+fn openings(checks: &mut Checks) {
+    let mut code = |wanted, what, page: &[u8]| checks.same(what, opening_code(page), wanted);
+    let max = 4_294_967_295;
+    let mut last = [0; 32];
+    last[31] = 16_777_216;
+    let good = page(6, 1, 3, &[100, 200, 300]);
+    let refused = page(17, 0, 1, &[100]);
+    let longer = |page: &[u8]| [page, &[255; 40]].concat();
+
+    code(0, "a good page", &good);
+    code(0, "32 accounts", &page(16, 3, 32, &[1; 32]));
+    code(1, "n 0", &page(0, 0, 1, &[100]));
+    code(1, "n 5 with f 1", &page(5, 1, 1, &[100]));
+    code(1, "n 17 with f 0", &refused);
+    code(2, "k 0", &page(6, 1, 0, &[]));
+    code(2, "k 33", &page(6, 1, 33, &[]));
+    code(2, "a balance behind k", &page(6, 1, 2, &[100, 200, 300]));
+    code(2, "the last behind k", &page(6, 1, 31, &last));
+    code(0, "the last within k", &page(6, 1, 32, &last));
+    code(3, "a sum of 4,294,967,296", &page(6, 1, 2, &[max, 1]));
+    code(0, "a sum of 4,294,967,295", &page(6, 1, 2, &[max - 1, 1]));
+    code(1, "no bytes", &[]);
+    code(2, "n and f alone", &[6, 1]);
+    code(0, "n, f and k alone", &[6, 1, 3]);
+    code(0, "bytes behind a good page", &longer(&good));
+    code(1, "bytes behind a refused page", &longer(&refused));
+}
+
+fn main() {
+    let mut checks = Checks::default();
+    acks(&mut checks);
+    openings(&mut checks);
+    if checks.failed > 0 {
+        println!("host: {} checks failed", checks.failed);
+        std::process::exit(1);
+    }
+    println!("host: {} checks passed", checks.passed);
+}

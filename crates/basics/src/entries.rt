@@ -99,10 +99,10 @@ pub fn entry_at(es: [Entry; 32], a: Account) -> Entry
 pub fn set_entry(es: [Entry; 32], a: Account, e: Entry) -> [Entry; 32]
     ensures { λ r. ⌜ r ≡ setEntry es a e ⌝ }
 {
-    let i = a.0 as usize;
+    let at = a.0 as usize;
     let mut out = es;
-    if i < 32 {
-        out[i] = e;
+    if at < 32 {
+        out[at] = e;
     }
     out
 }
@@ -117,10 +117,10 @@ pub fn entry_of(l: Ledger, a: Account) -> Entry
 pub fn with_entry(l: Ledger, a: Account, e: Entry) -> Ledger
     ensures { λ r. ⌜ r ≡ withEntry l a e ⌝ }
 {
-    let i = a.0 as usize;
+    let place = a.0 as usize;
     let mut out = l;
-    if i < 32 {
-        out.entries[i] = e;
+    if place < 32 {
+        out.entries[place] = e;
     }
     out
 }

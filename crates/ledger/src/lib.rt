@@ -5,13 +5,13 @@ use crate::checks::ack_check;
 use crate::checks::circulated_check;
 use crate::checks::request_check;
 use crate::checks::transfer_check;
-use crate::listing::list;
 use basics::entries::entry_of;
 use basics::entries::with_ack;
 use basics::entries::with_acked;
 use basics::entries::with_entry;
 use basics::entries::with_proposed;
 use basics::results::Check;
+use basics::slots::is_full;
 use model::Account;
 use model::Answer;
 use model::Entry;
@@ -39,7 +39,6 @@ ghost use Rattle.model.specs.Calls.{replies, tallied, accepted};
 ghost use Rattle.ledger.specs.Promises.{Answered, OpenedAs, ListedAs};
 
 mod checks;
-mod listing;
 
 // The opening: a ledger of the page, or the refusal and a ledger that refuses everything.
 pub fn open(page: Opening) -> OpenAnswer
@@ -125,11 +124,25 @@ pub fn call(l: Ledger, m: Message) -> Answer
     }
 }
 
-// The waiting list: the accounts at which a transfer waits, into the front of the buffer. The ledger stays the same.
+// The waiting list: the accounts at which a transfer waits, in rising order, into the front of the buffer. The ledger stays the same.
 pub fn list_waiting(l: Ledger, buffer: &mut [u8]) -> ListReply
     ensures { λ r. ⌜ ListedAs l (now (buffer .entry)) r (now (buffer .exit)) ⌝ }
 {
-    list(l, buffer)
+    if buffer.len() < 32 {
+        return ListReply::ListRefused(Refusal::ShortBuffer);
+    }
+    let mut n: u32 = 0;
+    let mut i: u8 = 0;
+    while i < 32 {
+        let e = l.entries[i as usize];
+        let pending = e.pending;
+        if is_full(pending) {
+            buffer[n as usize] = i;
+            n += 1;
+        }
+        i += 1;
+    }
+    ListReply::Listed(n)
 }
 
 // A refusal replies its code and changes nothing.

@@ -7,8 +7,8 @@ use borrow.Author.Needs.{needs}
 use Rattle.basics.proofs.entries.set_entry.Statement.{statement}
 use Rattle.basics.proofs.entries.set_entry.Tie as tie
 
-cast-i : tie.Need-cast-i
-cast-i c = search needs
+cast-at : tie.Need-cast-at
+cast-at c = search needs
 
 mul-out : tie.Need-mul-out
 mul-out c = search needs
@@ -26,4 +26,4 @@ returns-2 c =
     rw (set-out es (c .before .before .args .a .0) _ (omega arith))
 
 pub set-entry-spec : {M : Type 1} → statement M
-set-entry-spec = tie.close (tie.spec cast-i mul-out array-set-from-out returns returns-2)
+set-entry-spec = tie.close (tie.spec cast-at mul-out array-set-from-out returns returns-2)

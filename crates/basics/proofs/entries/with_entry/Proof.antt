@@ -6,8 +6,8 @@ use borrow.Author.Needs.{needs}
 use Rattle.basics.proofs.entries.with_entry.Statement.{statement}
 use Rattle.basics.proofs.entries.with_entry.Tie as tie
 
-cast-i : tie.Need-cast-i
-cast-i c = search needs
+cast-place : tie.Need-cast-place
+cast-place c = search needs
 
 mul-e : tie.Need-mul-e
 mul-e c = search needs
@@ -25,4 +25,4 @@ returns-2 c =
     rw (set-out (l .entries) (c .before .before .args .a .0) _ (omega arith))
 
 pub with-entry-spec : {M : Type 1} → statement M
-with-entry-spec = tie.close (tie.spec cast-i mul-e element-set-from-e returns returns-2)
+with-entry-spec = tie.close (tie.spec cast-place mul-e element-set-from-e returns returns-2)

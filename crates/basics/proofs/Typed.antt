@@ -1,5 +1,4 @@
 -- What a value's type tells: its arrays have their lengths.
-use Prim.Native.Nat.{ℕ}
 use mathlib.Core.Path.{_≡_, sym, _∙_}
 use mathlib.Core.List.{List}
 use lib.ListN.{length, length-map}

@@ -1,1 +1,2 @@
+-- What the functions answer, beside the model's definitions.
 pub mod Results

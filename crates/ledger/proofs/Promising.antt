@@ -16,7 +16,6 @@ use Rattle.model.specs.declared.Reply.the-variants.{Refuse, Note, Propose}
 use Rattle.model.specs.declared.Answer.{Answer}
 use Rattle.model.specs.declared.OpenAnswer.{OpenAnswer}
 use Rattle.model.specs.declared.ListReply.{ListReply}
-use Rattle.model.specs.declared.ListReply.the-variants.{Listed}
 use Rattle.model.specs.Records.{freshLedger, entryOf, withEntry, withProposed}
 use Rattle.model.specs.Acks.{enough, acksFor, hasMost}
 use Rattle.model.specs.Refusals.{Rule, firstRefusal, rulesOf, listRules}

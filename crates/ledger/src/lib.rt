@@ -30,7 +30,6 @@ use tally::is_enough;
 use tally::most_acked;
 use tally::must_propose;
 use tally::tally_of;
-ghost use mathlib.Core.Path.{_≡_};
 ghost use Rattle.model.specs.declared.Message.the-variants.{Request, Circulated, Ack, Decision, Inquiry};
 ghost use Rattle.model.specs.declared.Reply.the-variants.{Refuse};
 ghost use Rattle.model.specs.Replies.{Meets};

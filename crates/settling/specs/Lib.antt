@@ -1,1 +1,2 @@
+-- What the search answers, beside the model's definitions.
 pub mod Results

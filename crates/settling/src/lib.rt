@@ -11,7 +11,7 @@ use model::Slot;
 use model::Transfer;
 use std::num::wrapping_add_u32;
 ghost use mathlib.Core.Path.{_≡_};
-ghost use Rattle.model.specs.Settling.{affords, affordable, lowestAffordable, credited, debited, apply, settle, accept};
+ghost use Rattle.model.specs.Settling.{affordable, lowestAffordable, credited, debited, apply, settle, accept};
 ghost use Rattle.settling.specs.Results.{foundOf};
 
 // An account that was searched for.

@@ -1,1 +1,2 @@
+-- The running tally, beside the model's definitions.
 pub mod Results

@@ -34,13 +34,21 @@ returns : tie.Need-returns
 unfolding rulesOf
 returns c =
     let a = c .before .before .before .before .before .before .args in
-    refused (a .l) (Circulated (a .t)) (λ e. circulatedRules (a .l) e (a .t)) (a .t .account) refl _ (c .before .before .before .before .before .entry-of .ensures) _ (c .before .before .before .before .circulated-check .ensures) _ _ (c .before .before .r .given .1) (c .refuse .ensures)
+    refused (a .l) (Circulated (a .t)) (λ e. circulatedRules (a .l) e (a .t)) (a .t .account) refl
+    _ (c .before .before .before .before .before .entry-of .ensures)
+    _ (c .before .before .before .before .circulated-check .ensures)
+    _ _ (c .before .before .r .given .1)
+    (c .refuse .ensures)
 
 returns-2 : tie.Need-returns-2
 unfolding rulesOf effect
 returns-2 c =
     let a = c .before .before .before .before .before .before .args in
-    served (a .l) (Circulated (a .t)) (λ e. circulatedRules (a .l) e (a .t)) (a .t .account) refl _ (c .before .before .before .before .before .entry-of .ensures) _ (c .before .before .before .before .circulated-check .ensures) _ (c .before .before .enum-told .given .1) (refl, c .with-entry .ensures ∙ ap (withEntry (a .l) (a .t .account)) (c .before .with-acked .ensures ∙ ap withAcked (c .before .before .before .before .before .entry-of .ensures)))
+    served (a .l) (Circulated (a .t)) (λ e. circulatedRules (a .l) e (a .t)) (a .t .account) refl
+    _ (c .before .before .before .before .before .entry-of .ensures)
+    _ (c .before .before .before .before .circulated-check .ensures)
+    _ (c .before .before .enum-told .given .1)
+    (refl, c .with-entry .ensures ∙ ap (withEntry (a .l) (a .t .account)) (c .before .with-acked .ensures ∙ ap withAcked (c .before .before .before .before .before .entry-of .ensures)))
 
 pub acknowledge-spec : {M : Type 1} → statement M
 acknowledge-spec =

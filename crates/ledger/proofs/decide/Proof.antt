@@ -32,13 +32,21 @@ returns : tie.Need-returns
 unfolding rulesOf
 returns c =
     let a = c .before .before .before .before .before .before .args in
-    refused (a .l) (Decision (a .t)) (λ e. decisionRules (a .l) e (a .t)) (a .t .account) refl _ (c .before .before .before .before .before .entry-of .ensures) _ (c .before .before .before .before .transfer-check .ensures) _ _ (c .before .before .r .given .1) (c .refuse .ensures)
+    refused (a .l) (Decision (a .t)) (λ e. decisionRules (a .l) e (a .t)) (a .t .account) refl
+    _ (c .before .before .before .before .before .entry-of .ensures)
+    _ (c .before .before .before .before .transfer-check .ensures)
+    _ _ (c .before .before .r .given .1)
+    (c .refuse .ensures)
 
 returns-2 : tie.Need-returns-2
 unfolding rulesOf effect
 returns-2 c =
     let a = c .before .before .before .before .before .args in
-    served (a .l) (Decision (a .t)) (λ e. decisionRules (a .l) e (a .t)) (a .t .account) refl _ (c .before .before .before .before .entry-of .ensures) _ (c .before .before .before .transfer-check .ensures) _ (c .before .enum-told .given .1) (subst (λ e. Meets (accepted (a .l) (accept (a .l .entries) e (a .t))) (c .by-accepting .result)) (c .before .before .before .before .entry-of .ensures) (c .by-accepting .ensures))
+    served (a .l) (Decision (a .t)) (λ e. decisionRules (a .l) e (a .t)) (a .t .account) refl
+    _ (c .before .before .before .before .entry-of .ensures)
+    _ (c .before .before .before .transfer-check .ensures)
+    _ (c .before .enum-told .given .1)
+    (subst (λ e. Meets (accepted (a .l) (accept (a .l .entries) e (a .t))) (c .by-accepting .result)) (c .before .before .before .before .entry-of .ensures) (c .by-accepting .ensures))
 
 pub decide-spec : {M : Type 1} → statement M
 decide-spec =

@@ -35,13 +35,21 @@ returns : tie.Need-returns
 unfolding rulesOf
 returns c =
     let a = c .before .before .before .before .before .before .args in
-    refused (a .l) (Ack (a .s) (a .t)) (λ e. ackRules (a .l) e (a .s) (a .t)) (a .t .account) refl _ (c .before .before .before .before .before .entry-of .ensures) _ (c .before .before .before .before .ack-check .ensures) _ _ (c .before .before .r .given .1) (c .refuse .ensures)
+    refused (a .l) (Ack (a .s) (a .t)) (λ e. ackRules (a .l) e (a .s) (a .t)) (a .t .account) refl
+    _ (c .before .before .before .before .before .entry-of .ensures)
+    _ (c .before .before .before .before .ack-check .ensures)
+    _ _ (c .before .before .r .given .1)
+    (c .refuse .ensures)
 
 returns-2 : tie.Need-returns-2
 unfolding rulesOf effect
 returns-2 c =
     let a = c .before .before .before .before .before .before .args in
-    served (a .l) (Ack (a .s) (a .t)) (λ e. ackRules (a .l) e (a .s) (a .t)) (a .t .account) refl _ (c .before .before .before .before .before .entry-of .ensures) _ (c .before .before .before .before .ack-check .ensures) _ (c .before .before .enum-told .given .1) (subst (λ e. Meets (tallied (a .l) e (a .t)) (c .by-tally .result)) (c .before .with-ack .ensures ∙ ap (λ e. withAck e (a .s) (a .t)) (c .before .before .before .before .before .entry-of .ensures)) (c .by-tally .ensures))
+    served (a .l) (Ack (a .s) (a .t)) (λ e. ackRules (a .l) e (a .s) (a .t)) (a .t .account) refl
+    _ (c .before .before .before .before .before .entry-of .ensures)
+    _ (c .before .before .before .before .ack-check .ensures)
+    _ (c .before .before .enum-told .given .1)
+    (subst (λ e. Meets (tallied (a .l) e (a .t)) (c .by-tally .result)) (c .before .with-ack .ensures ∙ ap (λ e. withAck e (a .s) (a .t)) (c .before .before .before .before .before .entry-of .ensures)) (c .by-tally .ensures))
 
 pub record-ack-spec : {M : Type 1} → statement M
 record-ack-spec =

@@ -27,13 +27,21 @@ returns : tie.Need-returns
 unfolding rulesOf
 returns c =
     let a = c .before .before .before .before .before .before .args in
-    refused (a .l) (Request (a .t)) (λ e. requestRules (a .l) e (a .t)) (a .t .account) refl _ (c .before .before .before .before .before .entry-of .ensures) _ (c .before .before .before .before .request-check .ensures) _ _ (c .before .before .r .given .1) (c .refuse .ensures)
+    refused (a .l) (Request (a .t)) (λ e. requestRules (a .l) e (a .t)) (a .t .account) refl
+    _ (c .before .before .before .before .before .entry-of .ensures)
+    _ (c .before .before .before .before .request-check .ensures)
+    _ _ (c .before .before .r .given .1)
+    (c .refuse .ensures)
 
 returns-2 : tie.Need-returns-2
 unfolding rulesOf effect
 returns-2 c =
     let a = c .before .before .before .before .args in
-    served (a .l) (Request (a .t)) (λ e. requestRules (a .l) e (a .t)) (a .t .account) refl _ (c .before .before .before .entry-of .ensures) _ (c .before .before .request-check .ensures) _ (c .enum-told .given .1) (refl, refl)
+    served (a .l) (Request (a .t)) (λ e. requestRules (a .l) e (a .t)) (a .t .account) refl
+    _ (c .before .before .before .entry-of .ensures)
+    _ (c .before .before .request-check .ensures)
+    _ (c .enum-told .given .1)
+    (refl, refl)
 
 pub request-spec : {M : Type 1} → statement M
 request-spec =

@@ -1,11 +1,10 @@
 -- What falls is the number of waiting transfers: applying the lowest affordable one leaves one fewer. The laws of settling give the rest.
-use Prim.Native.Nat.{ℕ, suc, _+_, _≤_, _<_}
+use Prim.Native.Nat.{ℕ, suc, _+_, _<_}
 use native.Mathlib.Numerals.{add-one}
 use native.Mathlib.Omega.{arith}
 use mathlib.Core.Path.{_≡_, ap, sym, _∙_}
 use mathlib.Core.List.{List}
-use mathlib.Core.Option.{Option, none, some}
-use lib.ListN.{length}
+use mathlib.Core.Option.{some}
 use borrow.Author.Needs.{needs}
 use borrow.Fn.Kinds.{In}
 use borrow.Fn.PlainCycle.{Measures, is, falls, and}
@@ -15,7 +14,7 @@ use Rattle.model.specs.declared.Settled.{Settled}
 use Rattle.settling.specs.declared.Found.{Found}
 use Rattle.settling.specs.declared.Found.the-variants.{At}
 use Rattle.settling.specs.Results.{foundOf}
-use Rattle.model.specs.Settling.{lowestAffordable, isWaiting, waiting, apply, oneMore, settle}
+use Rattle.model.specs.Settling.{lowestAffordable, isWaiting, waiting, apply, settle}
 use Rattle.model.proofs.Booking.{apply-waiting}
 use Rattle.model.proofs.Settles.{lowest-affordable, settle-none, settle-some, settle-waiting}
 use Rattle.basics.proofs.Counting.{count-most}

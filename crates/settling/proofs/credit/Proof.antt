@@ -1,5 +1,4 @@
 -- The wrapping sum is the sum modulo 2^32.
-use mathlib.Core.Path.{_∙_}
 use borrow.Author.Needs.{needs}
 use Rattle.settling.proofs.credit.Statement.{statement}
 use Rattle.settling.proofs.credit.Tie as tie

@@ -1,5 +1,5 @@
 -- The invariant: the search has found nothing before `i`, and goes on from there.
-use Prim.Native.Nat.{ℕ, _-_, _≤_, _<_}
+use Prim.Native.Nat.{ℕ, _-_, _≤_}
 use native.Mathlib.Omega.{arith}
 use mathlib.Core.Path.{_≡_, ap, sym, _∙_}
 use mathlib.Core.Bool.{Bool}
@@ -8,7 +8,6 @@ use mathlib.Core.Option.{Option·map}
 use lib.ListN.{length}
 use borrow.Author.Needs.{needs}
 use Rattle.model.specs.declared.Entry.{Entry}
-use Rattle.model.specs.Basics.{firstWhere}
 use Rattle.model.specs.Records.{accountOf, freshEntry, entryAt}
 use Rattle.model.specs.Settling.{affordable, lowestAffordable}
 use Rattle.settling.specs.Results.{foundOf}

@@ -1,6 +1,5 @@
 -- A seat behind the last place has none, and there a store changes nothing.
 use native.Mathlib.Omega.{arith}
-use mathlib.Core.Path.{sym, ap}
 use lib.Seq.{set-out}
 use Rattle.basics.proofs.Typed.{acks-length}
 use borrow.Author.Needs.{needs}

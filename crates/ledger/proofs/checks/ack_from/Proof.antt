@@ -1,6 +1,5 @@
 -- A seat behind the last place has no ack recorded.
 use native.Mathlib.Omega.{arith}
-use mathlib.Core.Path.{refl}
 use lib.ListN.{List·getD-eq-default}
 use Rattle.basics.proofs.Typed.{acks-length}
 use borrow.Author.Needs.{needs}

@@ -23,8 +23,9 @@ fn small(n: u8) {
     number(n as u32);
 }
 
-fn word(letter: u8) {
-    let text = [letter];
+// One byte: a letter, or the end of a line.
+fn put(byte: u8) {
+    let text = [byte];
     io::write_all(STDOUT_FILENO, &text);
 }
 
@@ -39,7 +40,7 @@ fn transfer(account: u8, number: u32, value: u32, recipient: u8) -> Transfer {
 
 // A reply: its letter and what it carries.
 fn show(r: Reply) {
-    word(letter_of(r));
+    put(letter_of(r));
     match r {
         Reply::Accept(count) => number(count),
         Reply::Balance(balance) => number(balance),
@@ -54,7 +55,7 @@ fn show(r: Reply) {
         Reply::Acknowledge => {}
         Reply::Note => {}
     }
-    word(b'\n');
+    put(b'\n');
 }
 
 // The opening of two accounts: its code, 0 where it opens, and the ledger.
@@ -70,12 +71,12 @@ fn opening(seats: u8, faults: u8, first: u32, second: u32) -> Ledger {
     };
     let answer = ledger::open(page);
     let reply = answer.reply;
-    word(b'O');
+    put(b'O');
     match reply {
         OpenReply::Opened => number(0),
         OpenReply::OpenRefused(r) => small(code_of(r)),
     }
-    word(b'\n');
+    put(b'\n');
     answer.ledger
 }
 
@@ -98,13 +99,13 @@ fn question(l: Ledger, account: u8) -> Ledger {
 // The waiting list: how many, and the first byte of the buffer.
 fn waiting(l: Ledger) {
     let mut buffer = [99u8; 32];
-    word(b'W');
+    put(b'W');
     match ledger::list_waiting(l, &mut buffer) {
         ListReply::Listed(count) => number(count),
         ListReply::ListRefused(r) => small(code_of(r)),
     }
     small(buffer[0]);
-    word(b'\n');
+    put(b'\n');
 }
 
 // "n 5, f 1 and n 17, f 0 are refused with 1."

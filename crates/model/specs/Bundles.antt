@@ -71,10 +71,14 @@ abbrev pub badHeader : List ℕ → Bool
 badHeader bytes =
     ltb (length bytes) 2 || badCount (entryCount bytes) || ltb (length bytes) (2 + 8 * entryCount bytes)
 
--- 14: kind above 5, kind 0 misplaced (entry 0 has kind 0 and no other entry has), seat (0 unless the kind is 3) or start wrong
+-- kind 0 misplaced: "Entry 0 has kind 0 and no other entry has."
+abbrev pub misplaced : ℕ → ℕ → Bool
+misplaced i kind = not (Bool·beq (eqb kind 0) (eqb i 0))
+
+-- 14: kind above 5, kind 0 misplaced, seat (0 unless the kind is 3) or start wrong
 abbrev pub wrongEntry : ℕ → ℕ → ContentsEntry → Bool
 wrongEntry i start c =
-    ltb 5 (c .kind) || not (Bool·beq (eqb (c .kind) 0) (eqb i 0)) || (not (eqb (c .kind) 3) && not (eqb (c .seat) 0))
+    ltb 5 (c .kind) || misplaced i (c .kind) || (not (eqb (c .kind) 3) && not (eqb (c .seat) 0))
     || not (eqb (c .start) start)
 
 abbrev pub firstBadEntry : List ℕ → Option ℕ
@@ -85,8 +89,11 @@ abbrev pub badEnd : List ℕ → Bool
 badEnd bytes = not (eqb (length bytes) (startAt bytes (entryCount bytes)))
 
 -- 16: a wrong sum
+abbrev pub wrongSumAt : List ℕ → ℕ → Bool
+wrongSumAt bytes i = not (eqb (contentsAt bytes i .sum) (bodySum (pageAt bytes i .body)))
+
 abbrev pub firstBadSum : List ℕ → Option ℕ
-firstBadSum bytes = firstWhere (λ i. not (eqb (contentsAt bytes i .sum) (bodySum (pageAt bytes i .body)))) (entryCount bytes) 0
+firstBadSum bytes = firstWhere (wrongSumAt bytes) (entryCount bytes) 0
 
 -- a refusal, and the entry that it names if it holds
 abbrev pub Fault : Type 0

@@ -1,0 +1,68 @@
+-- What the searches of a bundle's check tell, and the answer that they make.
+use Prim.Native.Nat.{ℕ}
+use mathlib.Core.Path.{_≡_, refl, ap, _∙_}
+use mathlib.Core.Bool.{true, false}
+use mathlib.Core.List.{List, [], _∷_}
+use mathlib.Core.Option.{Option, none, some}
+use Rattle.model.specs.declared.BundleReply.{BundleReply}
+use Rattle.model.specs.declared.BundleReply.the-variants.{Sound, BundleRefused}
+use Rattle.model.specs.declared.Refusal.{Refusal}
+use Rattle.model.specs.declared.Refusal.the-variants.{BadHeader, BadContents, BadEnd, BadSum}
+use Rattle.model.specs.Bundles.{entryCount, badHeader, firstBadEntry, badEnd, firstBadSum, Fault, faults, firstFault, checkBundle}
+use Rattle.model.specs.Replies.{valuesOfBundle}
+use Rattle.model.proofs.Sums.{impossible}
+use Rattle.bundle.specs.declared.checks.Walk.the-variants.{Wrong, EndsAt}
+use Rattle.bundle.specs.declared.checks.Search.the-variants.{At, Nowhere}
+use Rattle.bundle.specs.Promises.{faultValues, CheckedAs, walked, searchOf}
+
+-- the answer of the walk over the contents
+pub walk-wrong : (o : Option ℕ) (end : ℕ) {i : ℕ} → walked o end ≡ Wrong i → o ≡ some i
+walk-wrong none end e = impossible (cc)
+walk-wrong (some j) end e = cc
+
+pub walk-ends : (o : Option ℕ) (end : ℕ) {at : ℕ} → walked o end ≡ EndsAt at → (o ≡ none) × (at ≡ end)
+walk-ends none end e = (refl, cc)
+walk-ends (some j) end e = impossible (cc)
+
+-- the answer of a search among the entries
+pub search-at : (o : Option ℕ) {i : ℕ} → searchOf o ≡ At i → o ≡ some i
+search-at none e = impossible (cc)
+search-at (some j) e = cc
+
+pub search-nowhere : (o : Option ℕ) → searchOf o ≡ Nowhere → o ≡ none
+search-nowhere none e = refl
+search-nowhere (some j) e = impossible (cc)
+
+-- the first fault's code and entry are what the answer carries
+fault-values : (m : ℕ) (fs : List Fault) → valuesOfBundle (firstFault m fs) ≡ faultValues m fs
+fault-values m [] = refl
+fault-values m (f ∷ fs) = go (f .0) (f .1) (fault-values m fs)
+  where
+    go : (o : Option ℕ) (q : Refusal) → valuesOfBundle (firstFault m fs) ≡ faultValues m fs
+        → valuesOfBundle (firstFault m ((o, q) ∷ fs)) ≡ faultValues m ((o, q) ∷ fs)
+    go none q rest = rest
+    go (some i) q rest = refl
+
+module _ (bytes : List ℕ) where
+  checked : {r : BundleReply} → r ≡ firstFault (entryCount bytes) (faults bytes) → CheckedAs bytes r
+  unfolding checkBundle
+  checked h = record { meets = h; told = ap valuesOfBundle h ∙ fault-values (entryCount bytes) (faults bytes) }
+
+  -- one law for each outcome, in the order in which the codes are tried
+  pub bad-header : badHeader bytes ≡ true → CheckedAs bytes (BundleRefused BadHeader 0)
+  bad-header bad = checked (rw bad)
+
+  module _ (header : badHeader bytes ≡ false) where
+    pub bad-contents : {i : ℕ} → firstBadEntry bytes ≡ some i → CheckedAs bytes (BundleRefused BadContents i)
+    bad-contents bad = checked (rw (header, bad))
+
+    module _ (contents : firstBadEntry bytes ≡ none) where
+      pub bad-end : badEnd bytes ≡ true → CheckedAs bytes (BundleRefused BadEnd 0)
+      bad-end bad = checked (rw (header, contents, bad))
+
+      module _ (ends : badEnd bytes ≡ false) where
+        pub bad-sum : {i : ℕ} → firstBadSum bytes ≡ some i → CheckedAs bytes (BundleRefused BadSum i)
+        bad-sum bad = checked (rw (header, contents, ends, bad))
+
+        pub sound : firstBadSum bytes ≡ none → CheckedAs bytes (Sound (entryCount bytes))
+        sound sums = checked (rw (header, contents, ends, sums))

@@ -1,0 +1,42 @@
+-- What the check and the reading of a bundle promise, by document 01's definitions in the model.
+use Prim.Native.Nat.{ℕ}
+use mathlib.Core.Path.{_≡_}
+use mathlib.Core.List.{List, [], _∷_}
+use mathlib.Core.Option.{Option, none, some}
+use Rattle.model.specs.declared.BundleReply.{BundleReply}
+use Rattle.model.specs.Bundles.{entryCount, pageOf, startAt, firstBadEntry, Fault, faults, checkBundle, Reading, taken, noMore}
+use Rattle.model.specs.Replies.{codeOf, valuesOfBundle}
+use Rattle.bundle.specs.declared.Read.{Read}
+use Rattle.bundle.specs.declared.Read.the-variants.{Taken, NoMore}
+use Rattle.bundle.specs.declared.checks.Walk.{Walk}
+use Rattle.bundle.specs.declared.checks.Walk.the-variants.{Wrong, EndsAt}
+use Rattle.bundle.specs.declared.checks.Search.{Search}
+use Rattle.bundle.specs.declared.checks.Search.the-variants.{At, Nowhere}
+
+-- the code and the entry of the first fault that there is; with none, 0 and m
+abbrev pub faultValues : ℕ → List Fault → List ℕ
+faultValues m [] = 0 ∷ m ∷ []
+faultValues m (f ∷ fs) = elim (f .0) [ none ↦ faultValues m fs | some i ↦ codeOf (f .1) ∷ i ∷ [] ]
+
+-- The check of a bundle: the answer, and document 01's number and values of it.
+pub record CheckedAs (bytes : List ℕ) (r : BundleReply) : Type 0 where
+  pub meets : r ≡ checkBundle bytes
+  pub told : valuesOfBundle r ≡ faultValues (entryCount bytes) (faults bytes)
+
+-- what the walk over the contents finds
+abbrev pub walked : Option ℕ → ℕ → Walk
+walked none end = EndsAt end
+walked (some i) end = Wrong i
+
+abbrev pub walkOf : List ℕ → Walk
+walkOf bytes = walked (firstBadEntry bytes) (startAt bytes (entryCount bytes))
+
+-- what a search among the entries finds
+abbrev pub searchOf : Option ℕ → Search
+searchOf none = Nowhere
+searchOf (some i) = At i
+
+-- what a reading finds: the page with its body, and the next entry
+abbrev pub readingOf : List ℕ → Read → Reading
+readingOf bytes (Taken c at) = taken (pageOf bytes c) (at .next)
+readingOf bytes (NoMore at) = noMore (at .next)

@@ -1,0 +1,77 @@
+-- The whole text, put together: of an opened ledger's entries, of a refused opening, of a refused bundle.
+use Prim.Native.Nat.{ℕ, _-_, _≤_}
+use native.Mathlib.Omega.{arith}
+use mathlib.Core.Path.{_≡_, refl, sym, _∙_}
+use mathlib.Core.List.{List, _++_}
+use lib.ListN.{length, take, drop, length-append}
+use lib.Seq.{take-append-seam}
+use Rattle.model.specs.declared.Refusal.{Refusal}
+use Rattle.model.specs.declared.Ledger.{Ledger}
+use Rattle.model.specs.declared.OpenAnswer.{OpenAnswer}
+use Rattle.model.specs.declared.OpenReply.the-variants.{Opened, OpenRefused}
+use Rattle.model.specs.declared.BundleReply.the-variants.{Sound, BundleRefused}
+use Rattle.model.specs.Bundles.{entryCount, checkBundle}
+use Rattle.model.specs.Replies.{codeOf}
+use Rattle.text.specs.Lines.{refusalLine}
+use Rattle.text.specs.Outputs.{Writes}
+use Rattle.text.proofs.Writing.{then, within, whole}
+use Rattle.replay.specs.declared.Played.{Played}
+use Rattle.replay.specs.Text.{closing, LinesFrom, opened, CheckedText, TextOf}
+use Rattle.replay.specs.Promises.{Replayed, Wrote, PlayedAll}
+
+-- what is right by one definition is right by another that follows from it
+rightly : {P Q : List ℕ → Type 0} {before after : List ℕ} {r : ℕ} → ((text : List ℕ) → P text → Q text) → Wrote P before after r → Wrote Q before after r
+rightly h w = record { text = w .text; right = h (w .text) (w .right); writes = w .writes }
+
+-- a line that is the whole text
+alone : {P : List ℕ → Type 0} {before after : List ℕ} {r most : ℕ} (line : List ℕ) → P line → most ≤ 36_828
+    → Writes before 0 line most after r → Wrote P before after r
+alone line h most w = record { text = line; right = h; writes = within most w }
+
+module _ (bytes : List ℕ) {before : List ℕ} where
+  -- the entries' lines, and behind them the closing lines
+  pub wrote-lines : {l : Ledger} {mid after : List ℕ} {p : Played} {r : ℕ} → PlayedAll bytes l before mid p
+      → Writes mid (p .filled) (closing (p .ledger)) 864 after r
+      → Wrote (LinesFrom bytes (entryCount bytes - 1) 1 l) before after r
+  wrote-lines {p = p} played closes =
+      record {
+        text = played .lines ++ closing (p .ledger);
+        right = played .right;
+        writes = within (omega arith) (then (played .writes) closes);
+      }
+
+  module _ {after : List ℕ} {r : ℕ} where
+    -- the answer of the opening page decides what follows
+    pub wrote-opened : (a : OpenAnswer) → a ≡ opened bytes → a .reply ≡ Opened
+        → Wrote (LinesFrom bytes (entryCount bytes - 1) 1 (a .ledger)) before after r
+        → Wrote (CheckedText bytes (Sound (entryCount bytes))) before after r
+    wrote-opened a same opens w = rightly (λ text h. rw (← same, opens) h) w
+
+    pub wrote-not-opened : (a : OpenAnswer) (q : Refusal) → a ≡ opened bytes → a .reply ≡ OpenRefused q
+        → Writes before 0 (refusalLine (codeOf q) 0) 24 after r
+        → Wrote (CheckedText bytes (Sound (entryCount bytes))) before after r
+    wrote-not-opened a q same refused w = alone (refusalLine (codeOf q) 0) (rw (← same, refused) refl) (omega arith) w
+
+    -- and so does that of the check
+    pub wrote-sound : {m : ℕ} → checkBundle bytes ≡ Sound m → m ≡ entryCount bytes
+        → Wrote (CheckedText bytes (Sound (entryCount bytes))) before after r → Wrote (TextOf bytes) before after r
+    wrote-sound sound same w = rightly (λ text h. rw (sound, same) h) w
+
+    pub wrote-refused : (q : Refusal) (i : ℕ) → checkBundle bytes ≡ BundleRefused q i
+        → Writes before 0 (refusalLine (codeOf q) i) 24 after r → Wrote (TextOf bytes) before after r
+    wrote-refused q i refused w = alone (refusalLine (codeOf q) i) (rw refused refl) (omega arith) w
+
+    -- every text fits
+    pub replayed : length before ≡ 36_828 → Wrote (TextOf bytes) before after r → Replayed bytes before after r
+    replayed size w =
+        let fits : length (w .text) ≤ length before = omega (arith, w .writes .short) in
+        let all = whole (w .writes) fits in
+        record { text = w .text; right = w .right; front = all .0; size = all .1; fits = fits }
+
+-- the text stands inside the buffer, and the part of it that is replied is the text
+module _ {bytes before after : List ℕ} {r : ℕ} (w : Replayed bytes before after r) where
+  pub inside : r ≤ length after
+  inside = rw (w .front, w .size, length-append) (omega arith)
+
+  pub is-text : take r after ≡ w .text
+  is-text = rw (w .front, w .size) (take-append-seam (w .text) (drop (length (w .text)) before))

@@ -1,0 +1,63 @@
+-- The check decides: a refused bundle's line, or what the opening page and the entries give. The buffer is as long as the longest text.
+use Rattle.bundle.proofs.Longest.{few-entries}
+use Rattle.replay.proofs.Telling.{wrote-sound, wrote-refused, replayed}
+use Prim.Native.Nat.{_≤_}
+use native.Mathlib.Omega.{arith}
+use mathlib.Core.Path.{_≡_, sym, _∙_}
+use Rattle.model.specs.declared.BundleReply.the-variants.{Sound}
+use Rattle.model.specs.Bundles.{entryCount, checkBundle}
+use borrow.Author.Needs.{needs}
+use Rattle.replay.proofs.replay.Statement.{statement}
+use Rattle.replay.proofs.replay.Tie as tie
+
+-- the check found a sound bundle, with so many entries
+sound : (c : tie.After-enum-told) → checkBundle (c .before .before .before .before .args .bytes .now) ≡ Sound (c .enum-told .given .0 .0)
+sound c = sym (c .before .before .check .ensures .meets) ∙ c .enum-told .given .1
+
+sound-count : (c : tie.After-enum-told) → (
+    let m = entryCount (c .before .before .before .before .args .bytes .now) in
+    (c .enum-told .given .0 .0 ≡ m) × (m ≤ 1_000)
+    )
+sound-count c = let few = few-entries _ _ (sound c) in (few .0, omega (arith, few .0, few .2))
+
+check-requires : tie.Need-check-requires
+check-requires c κs = search needs
+
+enum-told : tie.Need-enum-told
+enum-told c = search needs
+
+replay-sound-requires : tie.Need-replay-sound-requires
+replay-sound-requires c κs = omega (arith, sound-count (c .before))
+
+enum-known-r : tie.Need-enum-known-r
+enum-known-r c = search needs
+
+code-of-requires : tie.Need-code-of-requires
+code-of-requires c κs = search needs
+
+put-refusal-requires : tie.Need-put-refusal-requires
+put-refusal-requires c κs = search needs
+
+returns : tie.Need-returns
+returns c =
+    let told = c .before .before in
+    replayed _ (search needs) (wrote-sound _ (sound told) (sound-count told .0) (c .replay-sound .ensures))
+
+returns-2 : tie.Need-returns-2
+returns-2 c =
+    let told = c .before .before .before .before in
+    replayed _ (search needs)
+    (wrote-refused _ _ _ (sym (told .before .before .check .ensures .meets) ∙ told .r .given .1) (rw (c .before .code-of .ensures) at (c .put-refusal .ensures)))
+
+pub replay-spec : {M : Type 1} → statement M
+replay-spec =
+    tie.close
+    (tie.spec
+    check-requires
+    enum-told
+    replay-sound-requires
+    enum-known-r
+    code-of-requires
+    put-refusal-requires
+    returns
+    returns-2)

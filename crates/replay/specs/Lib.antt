@@ -1,0 +1,3 @@
+-- The text that `daybook` writes for a bundle, and what replaying promises.
+pub mod Text
+pub mod Promises

@@ -1,0 +1,43 @@
+-- What replaying promises.
+use Prim.Native.Nat.{ℕ, _+_, _-_, _≤_}
+use mathlib.Core.Path.{_≡_}
+use mathlib.Core.List.{List, _++_}
+use mathlib.Core.Option.{Option}
+use lib.ListN.{length, drop}
+use Rattle.model.specs.declared.Ledger.{Ledger}
+use Rattle.model.specs.declared.Message.{Message}
+use Rattle.model.specs.Bundles.{entryCount}
+use Rattle.text.specs.Lines.{decimal}
+use Rattle.text.specs.Outputs.{Writes}
+use Rattle.replay.specs.declared.Played.{Played}
+use Rattle.replay.specs.Text.{EntryText, ledgerAfter, closing, LinesFrom, TextOf}
+
+-- The whole of it: the buffer's front is the text of these bytes, what stands behind it is as it was, and the reply is the text's length.
+-- The text fits, whatever the bytes are.
+pub record Replayed (bytes before after : List ℕ) (r : ℕ) : Type 0 where
+  pub text : List ℕ
+  pub right : TextOf bytes text
+  pub front : after ≡ text ++ drop (length text) before
+  pub size : r ≡ length text
+  pub fits : length text ≤ length before
+
+-- A text of which this holds stands at the buffer's front.
+pub record Wrote (Right : List ℕ → Type 0) (before after : List ℕ) (r : ℕ) : Type 0 where
+  pub text : List ℕ
+  pub right : Right text
+  pub writes : Writes before 0 text 36_828 after r
+
+-- One entry: what it adds to the text is written at a place of the buffer, and the ledger is the one after it.
+pub record PlayedEntry (i : ℕ) (l : Ledger) (asked : Option Message) (before : List ℕ) (at : ℕ) (after : List ℕ) (r : Played) : Type 0 where
+  pub line : List ℕ
+  pub right : EntryText i l asked line
+  pub writes : Writes before at line (length (decimal i) + 33) after (r .filled)
+  pub ledger-after : r .ledger ≡ ledgerAfter l asked
+
+-- All entries from 1 on: their lines stand at the buffer's front, and with the closing lines of the ledger that is left they are the
+-- whole text of the entries.
+pub record PlayedAll (bytes : List ℕ) (l : Ledger) (before after : List ℕ) (r : Played) : Type 0 where
+  pub lines : List ℕ
+  pub right : LinesFrom bytes (entryCount bytes - 1) 1 l (lines ++ closing (r .ledger))
+  pub writes : Writes before 0 lines 35_964 after (r .filled)
+  pub accounts-same : r .ledger .accounts ≡ l .accounts

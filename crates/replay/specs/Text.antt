@@ -1,0 +1,68 @@
+-- Document 01, "The program `daybook`": the whole text that it writes for a bundle, as a list of bytes. It is a relation, since the slip
+-- that P carries on a tie is left free; everything else in it is fixed.
+use Prim.Native.Nat.{ℕ, zero, suc, _-_}
+use mathlib.Core.Path.{_≡_}
+use mathlib.Core.List.{List, [], _++_}
+use mathlib.Core.Option.{Option, none, some}
+use Rattle.model.specs.declared.Ledger.{Ledger}
+use Rattle.model.specs.declared.Entry.{Entry}
+use Rattle.model.specs.declared.Message.{Message}
+use Rattle.model.specs.declared.Reply.{Reply}
+use Rattle.model.specs.declared.OpenAnswer.{OpenAnswer}
+use Rattle.model.specs.declared.OpenReply.{OpenReply}
+use Rattle.model.specs.declared.OpenReply.the-variants.{Opened, OpenRefused}
+use Rattle.model.specs.declared.BundleReply.{BundleReply}
+use Rattle.model.specs.declared.BundleReply.the-variants.{Sound, BundleRefused}
+use Rattle.model.specs.Records.{accountOf, entryOf}
+use Rattle.model.specs.Replies.{codeOf}
+use Rattle.model.specs.Openings.{openLedger}
+use Rattle.model.specs.Calls.{step, Answers}
+use Rattle.model.specs.Bundles.{pageAt, messageOf, openingOf, checkBundle}
+use Rattle.text.specs.Lines.{refusalLine, replyLine, accountLine}
+
+-- "one line per entry from 1: entry, reply letter, and what it carries". A page with no message, which no sound bundle has behind
+-- page 0, adds nothing.
+abbrev pub EntryText : ℕ → Ledger → Option Message → List ℕ → Type 0
+EntryText i l none text = text ≡ []
+EntryText i l (some m) text = (r : Reply) × Answers l m r × (text ≡ replyLine i r)
+
+-- the ledger after the entry
+abbrev pub ledgerAfter : Ledger → Option Message → Ledger
+ledgerAfter l none = l
+ledgerAfter l (some m) = step l m .next
+
+-- "then per account `= account balance current`": the `left` accounts from a on
+abbrev pub closingFrom : Ledger → ℕ → ℕ → List ℕ
+closingFrom l zero a = []
+closingFrom l (suc left) a =
+    accountLine a (entryOf l (accountOf a) .balance) (entryOf l (accountOf a) .current) ++ closingFrom l left (suc a)
+
+abbrev pub closing : Ledger → List ℕ
+closing l = closingFrom l (l .accounts) 0
+
+-- the lines of the `left` entries from i on, then the closing lines
+abbrev pub LinesFrom : List ℕ → ℕ → ℕ → Ledger → List ℕ → Type 0
+LinesFrom bytes zero i l text = text ≡ closing l
+LinesFrom bytes (suc left) i l text =
+    (line rest : List ℕ)
+    × EntryText i l (messageOf (pageAt bytes i)) line
+    × LinesFrom bytes left (suc i) (ledgerAfter l (messageOf (pageAt bytes i))) rest
+    × (text ≡ line ++ rest)
+
+-- the text of an opening's answer. "`F code entry` for a bundle or opening that is refused (entry 0 for codes 1, 2, 3 ..)"
+abbrev pub OpenedText : List ℕ → ℕ → OpenReply → Ledger → List ℕ → Type 0
+OpenedText bytes m (OpenRefused r) l text = text ≡ refusalLine (codeOf r) 0
+OpenedText bytes m Opened l text = LinesFrom bytes (m - 1) 1 l text
+
+-- "page 0 is the opening page"
+abbrev pub opened : List ℕ → OpenAnswer
+opened bytes = openLedger (openingOf (pageAt bytes 0 .body))
+
+-- the text of the check's answer: nothing is opened before the whole bundle is checked
+abbrev pub CheckedText : List ℕ → BundleReply → List ℕ → Type 0
+CheckedText bytes (BundleRefused r i) text = text ≡ refusalLine (codeOf r) i
+CheckedText bytes (Sound m) text = OpenedText bytes m (opened bytes .reply) (opened bytes .ledger) text
+
+-- what `daybook` writes for these bytes
+abbrev pub TextOf : List ℕ → List ℕ → Type 0
+TextOf bytes text = CheckedText bytes (checkBundle bytes) text

@@ -5,7 +5,15 @@ extern "C" {
     fn ledger_opening_code(page: *const u8, length: usize) -> u8;
     fn ledger_acks_needed(seats: u8, faults: u8) -> u16;
     fn ledger_is_enough(seats: u8, faults: u8, acks: u8) -> bool;
+    // A reference to an array of Rattle is passed as its pointer alone.
+    fn daybook_text(bytes: *const u8, length: usize, text: *mut [u8; TEXT_SIZE]) -> usize;
 }
+
+// The longest text that `daybook` writes.
+const TEXT_SIZE: usize = 36_828;
+
+// What the buffer holds before a call, to see that what stands behind the text is left as it was.
+const UNTOUCHED: u8 = 170;
 
 // The exported functions ask nothing of their arguments, so each wrapper is safe for every value.
 
@@ -19,6 +27,13 @@ fn acks_needed(seats: u8, faults: u8) -> u16 {
 
 fn is_enough(seats: u8, faults: u8, acks: u8) -> bool {
     unsafe { ledger_is_enough(seats, faults, acks) }
+}
+
+// The text of these bytes, and what stands behind it in the buffer.
+fn text_of(bytes: &[u8]) -> (Vec<u8>, Vec<u8>) {
+    let mut buffer = Box::new([UNTOUCHED; TEXT_SIZE]);
+    let length = unsafe { daybook_text(bytes.as_ptr(), bytes.len(), &mut *buffer) };
+    (buffer[..length].to_vec(), buffer[length..].to_vec())
 }
 
 // An opening page as a bundle's body has it: n, f, k, then 32 balances of 4 bytes, little-endian; those not given are 0.
@@ -103,10 +118,46 @@ fn openings(checks: &mut Checks) {
     code(1, "bytes behind a refused page", &longer(&refused));
 }
 
+// Every example: its text is one that stands beside it, and the rest of the buffer is left as it was.
+fn examples(checks: &mut Checks, folder: &str) {
+    let mut bundles = 0;
+    for file in std::fs::read_dir(folder).expect("the folder of examples") {
+        let path = file.expect("an example").path();
+        if path.extension().is_some_and(|e| e == "bundle") {
+            let (text, behind) = text_of(&std::fs::read(&path).expect("a bundle"));
+            let allowed = ["txt", "or.txt"].map(|e| std::fs::read(path.with_extension(e)).unwrap_or_default());
+            checks.same(&format!("the text of {}", path.display()), allowed.contains(&text), true);
+            checks.same("the bytes behind the text", behind.iter().all(|b| *b == UNTOUCHED), true);
+            bundles += 1;
+        }
+    }
+    checks.same("that there are examples", bundles > 20, true);
+}
+
+// Input longer than a bundle can be gives 13, 14 or 15, and the same text as its first 18,124 bytes.
+fn long_inputs(checks: &mut Checks, folder: &str) {
+    let longest = std::fs::read(format!("{folder}/longest.bundle")).expect("the longest bundle");
+    let inputs = [
+        (vec![0; 18_124], "F 13 0\n"),
+        (vec![255; 1_000_000], "F 13 0\n"),
+        (vec![1; 40_000], "F 14 0\n"),
+        ([&longest[..], &[0]].concat(), "F 15 0\n"),
+        ([&longest[..], &longest[..]].concat(), "F 15 0\n"),
+    ];
+    for (bytes, wanted) in inputs {
+        let what = format!("an input of {} bytes", bytes.len());
+        checks.same(&what, text_of(&bytes).0, wanted.as_bytes().to_vec());
+        checks.same("the same from its front", text_of(&bytes[..18_124]).0, wanted.as_bytes().to_vec());
+    }
+}
+
 fn main() {
+    let folder = std::env::args().nth(1).expect("the folder of examples");
     let mut checks = Checks::default();
     acks(&mut checks);
     openings(&mut checks);
+    examples(&mut checks, &folder);
+    long_inputs(&mut checks, &folder);
     if checks.failed > 0 {
         println!("host: {} checks failed", checks.failed);
         std::process::exit(1);

@@ -1,9 +1,11 @@
 // What a host in Rust or C calls: the exported functions of the static library. Each takes any numbers and any bytes, and its
 // contract fixes the result by document 01's definitions.
-use crate::pages::page_of;
 use basics::codes::code_of;
 use ledger::open;
 use model::OpenReply;
+use pages::messages::opening_of;
+use replay::TEXT_SIZE;
+use replay::replay;
 use tally::is_enough;
 ghost use mathlib.Core.Path.{_≡_};
 ghost use Rattle.model.specs.Acks.{enough};
@@ -11,16 +13,15 @@ ghost use Rattle.model.specs.Bundles.{openingOf};
 ghost use Rattle.model.specs.Openings.{openRules};
 ghost use Rattle.model.specs.Refusals.{firstRefusal};
 ghost use Rattle.ledger.specs.Promises.{codeIfAny};
+ghost use Rattle.replay.specs.Promises.{Replayed};
 ghost use Rattle.host.specs.Quorums.{Fewest};
-
-mod pages;
 
 // The code that the opening of a page is refused by, 0 where it opens. The page is a bundle's body: n, f, k, 32 balances.
 #[no_mangle]
 pub extern "C" fn ledger_opening_code(page: &[u8]) -> u8
     ensures { λ r. ⌜ r ≡ codeIfAny (firstRefusal (openRules (openingOf (now (page .entry))))) ⌝ }
 {
-    let answer = open(page_of(page));
+    let answer = open(opening_of(page));
     let reply = answer.reply;
     match reply {
         OpenReply::Opened => 0,
@@ -42,4 +43,12 @@ pub extern "C" fn ledger_is_enough(seats: u8, faults: u8, acks: u8) -> bool
     ensures { λ r. ⌜ r ≡ enough seats faults acks ⌝ }
 {
     is_enough(seats, faults, acks)
+}
+
+// The text that `daybook` writes for these bytes, at the front of a buffer of 36,828 bytes, which every text fits; its length is returned.
+#[no_mangle]
+pub extern "C" fn daybook_text(bytes: &[u8], text: &mut [u8; TEXT_SIZE]) -> usize
+    ensures { λ r. ⌜ Replayed (now (bytes .entry)) (now (text .entry)) (now (text .exit)) r ⌝ }
+{
+    replay(bytes, text)
 }

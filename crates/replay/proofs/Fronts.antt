@@ -1,6 +1,6 @@
 -- Reading no more than 18,124 bytes of the input gives the same text as the whole input: a longer bundle is refused, and by its front.
 use Prim.Native.Nat.{ℕ}
-use mathlib.Core.Path.{_≡_, refl, ap, sym, _∙_}
+use mathlib.Core.Path.{_≡_, refl}
 use mathlib.Core.List.{List}
 use lib.ListN.{take}
 use Rattle.model.specs.declared.BundleReply.{BundleReply}

@@ -6,7 +6,7 @@ use mathlib.Core.List.{List}
 use lib.Dec.{ltb}
 use borrow.Author.Tests.{ltb-true, ltb-false}
 use Rattle.model.specs.declared.ContentsEntry.{ContentsEntry}
-use Rattle.model.specs.Bundles.{entryCount, Page, pageOf, pageAt, Reading, taken, noMore, readNext}
+use Rattle.model.specs.Bundles.{entryCount, pageOf, pageAt, taken, noMore, readNext}
 use Rattle.model.proofs.Sums.{impossible}
 use Rattle.bundle.specs.declared.Cursor.{Cursor}
 use Rattle.bundle.specs.declared.Read.{Read}

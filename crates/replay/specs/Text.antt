@@ -5,7 +5,6 @@ use mathlib.Core.Path.{_≡_}
 use mathlib.Core.List.{List, [], _++_}
 use mathlib.Core.Option.{Option, none, some}
 use Rattle.model.specs.declared.Ledger.{Ledger}
-use Rattle.model.specs.declared.Entry.{Entry}
 use Rattle.model.specs.declared.Message.{Message}
 use Rattle.model.specs.declared.Reply.{Reply}
 use Rattle.model.specs.declared.OpenAnswer.{OpenAnswer}

@@ -21,8 +21,6 @@ use text::lines::put_account;
 use text::lines::put_refusal;
 use text::lines::put_reply;
 ghost use Prim.Native.Nat.{_-_, _≤_};
-ghost use mathlib.Core.Path.{_≡_};
-ghost use lib.ListN.{length};
 ghost use Rattle.model.specs.Bundles.{entryCount, pageOf, messageOf};
 ghost use Rattle.text.specs.Outputs.{Writes};
 ghost use Rattle.model.specs.declared.BundleReply.the-variants.{Sound};

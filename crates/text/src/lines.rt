@@ -8,7 +8,7 @@ use model::Reply;
 use model::Transfer;
 ghost use Prim.Native.Nat.{_+_};
 ghost use lib.ListN.{length};
-ghost use Rattle.model.specs.Replies.{codeOf, valuesOf, valuesOfTransfer};
+ghost use Rattle.model.specs.Replies.{valuesOf, valuesOfTransfer};
 ghost use Rattle.text.specs.Lines.{decimal, carried, refusalLine, replyLine, accountLine};
 ghost use Rattle.text.specs.Outputs.{Writes};
 

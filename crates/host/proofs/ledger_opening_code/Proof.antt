@@ -17,8 +17,8 @@ carried : {p q : Opening} {a : OpenAnswer} {code : ℕ} → p ≡ q → OpenedAs
     → code ≡ codeIfAny (firstRefusal (openRules q))
 carried same answered carries = cc
 
-page-of-requires : tie.Need-page-of-requires
-page-of-requires c κs = search needs
+opening-of-requires : tie.Need-opening-of-requires
+opening-of-requires c κs = search needs
 
 open-requires : tie.Need-open-requires
 open-requires c κs = search needs
@@ -35,19 +35,19 @@ code-of-requires c κs = search needs
 returns : tie.Need-returns
 returns c =
     let answered = c .before .before in
-    carried (answered .before .page-of .ensures) (answered .«open» .ensures) (ap valuesOfOpen (c .enum-told .given .1))
+    carried (answered .before .opening-of .ensures) (answered .«open» .ensures) (ap valuesOfOpen (c .enum-told .given .1))
 
 returns-2 : tie.Need-returns-2
 returns-2 c =
     let matched = c .before .before in
     let answered = matched .before .before in
-    carried (answered .before .page-of .ensures) (answered .«open» .ensures) (ap valuesOfOpen (matched .reply .given .1) ∙ ap (λ n. n ∷ []) (sym (c .code-of .ensures)))
+    carried (answered .before .opening-of .ensures) (answered .«open» .ensures) (ap valuesOfOpen (matched .reply .given .1) ∙ ap (λ n. n ∷ []) (sym (c .code-of .ensures)))
 
 pub ledger-opening-code-spec : {M : Type 1} → statement M
 ledger-opening-code-spec =
     tie.close
     (tie.spec
-    page-of-requires
+    opening-of-requires
     open-requires
     enum-told
     enum-known-reply

@@ -1,5 +1,5 @@
 -- Page 0's body opens the ledger, whose entries follow, or is refused.
-use mathlib.Core.Path.{_≡_, ap, sym, _∙_}
+use mathlib.Core.Path.{_≡_, ap, _∙_}
 use Rattle.model.specs.Bundles.{openingOf, pageOf}
 use Rattle.model.specs.Openings.{openLedger}
 use Prim.Native.Nat.{ℕ, _≤_}

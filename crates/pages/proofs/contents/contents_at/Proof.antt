@@ -45,7 +45,7 @@ returns c =
     let seat : 2 + 8 * i + 1 ≡ 3 + 8 * i = omega arith in
     let start : 2 + 8 * i + 2 ≡ 4 + 8 * i = omega arith in
     let sum : 2 + 8 * i + 4 ≡ 6 + 8 * i = omega arith in
-    cc
+    rw (← seat, ← start, ← sum, c .number4-at .ensures, c .before .number2-at .ensures, c .before .before .byte-at2 .ensures, c .before .before .before .byte-at .ensures)
 
 pub contents-at-spec : {M : Type 1} → statement M
 contents-at-spec =

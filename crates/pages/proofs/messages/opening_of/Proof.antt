@@ -16,7 +16,7 @@ balances-of-requires : tie.Need-balances-of-requires
 balances-of-requires c κs = search needs
 
 returns : tie.Need-returns
-returns c = cc
+returns c = rw (c .balances-of .ensures, c .before .byte-at3 .ensures, c .before .before .byte-at2 .ensures, c .before .before .before .byte-at .ensures)
 
 pub opening-of-spec : {M : Type 1} → statement M
 opening-of-spec =

@@ -16,7 +16,7 @@ byte-at-requires-2 : tie.Need-byte-at-requires-2
 byte-at-requires-2 c κs = search needs
 
 returns : tie.Need-returns
-returns c = cc
+returns c = rw (c .byte-at2 .ensures, c .before .number4-at2 .ensures, c .before .before .number4-at .ensures, c .before .before .before .byte-at .ensures)
 
 pub transfer-of-spec : {M : Type 1} → statement M
 transfer-of-spec =

@@ -76,8 +76,8 @@ same-length-4 c = search needs
 
 returns-7 : tie.Need-returns-7
 returns-7 c =
-    rw (c .before .before .before .before .before .before .r4 .given .1, ← (c .before .before .before .code-of .ensures))
-    (within (omega arith) (c .before .before .put-value3 .ensures))
+    let coded = rw (c .before .before .before .code-of .ensures) at (c .before .before .put-value3 .ensures) in
+    rw (c .before .before .before .before .before .before .r4 .given .1) (within (omega arith) coded)
 
 pub put-carried-spec : {M : Type 1} → statement M
 put-carried-spec =

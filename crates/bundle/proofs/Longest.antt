@@ -1,25 +1,24 @@
 -- A sound bundle has at most 18,123 bytes, 2 + 8 × 1,000 + 131 + 999 × 10: m is at most 1,000, entry 0 alone has a body of 131 bytes, every other
--- at most 10, and the bundle ends with its last body. So the first 18,124 bytes of a bundle, however long it is, have the check of the whole.
+-- at most 10, and the bundle ends with its last body. So the first 18,124 bytes of an input, however long it is, have the check of the whole.
 use Prim.Native.Nat.{ℕ, zero, suc, _+_, _*_, _≤_, _<_}
 use native.Mathlib.Decide.{decLe}
 use native.Mathlib.Omega.{arith}
 use borrow.Author.Tests.{leb-true, ltb-false, le-ltb, ne-eqb}
 use mathlib.Core.Path.{_≡_, refl, sym, ap, _∙_}
-use mathlib.Core.Logic.{_⊎_, inl, inr}
+use mathlib.Core.Logic.{inl, inr}
 use mathlib.Core.Bool.{Bool, true, false, _||_}
 use mathlib.Core.List.{List, [], _∷_}
 use mathlib.Core.Option.{Option, none, some}
 use lib.Dec.{leb, ltb, eqb·suc-zero}
 use lib.ListN.{length, getD, take, drop}
 use lib.Seq.{getD-take, length-take-le, take-all}
-use Rattle.model.specs.declared.Refusal.{Refusal}
 use Rattle.model.specs.declared.Refusal.the-variants.{BadHeader, BadContents, BadEnd, BadSum}
 use Rattle.model.specs.declared.ContentsEntry.{ContentsEntry}
 use Rattle.model.specs.declared.BundleReply.{BundleReply}
 use Rattle.model.specs.declared.BundleReply.the-variants.{Sound, BundleRefused}
 use Rattle.model.specs.Basics.{every, firstWhere}
-use Rattle.model.specs.Replies.{codeOf}
 use Rattle.model.specs.Bundles.{number2, number4, entryCount, contentsAt, bodyLengths, bodyLength, startAt, badCount, badHeader, wrongEntry, firstBadEntry, badEnd, firstBadSum, ofWhole, firstFault, checkBundle}
+use Rattle.bundle.specs.Promises.{longest, RefusedEarly, LongRefused}
 use Rattle.model.proofs.Sums.{impossible, both, neither, NotFound, first-none}
 
 -- two tests that agree on each of the numbers find the same
@@ -73,7 +72,7 @@ ofLong true wrong = BundleRefused BadHeader 0
 ofLong false (some i) = BundleRefused BadContents i
 ofLong false none = BundleRefused BadEnd 0
 
-module _ (bytes : List ℕ) (long : 18_123 < length bytes) where
+module _ (bytes : List ℕ) (long : longest < length bytes) where
   -- it is long enough for the contents of any right count,
   long-header : (b : Bool) → badCount (entryCount bytes) ≡ b → badHeader bytes ≡ b
   long-header true e = rw (le-ltb (length bytes) 2 (omega arith), e)
@@ -98,31 +97,22 @@ module _ (bytes : List ℕ) (long : 18_123 < length bytes) where
       go false h (some i) e = rw (long-header false h, e)
       go false h none e = rw (long-header false h, e, long-end h e)
 
--- refused for the header, the contents or the end
-abbrev pub RefusedEarly : BundleReply → Type 0
-RefusedEarly reply =
-    (r : Refusal) × (i : ℕ) × (reply ≡ BundleRefused r i) × ((codeOf r ≡ 13) ⊎ (codeOf r ≡ 14) ⊎ (codeOf r ≡ 15))
-
 of-long : (b : Bool) (wrong : Option ℕ) → RefusedEarly (ofLong b wrong)
 of-long true wrong = (BadHeader, 0, refl, inl refl)
 of-long false (some i) = (BadContents, i, refl, inr (inl refl))
 of-long false none = (BadEnd, 0, refl, inr (inr refl))
 
 -- a longer bundle is refused with 13, 14 or 15
-pub long-refused : (bytes : List ℕ) → 18_123 < length bytes → RefusedEarly (checkBundle bytes)
+pub long-refused : LongRefused
 long-refused bytes long = rw (long-check bytes long) (of-long (badCount (entryCount bytes)) (firstBadEntry bytes))
 
 -- a sound bundle has at most 18,123 bytes
-pub most-bytes : (bytes : List ℕ) (m : ℕ) → checkBundle bytes ≡ Sound m → length bytes ≤ 18_123
-most-bytes bytes m sound = go (decLe (length bytes) 18_123)
+pub most-bytes : (bytes : List ℕ) (m : ℕ) → checkBundle bytes ≡ Sound m → length bytes ≤ longest
+most-bytes bytes m sound = go (decLe (length bytes) longest)
   where
-    go : Dec (length bytes ≤ 18_123) → length bytes ≤ 18_123
+    go : Dec (length bytes ≤ longest) → length bytes ≤ longest
     go (yes few) = few
     go (no more) = let refused = long-refused bytes (omega arith) in impossible (cc (refused .2))
-
--- its first 18,124 bytes are all of it
-pub read-front : (bytes : List ℕ) (m : ℕ) → checkBundle bytes ≡ Sound m → take 18_124 bytes ≡ bytes
-read-front bytes m sound = let few = most-bytes bytes m sound in take-all 18_124 bytes (omega arith)
 
 -- what is sound has no fault in its header, and the m that it says
 no-fault : (n m : ℕ) (header : Bool) (entry : Option ℕ) (end : Bool) (sum : Option ℕ)
@@ -182,12 +172,16 @@ module _ (bytes : List ℕ) (n : ℕ) where
       go true h = refl
       go false h = let few = count-right (entryCount bytes) h in ap (ofLong false) (same-entry (omega arith))
 
-  same-check : 18_124 ≤ n → Dec (length bytes ≤ n) → checkBundle (take n bytes) ≡ checkBundle bytes
+  same-check : longest < n → Dec (length bytes ≤ n) → checkBundle (take n bytes) ≡ checkBundle bytes
   same-check large (yes few) = rw (take-all n bytes few)
   same-check large (no more) =
-      let long : 18_123 < length (take n bytes) = rw (length-take-le n bytes (omega arith)) large in
+      let long : longest < length (take n bytes) = rw (length-take-le n bytes (omega arith)) large in
       long-check (take n bytes) long ∙ same-long (omega arith) ∙ sym (long-check bytes (omega arith))
 
--- the first 18,124 bytes of a bundle have its check
-pub front : (bytes : List ℕ) → checkBundle (take 18_124 bytes) ≡ checkBundle bytes
-front bytes = same-check bytes 18_124 (omega arith) (decLe (length bytes) 18_124)
+  -- so where one byte more than the longest bundle has is read, the check is that of the whole,
+  pub front : longest < n → checkBundle (take n bytes) ≡ checkBundle bytes
+  front large = same-check large (decLe (length bytes) n)
+
+  -- and of a sound bundle all is read
+  pub read-front : (m : ℕ) → longest < n → checkBundle bytes ≡ Sound m → take n bytes ≡ bytes
+  read-front m large sound = let few = most-bytes bytes m sound in take-all n bytes (omega arith)

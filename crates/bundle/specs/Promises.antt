@@ -1,9 +1,13 @@
 -- What the check and the reading of a bundle promise, by document 01's definitions in the model.
-use Prim.Native.Nat.{ℕ}
+use Prim.Native.Nat.{ℕ, _<_}
 use mathlib.Core.Path.{_≡_}
+use mathlib.Core.Logic.{_⊎_}
 use mathlib.Core.List.{List, [], _∷_}
 use mathlib.Core.Option.{Option, none, some}
+use lib.ListN.{length}
+use Rattle.model.specs.declared.Refusal.{Refusal}
 use Rattle.model.specs.declared.BundleReply.{BundleReply}
+use Rattle.model.specs.declared.BundleReply.the-variants.{BundleRefused}
 use Rattle.model.specs.Bundles.{entryCount, pageOf, startAt, firstBadEntry, Fault, faults, checkBundle, Reading, taken, noMore}
 use Rattle.model.specs.Replies.{codeOf, valuesOfBundle}
 use Rattle.bundle.specs.declared.Read.{Read}
@@ -40,3 +44,15 @@ searchOf (some i) = At i
 abbrev pub readingOf : List ℕ → Read → Reading
 readingOf bytes (Taken c at) = taken (pageOf bytes c) (at .next)
 readingOf bytes (NoMore at) = noMore (at .next)
+
+-- "a bundle of at most 18,123 bytes": m, 1,000 entries of 8 bytes, an opening page and 999 other bodies
+abbrev pub longest : ℕ
+longest = 18_123
+
+-- "a longer input gives 13, 14 or 15"
+abbrev pub RefusedEarly : BundleReply → Type 0
+RefusedEarly reply =
+    (r : Refusal) × (i : ℕ) × (reply ≡ BundleRefused r i) × ((codeOf r ≡ 13) ⊎ (codeOf r ≡ 14) ⊎ (codeOf r ≡ 15))
+
+abbrev pub LongRefused : Type 0
+LongRefused = (bytes : List ℕ) → longest < length bytes → RefusedEarly (checkBundle bytes)

@@ -1,5 +1,5 @@
 -- The text of a bundle is fixed by its bytes wherever no call replies P: a function that computes it, and the law that its result is a
--- text of the bundle and the only one.
+-- text of the bundle and the only one; and that every bundle has a text.
 use Prim.Native.Nat.{ℕ, zero, suc, _-_}
 use mathlib.Core.Path.{_≡_, refl, ap, _∙_}
 use mathlib.Core.List.{List, [], _++_}
@@ -14,6 +14,7 @@ use Rattle.model.specs.Replies.{codeOf, Choice, exactly, proposes}
 use Rattle.model.specs.Calls.{step}
 use Rattle.model.specs.Bundles.{pageAt, messageOf, checkBundle}
 use Rattle.model.proofs.Sums.{impossible}
+use Rattle.model.proofs.Witnesses.{some-answer}
 use Rattle.text.specs.Lines.{refusalLine, replyLine}
 use Rattle.replay.specs.Text.{EntryText, ledgerAfter, closing, LinesFrom, OpenedText, opened, CheckedText, TextOf}
 
@@ -107,3 +108,27 @@ one-text bytes {t} e = go (checkBundle bytes) e
     go : (r : BundleReply) → fixedChecked bytes r ≡ some t → Only (CheckedText bytes r) t
     go (BundleRefused q i) e = exact (refusalLine (codeOf q) i) (λ u h. h) refl e
     go (Sound m) e = of-opening m (opened bytes .reply) e
+
+-- Every bundle has a text, whatever its bytes are.
+some-line : (i : ℕ) (l : Ledger) (asked : Option Message) → (text : List ℕ) × EntryText i l asked text
+some-line i l none = ([], refl)
+some-line i l (some m) = let a = some-answer l m in (replyLine i (a .0), (a .0, a .1, refl))
+
+some-lines : (bytes : List ℕ) (left i : ℕ) (l : Ledger) → (text : List ℕ) × LinesFrom bytes left i l text
+some-lines bytes zero i l = (closing l, refl)
+some-lines bytes (suc left) i l =
+    let asked = messageOf (pageAt bytes i) in
+    let line = some-line i l asked in
+    let rest = some-lines bytes left (suc i) (ledgerAfter l asked) in
+    (line .0 ++ rest .0, (line .0, rest .0, line .1, rest .1, refl))
+
+pub some-text : (bytes : List ℕ) → (text : List ℕ) × TextOf bytes text
+some-text bytes = go (checkBundle bytes)
+  where
+    of-opening : (m : ℕ) (r : OpenReply) → (text : List ℕ) × OpenedText bytes m r (opened bytes .ledger) text
+    of-opening m Opened = some-lines bytes (m - 1) 1 (opened bytes .ledger)
+    of-opening m (OpenRefused q) = (refusalLine (codeOf q) 0, refl)
+
+    go : (r : BundleReply) → (text : List ℕ) × CheckedText bytes r text
+    go (BundleRefused q i) = (refusalLine (codeOf q) i, refl)
+    go (Sound m) = of-opening m (opened bytes .reply)

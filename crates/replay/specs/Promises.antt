@@ -3,7 +3,7 @@ use Prim.Native.Nat.{ℕ, _+_, _-_, _≤_}
 use mathlib.Core.Path.{_≡_}
 use mathlib.Core.List.{List, _++_}
 use mathlib.Core.Option.{Option}
-use lib.ListN.{length, drop}
+use lib.ListN.{length, take, drop}
 use Rattle.model.specs.declared.Ledger.{Ledger}
 use Rattle.model.specs.declared.Message.{Message}
 use Rattle.model.specs.Bundles.{entryCount}
@@ -20,6 +20,16 @@ pub record Replayed (bytes before after : List ℕ) (r : ℕ) : Type 0 where
   pub front : after ≡ text ++ drop (length text) before
   pub size : r ≡ length text
   pub fits : length text ≤ length before
+
+-- how many bytes of its input `daybook` takes
+abbrev pub bytesTaken : ℕ
+bytesTaken = 18_124
+
+-- That it takes no more makes no difference: these bytes have the text of the whole input, and no other.
+abbrev pub SameText : Type 0
+SameText =
+    (bytes text : List ℕ)
+    → (TextOf (take bytesTaken bytes) text → TextOf bytes text) × (TextOf bytes text → TextOf (take bytesTaken bytes) text)
 
 -- A text of which this holds stands at the buffer's front.
 pub record Wrote (Right : List ℕ → Type 0) (before after : List ℕ) (r : ℕ) : Type 0 where

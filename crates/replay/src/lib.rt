@@ -31,9 +31,9 @@ ghost use Rattle.replay.specs.Promises.{Replayed, Wrote, PlayedEntry, Pl
 pub const TEXT_SIZE: usize = 36_828;
 
 // How much of the buffer's front is written, and the ledger after the entries so far.
-pub struct Played {
-    pub filled: usize,
-    pub ledger: Ledger,
+struct Played {
+    filled: usize,
+    ledger: Ledger,
 }
 
 // One entry: its message is put to the ledger, and the reply's line is written.

@@ -147,6 +147,19 @@ fn council() -> Example {
     example("council", &pages, text)
 }
 
+/// The deepest settling: 31 rulings whose payers have nothing yet, each paying the next account, and one that lets all of them be booked.
+fn chain() -> Example {
+    let pays_next = |account: u8| ruling((account, 1, 5, (account + 1) % 32));
+    let mut balances = [0; 32];
+    balances[0] = 5;
+    let mut pages = vec![opening(16, 3, &balances)];
+    pages.extend((1..32).map(pays_next));
+    pages.push(pays_next(0));
+    let waits: String = (1..32).map(|entry| format!("{entry} K 0\n")).collect();
+    let others: String = (1..32).map(|account| format!("= {account} 0 1\n")).collect();
+    example("chain", &pages, &format!("{waits}32 K 32\n= 0 5 1\n{others}"))
+}
+
 /// A small bundle with its bytes changed.
 fn damaged(name: &str, change: impl Fn(&mut Vec<u8>), text: &str) -> Example {
     let mut bytes = bundle(&[opening(1, 0, &[1]), question(0)]);
@@ -168,6 +181,7 @@ fn examples() -> Vec<Example> {
         split("split_four_one", 4, "K 1", "= 0 6 1\n= 1 7 0\n"),
         tie(),
         council(),
+        chain(),
         example("refused_opening_5_1", &[opening(5, 1, &[10, 5])], "F 1 0\n"),
         example("refused_opening_17_0", &[opening(17, 0, &[10, 5])], "F 1 0\n"),
         // "a first slip from account 0 of 10 gives A; one of 11 in its place gives 11; one of 16 gives 5"

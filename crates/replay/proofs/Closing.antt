@@ -14,6 +14,7 @@ use Rattle.text.specs.Outputs.{Writes}
 use Rattle.text.proofs.Writing.{nothing, then, within}
 use Rattle.text.proofs.Decimals.{two-digits}
 use Rattle.replay.specs.Text.{closing, closingFrom}
+use Rattle.replay.specs.Promises.{closingMost}
 
 module _ (l : Ledger) (before : List ℕ) (start : ℕ) where
   -- the lines of the accounts below a are written
@@ -38,7 +39,7 @@ module _ (l : Ledger) (before : List ℕ) (start : ℕ) where
           writes = within (omega (arith, two-digits a (omega arith))) (then (p .writes) w);
         }
 
-    pub closed-all : l .accounts ≤ a → a ≤ 32 → Writes before start (closing l) 864 mid at
+    pub closed-all : l .accounts ≤ a → a ≤ 32 → Writes before start (closing l) closingMost mid at
     closed-all over few =
         let none-left : l .accounts - a ≡ 0 = omega arith in
         let all : p .lines ≡ closing l = sym (append-nil (p .lines)) ∙ (rw none-left at (p .goes-on)) in

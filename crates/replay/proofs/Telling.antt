@@ -17,21 +17,21 @@ use Rattle.text.specs.Outputs.{Writes}
 use Rattle.text.proofs.Writing.{then, within, whole}
 use Rattle.replay.specs.declared.Played.{Played}
 use Rattle.replay.specs.Text.{closing, LinesFrom, opened, CheckedText, TextOf}
-use Rattle.replay.specs.Promises.{Replayed, Wrote, PlayedAll}
+use Rattle.replay.specs.Promises.{closingMost, textMost, Replayed, Wrote, PlayedAll}
 
 -- what is right by one definition is right by another that follows from it
 rightly : {P Q : List ℕ → Type 0} {before after : List ℕ} {r : ℕ} → ((text : List ℕ) → P text → Q text) → Wrote P before after r → Wrote Q before after r
 rightly h w = record { text = w .text; right = h (w .text) (w .right); writes = w .writes }
 
 -- a line that is the whole text
-alone : {P : List ℕ → Type 0} {before after : List ℕ} {r most : ℕ} (line : List ℕ) → P line → most ≤ 36_828
+alone : {P : List ℕ → Type 0} {before after : List ℕ} {r most : ℕ} (line : List ℕ) → P line → most ≤ textMost
     → Writes before 0 line most after r → Wrote P before after r
 alone line h most w = record { text = line; right = h; writes = within most w }
 
 module _ (bytes : List ℕ) {before : List ℕ} where
   -- the entries' lines, and behind them the closing lines
   pub wrote-lines : {l : Ledger} {mid after : List ℕ} {p : Played} {r : ℕ} → PlayedAll bytes l before mid p
-      → Writes mid (p .filled) (closing (p .ledger)) 864 after r
+      → Writes mid (p .filled) (closing (p .ledger)) closingMost after r
       → Wrote (LinesFrom bytes (entryCount bytes - 1) 1 l) before after r
   wrote-lines {p = p} played closes =
       record {
@@ -62,7 +62,7 @@ module _ (bytes : List ℕ) {before : List ℕ} where
     wrote-refused q i refused w = alone (refusalLine (codeOf q) i) (rw refused refl) (omega arith) w
 
     -- every text fits
-    pub replayed : length before ≡ 36_828 → Wrote (TextOf bytes) before after r → Replayed bytes before after r
+    pub replayed : length before ≡ textMost → Wrote (TextOf bytes) before after r → Replayed bytes before after r
     replayed size w =
         let fits : length (w .text) ≤ length before = omega (arith, w .writes .short) in
         let all = whole (w .writes) fits in

@@ -21,14 +21,14 @@ use text::lines::put_account;
 use text::lines::put_refusal;
 use text::lines::put_reply;
 ghost use Prim.Native.Nat.{_-_, _≤_};
+ghost use Rattle.model.specs.declared.BundleReply.the-variants.{Sound};
 ghost use Rattle.model.specs.Bundles.{entryCount, pageOf, messageOf};
 ghost use Rattle.text.specs.Outputs.{Writes};
-ghost use Rattle.model.specs.declared.BundleReply.the-variants.{Sound};
 ghost use Rattle.replay.specs.Text.{closing, LinesFrom, CheckedText};
-ghost use Rattle.replay.specs.Promises.{Replayed, Wrote, PlayedEntry, PlayedAll};
+ghost use Rattle.replay.specs.Promises.{closingMost, Replayed, Wrote, PlayedEntry, PlayedAll};
 
-// The longest text: 999 lines of a proposed transfer, 36 bytes each, and 32 lines of an account, 27 bytes each.
-pub const TEXT_SIZE: usize = 36_828;
+// The longest text: 999 lines of a proposed transfer, 36 bytes each, and 32 lines of an account, 27 bytes each: 36,828 bytes.
+pub const TEXT_SIZE: usize = 36 * 999 + 27 * 32;
 
 // How much of the buffer's front is written, and the ledger after the entries so far.
 struct Played {
@@ -90,7 +90,7 @@ fn play(bytes: &[u8], l: Ledger, out: &mut [u8]) -> Played
 // The closing lines: each account with its balance and its current number.
 fn put_closing(l: Ledger, out: &mut [u8], at: usize) -> usize
     requires { ⌜ l .accounts ≤ 32 ⌝ }
-    ensures { λ r. ⌜ Writes (now (out .entry)) at (closing l) 864 (now (out .exit)) r ⌝ }
+    ensures { λ r. ⌜ Writes (now (out .entry)) at (closing l) closingMost (now (out .exit)) r ⌝ }
 {
     let mut filled = at;
     let mut a: u8 = 0;

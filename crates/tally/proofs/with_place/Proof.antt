@@ -16,7 +16,7 @@ plus-requires-2 : tie.Need-plus-requires-2
 plus-requires-2 c κs = search needs
 
 returns : tie.Need-returns
-returns c = cc
+returns c = rw (c .plus2 .ensures, c .before .is-full .ensures, c .before .before .plus .ensures, c .before .before .before .is-held .ensures)
 
 pub with-place-spec : {M : Type 1} → statement M
 with-place-spec =

@@ -151,6 +151,22 @@ fn long_inputs(checks: &mut Checks, folder: &str) {
     }
 }
 
+// A bundle with one byte changed, whichever it is, is refused: the contents are checked against m and the bodies' lengths, the bodies
+// against their sums.
+fn damaged(checks: &mut Checks, folder: &str) {
+    let bundle = std::fs::read(format!("{folder}/whole_output.bundle")).expect("the whole-output case");
+    for place in 0..bundle.len() {
+        for change in [1, 128, 255] {
+            let mut bytes = bundle.clone();
+            bytes[place] ^= change;
+            let text = text_of(&bytes).0;
+            let code = text.strip_prefix(b"F 1").and_then(|rest| rest.first().copied());
+            let what = format!("the bundle with byte {place} changed by {change}");
+            checks.same(&what, code.is_some_and(|digit| (b'3'..=b'6').contains(&digit)), true);
+        }
+    }
+}
+
 fn main() {
     let folder = std::env::args().nth(1).expect("the folder of examples");
     let mut checks = Checks::default();
@@ -158,6 +174,7 @@ fn main() {
     openings(&mut checks);
     examples(&mut checks, &folder);
     long_inputs(&mut checks, &folder);
+    damaged(&mut checks, &folder);
     if checks.failed > 0 {
         println!("host: {} checks failed", checks.failed);
         std::process::exit(1);

@@ -125,8 +125,8 @@ fn examples(checks: &mut Checks, folder: &str) {
         let path = file.expect("an example").path();
         if path.extension().is_some_and(|e| e == "bundle") {
             let (text, behind) = text_of(&std::fs::read(&path).expect("a bundle"));
-            let allowed = ["txt", "or.txt"].map(|e| std::fs::read(path.with_extension(e)).unwrap_or_default());
-            checks.same(&format!("the text of {}", path.display()), allowed.contains(&text), true);
+            let mut allowed = ["txt", "or.txt"].iter().filter_map(|e| std::fs::read(path.with_extension(e)).ok());
+            checks.same(&format!("the text of {}", path.display()), allowed.any(|wanted| wanted == text), true);
             checks.same("the bytes behind the text", behind.iter().all(|b| *b == UNTOUCHED), true);
             bundles += 1;
         }

@@ -10,7 +10,8 @@ use Rattle.agreement.specs.Runs.{Opens, honest, Call, message, waitingLi
 use Rattle.agreement.specs.Premises.{implies, ackedBy, genuine}
 use Rattle.agreement.proofs.Places.{before, Order, same-event, earlier, later, order, happened-later, throughout-at, obeys-before, obeys-at}
 use Rattle.agreement.proofs.Deeds.{acked-is, deed-found}
-use Rattle.agreement.proofs.Soundness.{opened-entry, Group, group, Sound, no-acks, recorded-read}
+use Rattle.model.proofs.Opened.{Group}
+use Rattle.agreement.proofs.Soundness.{opened-entry, group, Sound, no-acks, recorded-read}
 use Rattle.agreement.proofs.Reachable.{sound, run-induction, past-calls}
 use Rattle.agreement.proofs.Quorums.{bit-most}
 use Rattle.agreement.proofs.StepLaws.{Puts, puts-mark, puts-ack, puts-accepted, puts-ruled, each-entry, answer-acknowledge, Recording}

@@ -5,7 +5,8 @@ use Rattle.agreement.specs.Types.{Seat, Account, Entry, Ledger, Opening,
 use Rattle.agreement.specs.Runs.{Opens, message, Event, Run, _▹_, Within, ledgerAt, Obeys, accepted}
 use Rattle.agreement.specs.Slates.{Slate, freshSlate, nextSlate, slateAt, join}
 use Rattle.agreement.proofs.Places.{before, obeys-before, obeys-at, seat-self}
-use Rattle.agreement.proofs.Soundness.{next-waits, opened-entry, Group, group, Sound, bounded}
+use Rattle.model.proofs.Opened.{Group}
+use Rattle.agreement.proofs.Soundness.{next-waits, opened-entry, group, Sound, bounded}
 use Rattle.agreement.proofs.Reachable.{run-induction}
 use Rattle.agreement.proofs.StepLaws.{Turn, keeps, accepts, turn, answer-balance}
 use Rattle.agreement.proofs.SlateSettles.{Matches, quiet-matches, join-matches, settle-matches}

@@ -3,58 +3,33 @@ use Prim.Native.Nat.{ℕ, zero, suc, _+_, _*_, _≤_, _<_}
 use native.Mathlib.Omega.{arith}
 use mathlib.Core.Path.{_≡_, refl, ap, sym, _∙_}
 use mathlib.Core.Logic.{_≢_, _⊎_, inl, inr}
-use mathlib.Core.Bool.{Bool, true, false, _||_}
-use mathlib.Core.Option.{Option, none, some}
+use mathlib.Core.Bool.{Bool, true, false}
 use native.Mathlib.Decide.{ℕ-discrete}
-use lib.Dec.{leb, ltb}
 use lib.ListN.{length, getD, replicate, length-set, List·getD-map, length-map}
 use lib.Seq.{getD-set-same, getD-set-other}
-use borrow.Author.Tests.{leb-false, ltb-false, ltb-true, eq-eqb}
-use Rattle.agreement.specs.Types.{Seat, Account, Transfer, Slot, Empty, Full, AckSlot, Entry, Ledger, Opening, Refusal, Opened}
+use borrow.Author.Tests.{ltb-true, eq-eqb}
+use Rattle.agreement.specs.Types.{Seat, Account, Transfer, Slot, Empty, Full, AckSlot, Entry, Ledger, Opening}
 use Rattle.agreement.specs.Runs.{Opens}
 use Rattle.model.specs.Basics.{bit, sumOf}
-use Rattle.model.specs.Records.{seatOf, noAcks, freshEntry, withAck, withPending, sumBalances, freshLedger, withEntries, withEntry, entryOf}
+use Rattle.model.specs.Records.{seatOf, noAcks, freshEntry, withAck, withPending, sumBalances, withEntries, withEntry, entryOf}
 use Rattle.model.specs.Transfers.{sameNumber, equal}
 use Rattle.model.specs.Acks.{holds, conflicts, acksFor, enough}
-use Rattle.model.specs.Refusals.{firstRefusal, outOfRange, waitsAlready, ackFrom}
-use Rattle.model.specs.Openings.{openRules, openAnswer, openLedger}
+use Rattle.model.specs.Refusals.{outOfRange, waitsAlready, ackFrom}
+use Rattle.model.specs.Openings.{openLedger}
 use Rattle.model.specs.Settling.{settle, accept}
 use Rattle.model.specs.Calls.{entryWithAck}
-use Rattle.model.proofs.Sums.{impossible, neither, sum-set, sum-set-same}
+use Rattle.model.proofs.Sums.{impossible, sum-set, sum-set-same}
 use Rattle.model.proofs.Equality.{equal-sound, equal-refl, Conflict, conflict-complete}
 use Rattle.model.proofs.Access.{no-acks-length, set-each, set-entry-length}
 use Rattle.model.proofs.Booking.{SameButBalance, Cleared}
 use Rattle.model.proofs.Settles.{Bounded, NextWaits, settle-each, settle-sum, settle-length}
-use Rattle.model.proofs.Refusing.{none-holds}
+use Rattle.model.proofs.Opened.{Group, opened-group}
 use Rattle.model.proofs.Witnesses.{fresh-sum}
 use Rattle.model.proofs.Steps.{Eligible, Recordable}
 
--- what an opening page that is not refused has
-pub record Group (o : Opening) : Type 0 where
-  pub seats-fit : o .seats ≤ 16
-  pub few-faults : 5 * o .faults < o .seats
-  pub accounts-fit : o .accounts ≤ 32
-  pub sum-fits : sumOf (λ b. b) (o .balances) < 4_294_967_296
-  pub opened : openLedger o .ledger ≡ freshLedger o
-
+-- the group of an opening page that a run is about
 pub group : (o : Opening) → Opens o → Group o
-unfolding openLedger
-group o opens = go (firstRefusal (openRules o)) refl (opens .not-refused)
-  where
-    go : (q : Option Refusal) → firstRefusal (openRules o) ≡ q → openAnswer q (freshLedger o) .reply ≡ Opened → Group o
-    go none e h =
-        let fail = none-holds (openRules o) e in
-        let seats = neither (ltb (o .seats) 1 || ltb 16 (o .seats)) (leb (o .seats) (5 * o .faults)) (fail .0) in
-        let size = neither (ltb (o .seats) 1) (ltb 16 (o .seats)) (seats .0) in
-        let accounts = neither (ltb (o .accounts) 1) (ltb 32 (o .accounts)) (neither _ _ (fail .1 .0) .0) in
-        record {
-          seats-fit = ltb-false 16 (o .seats) (size .1);
-          few-faults = omega (arith, leb-false (o .seats) (5 * o .faults) (seats .1));
-          accounts-fit = ltb-false 32 (o .accounts) (accounts .1);
-          sum-fits = omega (arith, ltb-false 4_294_967_295 (sumOf (λ b. b) (o .balances)) (fail .1 .1 .0));
-          opened = rw e;
-        }
-    go (some q) e h = impossible (cc)
+group o opens = opened-group o (opens .not-refused)
 
 -- An account's entry: its acks and its waiting slip are of this account and of the next number, acks are from seats of the group, and
 -- a slip with enough recorded acks is the one that waits.

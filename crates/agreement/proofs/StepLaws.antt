@@ -14,7 +14,8 @@ use Rattle.agreement.specs.Types.{Seat, Account, Transfer, Full, Entry, 
 use Rattle.model.specs.declared.Refusal.the-variants.{FutureNumber}
 use Rattle.agreement.specs.Runs.{isRefusal, message, isAccept, accepted}
 use Rattle.agreement.specs.Facts.{mustAccept}
-use Rattle.agreement.proofs.Soundness.{recorded-new, recorded-kept, Group, SoundEntry, Sound, Admitted, admitted, marked-sound, stored, noted-entry, accepted-entry, ruled-entry, waits-sound, accept-sound}
+use Rattle.model.proofs.Opened.{Group}
+use Rattle.agreement.proofs.Soundness.{recorded-new, recorded-kept, SoundEntry, Sound, Admitted, admitted, marked-sound, stored, noted-entry, accepted-entry, ruled-entry, waits-sound, accept-sound}
 use Rattle.model.specs.Records.{withAcked, withProposed, withPending, entryAt, setEntry, withEntries, withEntry, entryOf}
 use Rattle.model.specs.Acks.{holds, conflicts, acksFor, acksRecorded, enough, twoConflict}
 use Rattle.model.specs.Refusals.{outOfRange, waitsAlready, ackFrom, rulesOf}

@@ -8,6 +8,7 @@ pub mod Tallies
 pub mod Booking
 pub mod Settles
 pub mod Refusing
+pub mod Opened
 pub mod Steps
 pub mod Listing
 pub mod Witnesses

@@ -4,6 +4,7 @@ use Prim.Native.Nat.{_+_, _<_}
 use native.Mathlib.Omega.{arith}
 use mathlib.Core.Path.{_≡_, refl}
 use mathlib.Core.Bool.{Bool, true, false, _||_}
+use mathlib.Core.List.{List}
 use mathlib.Core.Option.{Option, none, some}
 use lib.Dec.{eqb, ltb}
 use borrow.Author.Tests.{leb-false}
@@ -15,6 +16,7 @@ use Rattle.model.specs.Acks.{holds, conflicts, acksFor, enough, hasMost}
 use Rattle.model.specs.Settling.{accept}
 use Rattle.model.specs.Calls.{unlessRefused, mustPropose, entryWithAck, tallied, effect, step, Answers}
 use Rattle.model.proofs.Sums.{neither}
+use Rattle.model.proofs.Access.{SameGroup, with-entries}
 use Rattle.model.proofs.Refusing.{AllFail, none-holds, next-number}
 
 -- what a slip is that 5 to 8 do not refuse
@@ -138,3 +140,20 @@ happens l m r h = go (firstRefusal (rulesOf l m)) refl h
         → Happens l m r (unlessRefused o l (effect l m) .next)
     go none e h = effect-happens l m r (none-holds (rulesOf l m) e) h
     go (some q) e h = refused q h refl
+
+-- no message changes n, f, k or the opening sum
+pub step-group : (l : Ledger) (m : Message) (r : Reply) → Answers l m r → SameGroup (step l m .next) l
+step-group l m r h = go (happens l m r h)
+  where
+    kept : {next : Ledger} (es : List Entry) → next ≡ withEntries l es → SameGroup next l
+    kept es e = rw e (with-entries l es .1)
+
+    go : {next : Ledger} → Happens l m r next → SameGroup next l
+    go (refused q a e) = kept (l .entries) e
+    go (circulated t a b e) = kept (l .entries) e
+    go (acknowledged t a b c d e) = kept _ e
+    go (accepted-by-acks s t a b c d f e) = kept _ e
+    go (proposed s t u a b c d f g i e) = kept _ e
+    go (noted s t a b c d f e) = kept _ e
+    go (accepted-by-ruling t a b c e) = kept _ e
+    go (told a b c e) = kept (l .entries) e

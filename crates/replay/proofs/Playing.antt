@@ -9,8 +9,9 @@ use mathlib.Core.Option.{Option, none, some}
 use lib.ListN.{length}
 use Rattle.model.specs.declared.Ledger.{Ledger}
 use Rattle.model.specs.declared.Message.{Message}
-use Rattle.model.specs.Bundles.{entryCount, Page, pageAt, messageOf}
 use Rattle.model.specs.declared.Answer.{Answer}
+use Rattle.model.specs.Bundles.{entryCount, Page, pageAt, messageOf}
+use Rattle.model.proofs.Steps.{step-group}
 use Rattle.ledger.specs.Promises.{Answered}
 use Rattle.text.specs.Lines.{decimal, replyLine}
 use Rattle.text.specs.Outputs.{Writes}
@@ -19,13 +20,12 @@ use Rattle.text.proofs.Decimals.{three-digits}
 use Rattle.replay.specs.declared.Played.{Played}
 use Rattle.replay.specs.Text.{EntryText, ledgerAfter, closing, LinesFrom}
 use Rattle.replay.specs.Promises.{PlayedEntry, PlayedAll}
-use Rattle.replay.proofs.Keeping.{step-accounts}
 
 -- an entry leaves the number of accounts as it is
 entry-accounts : (i : ℕ) (l : Ledger) (asked : Option Message) (line : List ℕ) → EntryText i l asked line
     → ledgerAfter l asked .accounts ≡ l .accounts
 entry-accounts i l none line right = refl
-entry-accounts i l (some m) line right = step-accounts l m (right .0) (right .1)
+entry-accounts i l (some m) line right = step-group l m (right .0) (right .1) .accounts-same
 
 -- what one entry does: nothing without a message; else the line of the reply and the ledger that the call leaves
 module _ {i : ℕ} {l : Ledger} {asked : Option Message} {before : List ℕ} {at : ℕ} where

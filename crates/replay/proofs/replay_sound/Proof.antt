@@ -6,7 +6,7 @@ use Prim.Native.Nat.{ℕ, _≤_}
 use mathlib.Core.List.{List}
 use Rattle.model.specs.declared.OpenReply.the-variants.{Opened}
 use Rattle.replay.specs.Text.{opened}
-use Rattle.replay.proofs.Keeping.{opened-accounts}
+use Rattle.model.proofs.Opened.{opened-group}
 use Rattle.replay.proofs.Telling.{wrote-opened, wrote-not-opened}
 use borrow.Author.Needs.{needs}
 use Rattle.replay.proofs.replay_sound.Statement.{statement}
@@ -22,7 +22,10 @@ answered c =
     ∙ ap openLedger (c .before .opening-of .ensures ∙ ap openingOf (c .before .before .body .ensures ∙ ap (λ e. pageOf (bundle c) e .body) (c .before .before .before .contents-at .ensures)))
 
 few-accounts : (c : tie.After-open) → c .«open» .result .reply ≡ Opened → c .«open» .result .ledger .accounts ≤ 32
-few-accounts c opens = rw (← c .«open» .ensures .meets) at (opened-accounts (c .before .opening-of .result) (rw (c .«open» .ensures .meets) at opens))
+few-accounts c opens =
+    let meets = c .«open» .ensures .meets in
+    let group = opened-group (c .before .opening-of .result) (rw meets at opens) in
+    rw (meets, group .opened) (group .accounts-fit)
 
 contents-at-requires : tie.Need-contents-at-requires
 contents-at-requires c κs = search needs

@@ -6,10 +6,10 @@ use native.Mathlib.Omega.{arith}
 use borrow.Author.Tests.{leb-true, ltb-false, le-ltb, ne-eqb}
 use mathlib.Core.Path.{_≡_, refl, sym, ap, _∙_}
 use mathlib.Core.Logic.{inl, inr}
-use mathlib.Core.Bool.{Bool, true, false, _||_}
+use mathlib.Core.Bool.{Bool, true, false, not, _&&_, _||_}
 use mathlib.Core.List.{List, [], _∷_}
 use mathlib.Core.Option.{Option, none, some}
-use lib.Dec.{leb, ltb, eqb·suc-zero}
+use lib.Dec.{leb, ltb, eqb, eqb·suc-zero}
 use lib.ListN.{length, getD, take, drop}
 use lib.Seq.{getD-take, length-take-le, take-all}
 use Rattle.model.specs.declared.Refusal.the-variants.{BadHeader, BadContents, BadEnd, BadSum}
@@ -17,7 +17,7 @@ use Rattle.model.specs.declared.ContentsEntry.{ContentsEntry}
 use Rattle.model.specs.declared.BundleReply.{BundleReply}
 use Rattle.model.specs.declared.BundleReply.the-variants.{Sound, BundleRefused}
 use Rattle.model.specs.Basics.{every, firstWhere}
-use Rattle.model.specs.Bundles.{number2, number4, entryCount, contentsAt, bodyLengths, bodyLength, startAt, badCount, badHeader, wrongEntry, firstBadEntry, badEnd, firstBadSum, ofWhole, firstFault, checkBundle}
+use Rattle.model.specs.Bundles.{number2, number4, entryCount, contentsAt, bodyLengths, bodyLength, startAt, badCount, badHeader, misplaced, wrongEntry, firstBadEntry, badEnd, firstBadSum, ofWhole, firstFault, checkBundle}
 use Rattle.bundle.specs.Promises.{longest, RefusedEarly, LongRefused}
 use Rattle.model.proofs.Sums.{impossible, both, neither, NotFound, first-none}
 
@@ -34,19 +34,29 @@ at-most b [] i e = omega arith
 at-most b (x ∷ xs) zero e = leb-true x b (both (leb x b) (every (λ y. leb y b) xs) e .0)
 at-most b (x ∷ xs) (suc i) e = at-most b xs i (both (leb x b) (every (λ y. leb y b) xs) e .1)
 
--- a body has at most 131 bytes,
+-- a body has at most 131 bytes
 pub body-any : (kind : ℕ) → bodyLength kind ≤ 131
 body-any kind = at-most 131 bodyLengths kind refl
 
--- and after entry 0 at most 10, since the kind is not 0
-body-later : (i start : ℕ) (c : ContentsEntry) → wrongEntry (suc i) start c ≡ false → bodyLength (c .kind) ≤ 10
-body-later i start c e = go (c .kind) refl
+-- an entry after entry 0 that is not wrong has a kind from 1 to 5,
+pub kind-later : (i start : ℕ) (c : ContentsEntry) → wrongEntry (suc i) start c ≡ false → (c .kind ≤ 5) × (1 ≤ c .kind)
+kind-later i start c e =
+    let seat = not (eqb (c .kind) 3) && not (eqb (c .seat) 0) in
+    let three = neither (ltb 5 (c .kind) || misplaced (suc i) (c .kind) || seat) (not (eqb (c .start) start)) e in
+    let two = neither (ltb 5 (c .kind) || misplaced (suc i) (c .kind)) seat (three .0) in
+    let one = neither (ltb 5 (c .kind)) (misplaced (suc i) (c .kind)) (two .0) in
+    (ltb-false 5 (c .kind) (one .0), go (c .kind) (one .1))
   where
-    go : (kind : ℕ) → c .kind ≡ kind → bodyLength (c .kind) ≤ 10
-    go zero h = let wrong : true ≡ false = simp (h, eqb·suc-zero i) at e in impossible (cc)
-    go (suc kind) h = rw h (at-most 10 (drop 1 bodyLengths) kind refl)
+    go : (kind : ℕ) → misplaced (suc i) kind ≡ false → 1 ≤ kind
+    go zero e = let wrong : true ≡ false = simp (eqb·suc-zero i) at e in impossible (cc)
+    go (suc kind) e = omega arith
 
-abbrev wrongAt : List ℕ → ℕ → Bool
+-- and so a body of at most 10 bytes
+body-later : (kind : ℕ) → 1 ≤ kind → bodyLength kind ≤ 10
+body-later zero h = absurd (omega arith)
+body-later (suc kind) h = at-most 10 (drop 1 bodyLengths) kind refl
+
+abbrev pub wrongAt : List ℕ → ℕ → Bool
 wrongAt bytes i = wrongEntry i (startAt bytes i) (contentsAt bytes i)
 
 -- where the bodies of the first n entries end, if none of these is wrong
@@ -57,7 +67,7 @@ ends-by bytes (suc (suc i)) right =
     omega (
       arith,
       ends-by bytes (suc i) (λ k from to. right k from (omega arith)),
-      body-later i (startAt bytes (suc i)) (contentsAt bytes (suc i)) (right (suc i) (omega arith) (omega arith)),
+      body-later (contentsAt bytes (suc i) .kind) (kind-later i (startAt bytes (suc i)) (contentsAt bytes (suc i)) (right (suc i) (omega arith) (omega arith)) .1),
     )
 
 -- a count that is not refused
@@ -114,15 +124,15 @@ most-bytes bytes m sound = go (decLe (length bytes) longest)
     go (yes few) = few
     go (no more) = let refused = long-refused bytes (omega arith) in impossible (cc (refused .2))
 
--- what is sound has no fault in its header, and the m that it says
+-- what is sound has no fault in its header or its contents, and the m that it says
 no-fault : (n m : ℕ) (header : Bool) (entry : Option ℕ) (end : Bool) (sum : Option ℕ)
     → firstFault n ((ofWhole header, BadHeader) ∷ (entry, BadContents) ∷ (ofWhole end, BadEnd) ∷ (sum, BadSum) ∷ []) ≡ Sound m
-    → (m ≡ n) × (header ≡ false)
+    → (m ≡ n) × (header ≡ false) × (entry ≡ none)
 no-fault n m true entry end sum e = impossible (cc)
 no-fault n m false (some i) end sum e = impossible (cc)
 no-fault n m false none true sum e = impossible (cc)
 no-fault n m false none false (some i) e = impossible (cc)
-no-fault n m false none false none e = (cc, refl)
+no-fault n m false none false none e = (cc, refl, refl)
 
 -- it has as many entries as its header says, 1 to 1,000
 pub few-entries : (bytes : List ℕ) (m : ℕ) → checkBundle bytes ≡ Sound m → (m ≡ entryCount bytes) × (1 ≤ m) × (m ≤ 1_000)
@@ -133,6 +143,13 @@ few-entries bytes m sound =
     let parts = neither (ltb (length bytes) 2 || badCount n) (ltb (length bytes) (2 + 8 * n)) (right .1) in
     let few = count-right n (neither (ltb (length bytes) 2) (badCount n) (parts .0) .1) in
     (right .0, omega arith, omega arith)
+
+-- and none of its entries is wrong
+pub right-entries : (bytes : List ℕ) (m : ℕ) → checkBundle bytes ≡ Sound m → NotFound (wrongAt bytes) (entryCount bytes) 0
+unfolding checkBundle
+right-entries bytes m sound =
+    let right = no-fault (entryCount bytes) m (badHeader bytes) (firstBadEntry bytes) (badEnd bytes) (firstBadSum bytes) sound in
+    first-none (wrongAt bytes) (entryCount bytes) 0 (right .2)
 
 -- The first n bytes of a bundle say the same as the whole of all that stands in them.
 module _ (bytes : List ℕ) (n : ℕ) where

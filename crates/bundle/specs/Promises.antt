@@ -1,14 +1,16 @@
 -- What the check and the reading of a bundle promise, by document 01's definitions in the model.
-use Prim.Native.Nat.{ℕ, _<_}
+use Prim.Native.Nat.{ℕ, _+_, _<_}
 use mathlib.Core.Path.{_≡_}
 use mathlib.Core.Logic.{_⊎_}
+use mathlib.Core.Bool.{cond}
 use mathlib.Core.List.{List, [], _∷_}
 use mathlib.Core.Option.{Option, none, some}
+use lib.Dec.{ltb}
 use lib.ListN.{length}
 use Rattle.model.specs.declared.Refusal.{Refusal}
 use Rattle.model.specs.declared.BundleReply.{BundleReply}
 use Rattle.model.specs.declared.BundleReply.the-variants.{BundleRefused}
-use Rattle.model.specs.Bundles.{entryCount, pageOf, startAt, firstBadEntry, Fault, faults, checkBundle, Reading, taken, noMore}
+use Rattle.model.specs.Bundles.{entryCount, contentsAt, pageOf, startAt, firstBadEntry, Fault, faults, checkBundle, Reading, taken, noMore, readNext}
 use Rattle.model.specs.Replies.{codeOf, valuesOfBundle}
 use Rattle.bundle.specs.declared.Read.{Read}
 use Rattle.bundle.specs.declared.Read.the-variants.{Taken, NoMore}
@@ -44,6 +46,16 @@ searchOf (some i) = At i
 abbrev pub readingOf : List ℕ → Read → Reading
 readingOf bytes (Taken c at) = taken (pageOf bytes c) (at .next)
 readingOf bytes (NoMore at) = noMore (at .next)
+
+-- what a reading replies: the next page's own entry and where to go on, or no more, and it stays
+abbrev pub readOf : List ℕ → ℕ → Read
+readOf bytes i =
+    cond (ltb i (entryCount bytes)) (Taken (contentsAt bytes i) (record { next = i + 1 })) (NoMore (record { next = i }))
+
+-- A reading: the reply, and that it is what the model says.
+pub record ReadAs (bytes : List ℕ) (i : ℕ) (r : Read) : Type 0 where
+  pub meets : r ≡ readOf bytes i
+  pub told : readingOf bytes r ≡ readNext bytes i
 
 -- "a bundle of at most 18,123 bytes": m, 1,000 entries of 8 bytes, an opening page and 999 other bodies
 abbrev pub longest : ℕ

@@ -9,9 +9,7 @@ use model::ContentsEntry;
 use model::Refusal;
 use pages::contents::contents_at;
 use pages::contents::entry_count;
-ghost use mathlib.Core.Path.{_≡_};
-ghost use Rattle.model.specs.Bundles.{readNext};
-ghost use Rattle.bundle.specs.Promises.{CheckedAs, readingOf};
+ghost use Rattle.bundle.specs.Promises.{CheckedAs, ReadAs};
 
 mod checks;
 pub mod sums;
@@ -50,7 +48,7 @@ pub fn check(bytes: &[u8]) -> BundleReply
 
 // "A reading of a bundle goes on from the page last taken. After the last page it replies that there are no more, and stays there."
 pub fn read_next(bytes: &[u8], c: Cursor) -> Read
-    ensures { λ r. ⌜ readingOf (now (bytes .entry)) r ≡ readNext (now (bytes .entry)) (c .next) ⌝ }
+    ensures { λ r. ⌜ ReadAs (now (bytes .entry)) (c .next) r ⌝ }
 {
     let i = c.next;
     if i < entry_count(bytes) {

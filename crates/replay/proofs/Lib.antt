@@ -1,6 +1,4 @@
 -- Laws of replaying.
-pub mod Keeping
-pub mod Reading
 pub mod Playing
 pub mod Closing
 pub mod Telling

@@ -56,7 +56,7 @@ pub record Only (Right : List ℕ → Type 0) (text : List ℕ) : Type 0 where
   pub right : Right text
   pub alone : (other : List ℕ) → Right other → other ≡ text
 
--- what is said to be equal to a text
+-- a text that every right one equals, by the name under which it was computed
 exact : {P : List ℕ → Type 0} (text : List ℕ) {t : List ℕ} → ((u : List ℕ) → P u → u ≡ text) → P text → some text ≡ some t → Only P t
 exact {P} text {t} alone right e = let same : text ≡ t = cc in record { right = rw (← same) right; alone = λ u h. alone u h ∙ same }
 

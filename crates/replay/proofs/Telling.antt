@@ -24,9 +24,9 @@ rightly : {P Q : List ℕ → Type 0} {before after : List ℕ} {r : ℕ} → ((
 rightly h w = record { text = w .text; right = h (w .text) (w .right); writes = w .writes }
 
 -- a line that is the whole text
-alone : {P : List ℕ → Type 0} {before after : List ℕ} {r most : ℕ} (line : List ℕ) → P line → most ≤ textMost
+single-line : {P : List ℕ → Type 0} {before after : List ℕ} {r most : ℕ} (line : List ℕ) → P line → most ≤ textMost
     → Writes before 0 line most after r → Wrote P before after r
-alone line h most w = record { text = line; right = h; writes = within most w }
+single-line line h most w = record { text = line; right = h; writes = within most w }
 
 module _ (bytes : List ℕ) {before : List ℕ} where
   -- the entries' lines, and behind them the closing lines
@@ -50,7 +50,7 @@ module _ (bytes : List ℕ) {before : List ℕ} where
     pub wrote-not-opened : (a : OpenAnswer) (q : Refusal) → a ≡ opened bytes → a .reply ≡ OpenRefused q
         → Writes before 0 (refusalLine (codeOf q) 0) 24 after r
         → Wrote (CheckedText bytes (Sound (entryCount bytes))) before after r
-    wrote-not-opened a q same refused w = alone (refusalLine (codeOf q) 0) (rw (← same, refused) refl) (omega arith) w
+    wrote-not-opened a q same refused w = single-line (refusalLine (codeOf q) 0) (rw (← same, refused) refl) (omega arith) w
 
     -- and so does that of the check
     pub wrote-sound : {m : ℕ} → checkBundle bytes ≡ Sound m → m ≡ entryCount bytes
@@ -59,7 +59,7 @@ module _ (bytes : List ℕ) {before : List ℕ} where
 
     pub wrote-refused : (q : Refusal) (i : ℕ) → checkBundle bytes ≡ BundleRefused q i
         → Writes before 0 (refusalLine (codeOf q) i) 24 after r → Wrote (TextOf bytes) before after r
-    wrote-refused q i refused w = alone (refusalLine (codeOf q) i) (rw refused refl) (omega arith) w
+    wrote-refused q i refused w = single-line (refusalLine (codeOf q) i) (rw refused refl) (omega arith) w
 
     -- every text fits
     pub replayed : length before ≡ textMost → Wrote (TextOf bytes) before after r → Replayed bytes before after r

@@ -45,6 +45,9 @@ case =
     ++ body 4 ++ body 4 ++ body 4 ++ body 4 ++ body 4 ++ body 4
     ++ (1 ∷ [])
 
+abbrev pub nineLines : List ℕ
+nineLines = bytesOf "1 A\n2 N\n3 N\n4 N\n5 N\n6 K 1\n7 B 7\n= 0 6 1\n= 1 7 0\n"
+
 -- "Balances 10 and 5": slips of 16, of 11 and of 10, of which two are refused
 pub funds : List ℕ
 funds =
@@ -61,7 +64,7 @@ pub zeros : List ℕ
 zeros = (1 ∷ 0 ∷ 0 ∷ 0 ∷ 10 ∷ 0 ∷ 0 ∷ 0 ∷ 0 ∷ 0 ∷ []) ++ replicate 131 0
 
 -- Each bundle's text, computed: the whole output; refused messages; a refused opening; a changed byte of the first case's slip; no bytes.
-pub facts : (fixedText case ≡ some (bytesOf "1 A\n2 N\n3 N\n4 N\n5 N\n6 K 1\n7 B 7\n= 0 6 1\n= 1 7 0\n"))
+pub facts : (fixedText case ≡ some nineLines)
     × (fixedText funds ≡ some (bytesOf "1 R 5\n2 R 11\n3 A\n= 0 10 0\n= 1 5 0\n"))
     × (fixedText zeros ≡ some (bytesOf "F 1 0\n"))
     × (fixedText (set case 200 1) ≡ some (bytesOf "F 16 1\n"))
@@ -70,5 +73,5 @@ unfolding case funds zeros decimal noAcks equal conflict hasMost rulesOf openLed
 facts = (refl, refl, refl, refl, refl)
 
 -- document 01's nine lines are the text of its case, and nothing else is
-pub whole-output : Only (TextOf case) (bytesOf "1 A\n2 N\n3 N\n4 N\n5 N\n6 K 1\n7 B 7\n= 0 6 1\n= 1 7 0\n")
+pub whole-output : Only (TextOf case) nineLines
 whole-output = one-text case (facts .0)

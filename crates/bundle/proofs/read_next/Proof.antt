@@ -1,6 +1,7 @@
--- The test is the definition's; a page is that of the entry read.
-use borrow.Author.Tests.{lt-ltb, le-ltb}
+-- The test is the definition's; the entry is the one read.
+use native.Mathlib.Omega.{arith}
 use borrow.Author.Needs.{needs}
+use Rattle.bundle.proofs.Reading.{reads-page, reads-none}
 use Rattle.bundle.proofs.read_next.Statement.{statement}
 use Rattle.bundle.proofs.read_next.Tie as tie
 
@@ -14,10 +15,10 @@ add-t8 : tie.Need-add-t8
 add-t8 c = search needs
 
 returns : tie.Need-returns
-returns c = rw (← c .before .before .entry-count .ensures, lt-ltb _ _ (c .before .if1 .taken), c .contents-at .ensures)
+returns c = reads-page _ _ (omega (arith, c .before .before .entry-count .ensures)) (c .contents-at .ensures)
 
 returns-2 : tie.Need-returns-2
-returns-2 c = rw (← c .before .entry-count .ensures, le-ltb _ _ (c .if1 .left))
+returns-2 c = reads-none _ _ (omega (arith, c .before .entry-count .ensures))
 
 pub read-next-spec : {M : Type 1} → statement M
 read-next-spec =

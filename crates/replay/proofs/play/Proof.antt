@@ -5,7 +5,7 @@ use borrow.Author.Needs.{needs}
 use Rattle.model.specs.Bundles.{entryCount}
 use mathlib.Core.Path.{refl}
 use Rattle.text.proofs.Writing as Text
-use Rattle.replay.proofs.Reading.{took, ended}
+use Rattle.bundle.proofs.Reading.{took, ended}
 use Rattle.replay.proofs.Playing.{PlayedTo, played-none, played-more, played-all}
 use Rattle.replay.proofs.play.Statement.{statement}
 use Rattle.replay.proofs.play.Tie as tie

@@ -40,6 +40,24 @@ fn with_place(y: Tally, t: Transfer, s: Slot) -> Tally
     }
 }
 
+// The same where the tally lies: one ack brings it up to date.
+fn count(y: &mut Tally, t: Transfer, s: Slot)
+    requires { ⌜ (now y .equal < 16) × (now y .recorded < 16) ⌝ }
+    ensures { λ _. ⌜ now (y .exit) ≡ counted (now (y .entry)) t s ⌝ }
+{
+    *y = with_place(*y, t, s);
+}
+
+// The same for a caller that has no reference: the tally after one more ack.
+fn with_ack(before: Tally, t: Transfer, s: Slot) -> Tally
+    requires { ⌜ (before .equal < 16) × (before .recorded < 16) ⌝ }
+    ensures { λ r. ⌜ r ≡ counted before t s ⌝ }
+{
+    let mut y = before;
+    count(&mut y, t, s);
+    y
+}
+
 // The running tally of the recorded acks: each brings it up to date.
 pub fn tally_of(t: Transfer, acks: [AckSlot; 16]) -> Tally
     ensures { λ r. ⌜ r ≡ tallyOf t acks ⌝ }
@@ -52,7 +70,7 @@ pub fn tally_of(t: Transfer, acks: [AckSlot; 16]) -> Tally
     while i < 16 {
         let a = acks[i];
         let s = a.slot;
-        y = with_place(y, t, s);
+        y = with_ack(y, t, s);
         i += 1;
     }
     y

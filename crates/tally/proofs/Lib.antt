@@ -1,0 +1,2 @@
+-- What the walks of this crate share.
+mod Plain

@@ -1,0 +1,5 @@
+-- Laws of a reading that holds its bundle.
+pub mod Pages
+mod Held
+mod Passing
+mod Taking

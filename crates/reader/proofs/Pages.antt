@@ -1,0 +1,57 @@
+-- Which pages a reading takes, and what it shows of the first.
+use Prim.Native.Nat.{ℕ, zero, suc, _+_, _≤_, _<_}
+use native.Mathlib.Omega.{arith}
+use mathlib.Core.Path.{_≡_, refl, ap, _∙_}
+use mathlib.Core.Bool.{Bool, true, false, cond}
+use mathlib.Core.List.{List, []}
+use lib.Dec.{ltb}
+use borrow.Author.Tests.{lt-ltb, le-ltb, ltb-true, ltb-false}
+use Rattle.model.specs.Bundles.{entryCount, contentsAt, pageAt}
+use Rattle.bundle.specs.declared.Read.{Read}
+use Rattle.bundle.specs.declared.Read.the-variants.{Taken, NoMore}
+use Rattle.bundle.specs.Promises.{readOf, ReadAs}
+use Rattle.reader.specs.Promises.{nextOf, placeAfter, lastBody, openingBody}
+
+module _ (bytes : List ℕ) where
+  -- with a page left it is taken; with none left it stays
+  pub page-taken : (i : ℕ) → i < entryCount bytes → readOf bytes i ≡ Taken (contentsAt bytes i) (record { next = i + 1 })
+  page-taken i inside = rw (lt-ltb i (entryCount bytes) inside)
+
+  pub no-more : (i : ℕ) → entryCount bytes ≤ i → readOf bytes i ≡ NoMore (record { next = i })
+  no-more i over = rw (le-ltb i (entryCount bytes) over)
+
+  -- so up to the last page it stands at the k-th entry, and from there on behind the last
+  stands-inside : (k : ℕ) → k ≤ entryCount bytes → placeAfter bytes k ≡ k
+  stands-inside zero h = refl
+  stands-inside (suc k) h =
+      ap (λ i. nextOf (readOf bytes i)) (stands-inside k (omega arith)) ∙ ap nextOf (page-taken k (omega arith)) ∙ omega arith
+
+  stands-behind : (k : ℕ) → entryCount bytes ≤ k → placeAfter bytes k ≡ entryCount bytes
+  stands-behind zero h = omega arith
+  stands-behind (suc k) h = go (ltb k (entryCount bytes)) refl (stands-behind k)
+    where
+      go : (b : Bool) → ltb k (entryCount bytes) ≡ b → (entryCount bytes ≤ k → placeAfter bytes k ≡ entryCount bytes) → placeAfter bytes (suc k) ≡ entryCount bytes
+      go true inside before = let last : suc k ≤ entryCount bytes = ltb-true k (entryCount bytes) inside in stands-inside (suc k) last ∙ omega (arith, last)
+      go false over before =
+          let past : entryCount bytes ≤ k = ltb-false k (entryCount bytes) over in
+          ap (λ i. nextOf (readOf bytes i)) (before past) ∙ ap nextOf (no-more (entryCount bytes) (omega arith))
+
+  -- "A reading of a bundle goes on from the page last taken": asked the k-th time, from 0, it takes page k
+  pub takes-in-order : (k : ℕ) → k < entryCount bytes → readOf bytes (placeAfter bytes k) ≡ Taken (contentsAt bytes k) (record { next = k + 1 })
+  takes-in-order k inside = rw (stands-inside k (omega arith)) (page-taken k inside)
+
+  -- "After the last page it replies that there are no more, and stays there."
+  pub stays-at-end : (k : ℕ) → entryCount bytes ≤ k → readOf bytes (placeAfter bytes k) ≡ NoMore (record { next = entryCount bytes })
+  stays-at-end k over = rw (stands-behind k over) (no-more (entryCount bytes) (omega arith))
+
+  -- a reading that was at entry 0 and was asked once shows the opening page
+  pub shows-first : (p : Read) → ReadAs bytes 0 p → lastBody bytes (nextOf p) ≡ openingBody bytes
+  shows-first p reads = ap (λ r. lastBody bytes (nextOf r)) (reads .meets) ∙ go (ltb 0 (entryCount bytes))
+    where
+      go : (b : Bool) → lastBody bytes (nextOf (cond b (Taken (contentsAt bytes 0) (record { next = 1 })) (NoMore (record { next = 0 })))) ≡ cond b (pageAt bytes 0 .body) []
+      go true = refl
+      go false = refl
+
+  -- which a bundle with a page has
+  pub opens-with : 1 ≤ entryCount bytes → openingBody bytes ≡ pageAt bytes 0 .body
+  opens-with some = rw (lt-ltb 0 (entryCount bytes) some)

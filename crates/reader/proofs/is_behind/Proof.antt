@@ -1,0 +1,13 @@
+-- The test is the definition's own, on the count that the bundle states.
+use borrow.Author.Needs.{needs}
+use Rattle.reader.proofs.is_behind.Statement.{statement}
+use Rattle.reader.proofs.is_behind.Tie as tie
+
+entry-count-requires : tie.Need-entry-count-requires
+entry-count-requires c κs = search needs
+
+returns : tie.Need-returns
+returns c = rw (c .entry-count .ensures)
+
+pub is-behind-spec : {M : Type 1} → statement M
+is-behind-spec = tie.close (tie.spec entry-count-requires returns)

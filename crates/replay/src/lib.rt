@@ -4,7 +4,6 @@ use basics::entries::entry_of;
 use bundle::Cursor;
 use bundle::Read;
 use bundle::check;
-use bundle::read_next;
 use ledger::call;
 use ledger::open;
 use model::Account;
@@ -12,11 +11,11 @@ use model::BundleReply;
 use model::ContentsEntry;
 use model::Ledger;
 use model::OpenReply;
-use pages::contents::body;
-use pages::contents::contents_at;
 use pages::messages::Asked;
 use pages::messages::message_of;
 use pages::messages::opening_of;
+use reader::opening_body;
+use reader::read_page;
 use text::lines::put_account;
 use text::lines::put_refusal;
 use text::lines::put_reply;
@@ -76,7 +75,7 @@ fn play(bytes: &[u8], l: Ledger, out: &mut [u8]) -> Played
     let mut cursor = Cursor { next: 1 };
     loop {
         let i = cursor.next;
-        match read_next(bytes, cursor) {
+        match read_page(bytes, cursor) {
             Read::Taken(c, next) => {
                 let so_far = played.ledger;
                 played = play_entry(bytes, c, i, so_far, out, played.filled);
@@ -115,10 +114,10 @@ fn replay_opened(bytes: &[u8], l: Ledger, out: &mut [u8]) -> usize
 
 // The text of a bundle that is sound.
 fn replay_sound(bytes: &[u8], out: &mut [u8]) -> usize
-    requires { ⌜ entryCount (now bytes) ≤ 1_000 ⌝ }
+    requires { ⌜ (1 ≤ entryCount (now bytes)) × (entryCount (now bytes) ≤ 1_000) ⌝ }
     ensures { λ r. ⌜ Wrote (CheckedText (now (bytes .entry)) (Sound (entryCount (now (bytes .entry))))) (now (out .entry)) (now (out .exit)) r ⌝ }
 {
-    let page = body(bytes, contents_at(bytes, 0));
+    let page = opening_body(bytes);
     let answer = open(opening_of(page));
     let reply = answer.reply;
     let l = answer.ledger;

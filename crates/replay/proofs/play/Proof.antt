@@ -1,4 +1,4 @@
--- The loop over the entries keeps `PlayedTo`; the pages come from the cursor.
+-- The loop over the entries keeps `PlayedTo`; the pages come from a reading that is taken up at the cursor.
 use Prim.Native.Nat.{_-_}
 use native.Mathlib.Omega.{arith}
 use borrow.Author.Needs.{needs}
@@ -19,8 +19,8 @@ abbrev μ-loop : tie.MeasureT-loop
 loop-holds : tie.Need-loop-holds Inv-loop μ-loop
 loop-holds c = played-none _ _ _
 
-read-next-requires : tie.Need-read-next-requires Inv-loop μ-loop
-read-next-requires c κs = search needs
+read-page-requires : tie.Need-read-page-requires Inv-loop μ-loop
+read-page-requires c κs = search needs
 
 enum-known-c : tie.Need-enum-known-c Inv-loop μ-loop
 enum-known-c c = search needs
@@ -32,7 +32,7 @@ loop-less : tie.Need-loop-less Inv-loop μ-loop
 loop-less c =
     let read = c .before .before .before .before .before .before .before .before in
     let at = read .before .loop in
-    let page = took _ (at .cursor .next) (read .read-next .ensures) (c .before .before .before .before .before .before .c .given .1) in
+    let page = took _ (at .cursor .next) (read .read-page .ensures) (c .before .before .before .before .before .before .c .given .1) in
     omega (arith, page .0, page .2)
 
 loop-again : tie.Need-loop-again Inv-loop μ-loop
@@ -40,7 +40,7 @@ loop-again c =
     let read = c .before .before .before .before .before .before .before .before in
     let at = read .before .loop in
     let start = read .before .before .before .before in
-    let page = took _ (at .cursor .next) (read .read-next .ensures) (c .before .before .before .before .before .before .c .given .1) in
+    let page = took _ (at .cursor .next) (read .read-page .ensures) (c .before .before .before .before .before .before .c .given .1) in
     played-more _ _ _ (at .inv) _ page (start .pre) (c .before .before .play-entry .ensures)
 
 enum-told : tie.Need-enum-told Inv-loop μ-loop
@@ -53,7 +53,7 @@ returns : tie.Need-returns Inv-loop μ-loop
 returns c =
     let read = c .before .before in
     let at = read .before .loop in
-    played-all _ _ _ (at .inv) (at .played) refl refl (ended _ (at .cursor .next) (read .read-next .ensures) (c .enum-told .given .1))
+    played-all _ _ _ (at .inv) (at .played) refl refl (ended _ (at .cursor .next) (read .read-page .ensures) (c .enum-told .given .1))
 
 pub play-spec : {M : Type 1} → statement M
 play-spec =
@@ -62,7 +62,7 @@ play-spec =
     Inv-loop
     μ-loop
     loop-holds
-    read-next-requires
+    read-page-requires
     enum-known-c
     play-entry-requires
     loop-less

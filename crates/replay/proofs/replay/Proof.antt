@@ -16,9 +16,9 @@ sound c = sym (c .before .before .check .ensures .meets) ∙ c .enum-told .given
 
 sound-count : (c : tie.After-enum-told) → (
     let m = entryCount (c .before .before .before .before .args .bytes .now) in
-    (c .enum-told .given .0 .0 ≡ m) × (m ≤ 1_000)
+    (c .enum-told .given .0 .0 ≡ m) × (1 ≤ m) × (m ≤ 1_000)
     )
-sound-count c = let few = few-entries _ _ (sound c) in (few .0, omega (arith, few .0, few .2))
+sound-count c = let few = few-entries _ _ (sound c) in (few .0, omega (arith, few .0, few .1), omega (arith, few .0, few .2))
 
 check-requires : tie.Need-check-requires
 check-requires c κs = search needs
@@ -27,7 +27,7 @@ enum-told : tie.Need-enum-told
 enum-told c = search needs
 
 replay-sound-requires : tie.Need-replay-sound-requires
-replay-sound-requires c κs = omega (arith, sound-count (c .before))
+replay-sound-requires c κs = let count = sound-count (c .before) in (count .1, count .2)
 
 enum-known-r : tie.Need-enum-known-r
 enum-known-r c = search needs

@@ -1,12 +1,13 @@
 -- Page 0's body opens the ledger, whose entries follow, or is refused.
 use mathlib.Core.Path.{_≡_, ap, _∙_}
-use Rattle.model.specs.Bundles.{openingOf, pageOf}
+use Rattle.model.specs.Bundles.{openingOf}
 use Rattle.model.specs.Openings.{openLedger}
 use Prim.Native.Nat.{ℕ, _≤_}
 use mathlib.Core.List.{List}
 use Rattle.model.specs.declared.OpenReply.the-variants.{Opened}
 use Rattle.replay.specs.Text.{opened}
 use Rattle.model.proofs.Opened.{opened-group}
+use Rattle.reader.proofs.Pages.{opens-with}
 use Rattle.replay.proofs.Telling.{wrote-opened, wrote-not-opened}
 use borrow.Author.Needs.{needs}
 use Rattle.replay.proofs.replay_sound.Statement.{statement}
@@ -14,12 +15,13 @@ use Rattle.replay.proofs.replay_sound.Tie as tie
 
 -- the answer is that of the opening page
 abbrev bundle : tie.After-open → List ℕ
-bundle c = c .before .before .before .before .before .before .args .bytes .now
+bundle c = c .before .before .before .before .before .args .bytes .now
 
 answered : (c : tie.After-open) → c .«open» .result ≡ opened (bundle c)
 answered c =
+    let some = c .before .before .before .before .before .pre .0 in
     c .«open» .ensures .meets
-    ∙ ap openLedger (c .before .opening-of .ensures ∙ ap openingOf (c .before .before .body .ensures ∙ ap (λ e. pageOf (bundle c) e .body) (c .before .before .before .contents-at .ensures)))
+    ∙ ap openLedger (c .before .opening-of .ensures ∙ ap openingOf (c .before .before .opening-body .ensures ∙ opens-with (bundle c) some))
 
 few-accounts : (c : tie.After-open) → c .«open» .result .reply ≡ Opened → c .«open» .result .ledger .accounts ≤ 32
 few-accounts c opens =
@@ -27,11 +29,8 @@ few-accounts c opens =
     let group = opened-group (c .before .opening-of .result) (rw meets at opens) in
     rw (meets, group .opened) (group .accounts-fit)
 
-contents-at-requires : tie.Need-contents-at-requires
-contents-at-requires c κs = search needs
-
-body-requires : tie.Need-body-requires
-body-requires c κs = search needs
+opening-body-requires : tie.Need-opening-body-requires
+opening-body-requires c κs = search needs
 
 opening-of-requires : tie.Need-opening-of-requires
 opening-of-requires c κs = search needs
@@ -46,7 +45,7 @@ replay-opened-requires : tie.Need-replay-opened-requires
 replay-opened-requires c κs =
     let told = c .before in
     let answer = told .before .before .before in
-    (c .before .before .before .before .before .before .before .before .before .before .pre, few-accounts answer (told .enum-told .given .1))
+    (c .before .before .before .before .before .before .before .before .before .pre .1, few-accounts answer (told .enum-told .given .1))
 
 enum-known-reply : tie.Need-enum-known-reply
 enum-known-reply c = search needs
@@ -79,8 +78,7 @@ pub replay-sound-spec : {M : Type 1} → statement M
 replay-sound-spec =
     tie.close
     (tie.spec
-    contents-at-requires
-    body-requires
+    opening-body-requires
     opening-of-requires
     open-requires
     enum-told

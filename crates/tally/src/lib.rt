@@ -49,7 +49,7 @@ fn count(y: &mut Tally, t: Transfer, s: Slot)
 }
 
 // The same for a caller that has no reference: the tally after one more ack.
-fn with_ack(before: Tally, t: Transfer, s: Slot) -> Tally
+fn plus_ack(before: Tally, t: Transfer, s: Slot) -> Tally
     requires { ⌜ (before .equal < 16) × (before .recorded < 16) ⌝ }
     ensures { λ r. ⌜ r ≡ counted before t s ⌝ }
 {
@@ -70,7 +70,7 @@ pub fn tally_of(t: Transfer, acks: [AckSlot; 16]) -> Tally
     while i < 16 {
         let a = acks[i];
         let s = a.slot;
-        y = with_ack(y, t, s);
+        y = plus_ack(y, t, s);
         i += 1;
     }
     y

@@ -39,8 +39,8 @@ mul-a c = omega arith
 array-copy-out-a : tie.Need-array-copy-out-a Inv-loop μ-loop
 array-copy-out-a c = omega arith
 
-with-ack-requires : tie.Need-with-ack-requires Inv-loop μ-loop
-with-ack-requires c κs = (omega arith, omega arith)
+plus-ack-requires : tie.Need-plus-ack-requires Inv-loop μ-loop
+plus-ack-requires c κs = (omega arith, omega arith)
 
 add-i : tie.Need-add-i Inv-loop μ-loop
 add-i c = omega arith
@@ -49,7 +49,7 @@ loop-less : tie.Need-loop-less Inv-loop μ-loop
 loop-less c = omega arith
 
 loop-again : tie.Need-loop-again Inv-loop μ-loop
-loop-again c = (omega arith, tallied-more _ _ _ _ (c .before .before .before .loop .inv .1) _ (omega arith) (c .with-ack .ensures))
+loop-again c = (omega arith, tallied-more _ _ _ _ (c .before .before .before .loop .inv .1) _ (omega arith) (c .plus-ack .ensures))
 
 returns : tie.Need-returns Inv-loop μ-loop
 returns c = tallied-all _ _ _ _ (c .before .loop .inv .1) (omega arith)
@@ -63,7 +63,7 @@ tally-of-spec =
     loop-holds
     mul-a
     array-copy-out-a
-    with-ack-requires
+    plus-ack-requires
     add-i
     loop-less
     loop-again

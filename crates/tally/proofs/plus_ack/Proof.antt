@@ -46,12 +46,12 @@ use Rattle.tally.proofs.count as count
 use Rattle.tally.proofs.count.Symbol as count-def
 use Rattle.tally.proofs.count.Symbol.{name as #tally·count}
 use Rattle.tally.proofs.count.Met as count-thm
-use Rattle.tally.proofs.with_ack.Key.{name as #tally·with-ack}
-use Rattle.tally.proofs.with_ack as with-ack
-use Rattle.tally.proofs.with_ack.Statement as stated
-use Rattle.tally.proofs.with_ack.Code as code
+use Rattle.tally.proofs.plus_ack.Key.{name as #tally·plus-ack}
+use Rattle.tally.proofs.plus_ack as plus-ack
+use Rattle.tally.proofs.plus_ack.Statement as stated
+use Rattle.tally.proofs.plus_ack.Code as code
 
-abbrev stayed : Stays (with-ack.ended .signature .params) (with-ack.ended .kept)
+abbrev stayed : Stays (plus-ack.ended .signature .params) (plus-ack.ended .kept)
 stayed = (stay-none (λ _. T.the-row) yes, (stay-none (λ _. X.the-row) yes, (stay-none (λ _. S.the-row) yes, tt)))
 
 module _ {M : Type 1} (𝓤 : URA M) (H : Heap 𝓤) (A : Atoms 𝓤) (W : Given 𝓤 H A) (at-mem : Memory → SProp 𝓤) (run : Routine → Fun 𝓤) (y : Tally) (t : Transfer) (s : Slot) (vy vt vs : Val) (y-is : Is T.the-row y (vy ∷ [])) (t-is : Is X.the-row t (vt ∷ [])) (s-is : Is S.the-row s (vs ∷ [])) where
@@ -62,7 +62,7 @@ module _ {M : Type 1} (𝓤 : URA M) (H : Heap 𝓤) (A : Atoms 𝓤) (W : Given
   at = (vy ∷ [], (vt ∷ [], (vs ∷ [], tt)))
 
   abbrev Post : Val → SProp 𝓤
-  Post = walkOf 𝓤 H A with-ack.ended stayed (with-ack.clauses 𝓤 H A at-mem run) .post ((tt, tt, tt, x, at), tt)
+  Post = walkOf 𝓤 H A plus-ack.ended stayed (plus-ack.clauses 𝓤 H A at-mem run) .post ((tt, tt, tt, x, at), tt)
 
   -- the call of `count`: what it is passed and asks. The local at l is lent for the lifetime α under the name δ
   abbrev Count : Clauses 𝓤 count.ended
@@ -82,13 +82,13 @@ module _ {M : Type 1} (𝓤 : URA M) (H : Heap 𝓤) (A : Atoms 𝓤) (W : Given
   exits : (r : Tally) → r ≡ counted y t s → ent 𝓤 (sem 𝓤 H A (T.the-row .own r (T′.lowered r ∷ []))) (Post (T′.lowered r))
   exits r e =
       qed W (‵ (T.the-row .own r (T′.lowered r ∷ [])) ∷ []) ∵
-      suffices ! _ (ends-at 𝓤 H A with-ack.ended stayed (with-ack.clauses 𝓤 H A at-mem run) W ((tt, tt, tt, x, at), tt) (T′.lowered r) r (tt, (tt, (tt, tt))) (tt, (tt, (tt, tt)))) $ says ! e $
+      suffices ! _ (ends-at 𝓤 H A plus-ack.ended stayed (plus-ack.clauses 𝓤 H A at-mem run) W ((tt, tt, tt, x, at), tt) (T′.lowered r) r (tt, (tt, (tt, tt))) (tt, (tt, (tt, tt)))) $ says ! e $
       ack-owned ! t s _ _ t-is s-is $ tally-owned ! y _ y-is $ fjoin ! $ nothing ! $ done !
 
   module _ (C : Calls 𝓤 H) (Λ : Loops 𝓤 H) (fm : FmC 𝓤 H (W .laws) C) (known : Triple 𝓤 (C #tally·count) (Promised 𝓤 H A count.ended Count)) where
-    walk : (y .equal < 16) × (y .recorded < 16) → ent 𝓤 (onEntry 𝓤 H A with-ack.signature tt tt x at) (WpFn 𝓤 H C Λ code.function (vy ∷ vt ∷ vs ∷ []) Post)
+    walk : (y .equal < 16) × (y .recorded < 16) → ent 𝓤 (onEntry 𝓤 H A plus-ack.signature tt tt x at) (WpFn 𝓤 H C Λ code.function (vy ∷ vt ∷ vs ∷ []) Post)
     walk ok =
-        qed W (raw (onEntry 𝓤 H A with-ack.signature tt tt x at) ∷ []) ∵ drop ! $ enter ! C Λ code.function (vy ∷ vt ∷ vs ∷ []) _ $
+        qed W (raw (onEntry 𝓤 H A plus-ack.signature tt tt x at) ∷ []) ∵ drop ! $ enter ! C Λ code.function (vy ∷ vt ∷ vs ∷ []) _ $
         alloc1 ! (λ l₀. alloc1 ! (λ l₁. alloc1 ! (λ l₂. alloc1 ! (λ l₃. alloc1 ! (λ l₄. alloc1 ! (λ l₅. alloc1 ! (λ l₆. alloc0 ! $ params1 ! $ pass1 ! (init ! 10 refl (tally-typed 𝓤 H A W y _ y-is)) $
         pass1 ! (init ! 8 refl (transfer-typed 𝓤 H A W t _ t-is)) $ pass1 ! (init ! 6 refl (slot-typed 𝓤 H A W s _ s-is)) $ pass0 ! $
         -- [room for _6; …; room for _5; …; room for _4; …; _3; …; _2; …; _1; …; room for _0; …]
@@ -113,16 +113,16 @@ module _ {M : Type 1} (𝓤 : URA M) (H : Heap 𝓤) (A : Atoms 𝓤) (W : Given
         move ! (15 ∷ 16 ∷ []) $ free1 ! $ move ! (13 ∷ 14 ∷ []) $ free1 ! $ move ! (11 ∷ 12 ∷ []) $ free1 ! $ move ! (9 ∷ 10 ∷ []) $ free1 ! $ move ! (0 ∷ 8 ∷ []) $ free1 ! $ move ! (5 ∷ 6 ∷ []) $ free1 ! $ move ! (3 ∷ 4 ∷ []) $ free1 ! $ free0 ! $
         keep ! (0 ∷ []) $ by ! (exits (ws .0) e))))))))))))
 
-pub with-ack-spec : {M : Type 1} → stated.statement M
+pub plus-ack-spec : {M : Type 1} → stated.statement M
 unfolding code.routine
-with-ack-spec 𝓤 H 𝓜 𝓖 𝓡 =
+plus-ack-spec 𝓤 H 𝓜 𝓖 𝓡 =
     let A = 𝓖 .A in
     let given = W 𝓤 H 𝓜 𝓖 𝓡 code.env in
     let calls = C 𝓤 H 𝓜 𝓖 𝓡 code.env in
     let loops = Λ 𝓤 H 𝓜 𝓖 𝓡 code.env in
-    let clauses = with-ack.clauses 𝓤 H A (𝓜 .mem) (𝓡 .run) in
+    let clauses = plus-ack.clauses 𝓤 H A (𝓜 .mem) (𝓡 .run) in
     let known = cited 𝓤 H (Promised 𝓤 H A count.ended (count.clauses 𝓤 H A (𝓜 .mem) (𝓡 .run))) 𝓜 𝓡 code.env #tally·count count-def.routine code.calls-tally·count (count-thm.met 𝓤 H 𝓜 𝓖 𝓡) in
-    concluded 𝓤 H 𝓜 𝓖 𝓡 code.env with-ack.ended stayed clauses #tally·with-ack code.function
+    concluded 𝓤 H 𝓜 𝓖 𝓡 code.env plus-ack.ended stayed clauses #tally·plus-ack code.function
     (goes-none 𝓤 H A given 0 (λ _. T.the-row) yes (λ κs x f. refl), (goes-none 𝓤 H A given 0 (λ _. X.the-row) yes (λ κs x f. refl), (goes-none 𝓤 H A given 0 (λ _. S.the-row) yes (λ κs x f. refl), tt))) (code.unfolded 𝓤 H 𝓜 𝓡)
     (λ κs. (LL.vals T.the-type T′.the-laws, (LL.vals X.the-type X′.the-laws, (EL.vals S.the-type S′.the-laws, tt)))) (λ κs. (LL.tells T.the-type T′.the-laws, (LL.tells X.the-type X′.the-laws, (EL.tells S.the-type S′.the-laws, tt))))
     (λ κs qs bounds a g are. needs 𝓤 _ _

@@ -1,30 +1,24 @@
--- Which pages a reading takes, and what it shows of the first.
+-- Which pages a reading takes, and what it shows of them.
 use Prim.Native.Nat.{ℕ, zero, suc, _+_, _≤_, _<_}
 use native.Mathlib.Omega.{arith}
-use mathlib.Core.Path.{_≡_, refl, ap, _∙_}
+use mathlib.Core.Path.{_≡_, refl, sym, ap, _∙_}
 use mathlib.Core.Bool.{Bool, true, false, cond}
 use mathlib.Core.List.{List, []}
 use lib.Dec.{ltb}
-use borrow.Author.Tests.{lt-ltb, le-ltb, ltb-true, ltb-false}
+use borrow.Author.Tests.{lt-ltb, ltb-true, ltb-false}
 use Rattle.model.specs.Bundles.{entryCount, contentsAt, pageAt}
 use Rattle.bundle.specs.declared.Read.{Read}
 use Rattle.bundle.specs.declared.Read.the-variants.{Taken, NoMore}
 use Rattle.bundle.specs.Promises.{readOf, ReadAs}
+use Rattle.bundle.proofs.Reading.{reads-page, reads-none}
 use Rattle.reader.specs.Promises.{nextOf, placeAfter, lastBody, openingBody}
 
 module _ (bytes : List ℕ) where
-  -- with a page left it is taken; with none left it stays
-  pub page-taken : (i : ℕ) → i < entryCount bytes → readOf bytes i ≡ Taken (contentsAt bytes i) (record { next = i + 1 })
-  page-taken i inside = rw (lt-ltb i (entryCount bytes) inside)
-
-  pub no-more : (i : ℕ) → entryCount bytes ≤ i → readOf bytes i ≡ NoMore (record { next = i })
-  no-more i over = rw (le-ltb i (entryCount bytes) over)
-
-  -- so up to the last page it stands at the k-th entry, and from there on behind the last
+  -- up to the last page a reading that was asked k times stands at entry k, and from there on behind the last
   stands-inside : (k : ℕ) → k ≤ entryCount bytes → placeAfter bytes k ≡ k
   stands-inside zero h = refl
   stands-inside (suc k) h =
-      ap (λ i. nextOf (readOf bytes i)) (stands-inside k (omega arith)) ∙ ap nextOf (page-taken k (omega arith)) ∙ omega arith
+      ap (λ i. nextOf (readOf bytes i)) (stands-inside k (omega arith)) ∙ ap nextOf (sym (reads-page bytes k (omega arith) refl .meets)) ∙ omega arith
 
   stands-behind : (k : ℕ) → entryCount bytes ≤ k → placeAfter bytes k ≡ entryCount bytes
   stands-behind zero h = omega arith
@@ -34,15 +28,19 @@ module _ (bytes : List ℕ) where
       go true inside before = let last : suc k ≤ entryCount bytes = ltb-true k (entryCount bytes) inside in stands-inside (suc k) last ∙ omega (arith, last)
       go false over before =
           let past : entryCount bytes ≤ k = ltb-false k (entryCount bytes) over in
-          ap (λ i. nextOf (readOf bytes i)) (before past) ∙ ap nextOf (no-more (entryCount bytes) (omega arith))
+          ap (λ i. nextOf (readOf bytes i)) (before past) ∙ ap nextOf (sym (reads-none bytes (entryCount bytes) (omega arith) .meets))
 
   -- "A reading of a bundle goes on from the page last taken": asked the k-th time, from 0, it takes page k
   pub takes-in-order : (k : ℕ) → k < entryCount bytes → readOf bytes (placeAfter bytes k) ≡ Taken (contentsAt bytes k) (record { next = k + 1 })
-  takes-in-order k inside = rw (stands-inside k (omega arith)) (page-taken k inside)
+  takes-in-order k inside = rw (stands-inside k (omega arith)) (sym (reads-page bytes k inside refl .meets))
 
   -- "After the last page it replies that there are no more, and stays there."
   pub stays-at-end : (k : ℕ) → entryCount bytes ≤ k → readOf bytes (placeAfter bytes k) ≡ NoMore (record { next = entryCount bytes })
-  stays-at-end k over = rw (stands-behind k over) (no-more (entryCount bytes) (omega arith))
+  stays-at-end k over = rw (stands-behind k over) (sym (reads-none bytes (entryCount bytes) (omega arith) .meets))
+
+  -- "What a page shows is that body's own bytes in the bundle": when page k was taken, its body
+  pub shows-taken : (k : ℕ) → k < entryCount bytes → lastBody bytes (placeAfter bytes (suc k)) ≡ pageAt bytes k .body
+  shows-taken k inside = rw (stands-inside (suc k) (omega arith))
 
   -- a reading that was at entry 0 and was asked once shows the opening page
   pub shows-first : (p : Read) → ReadAs bytes 0 p → lastBody bytes (nextOf p) ≡ openingBody bytes

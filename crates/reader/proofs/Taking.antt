@@ -22,7 +22,7 @@ use types.Tokens.{lft-new, lft-end}
 use sound.WpLaws.{FmC}
 use denote.Laws.{Is}
 use denote.Memory.{mem}
-use denote.Ref.{RefT, NamedLft, now, MutRef}
+use denote.Ref.{RefT, now, MutRef}
 use denote.Steps.{nothing}
 use denote.Triple.Clauses.{Clauses}
 use denote.Triple.Statement.{Triple}
@@ -33,11 +33,8 @@ use Rattle.bundle.proofs.Read as S
 use Rattle.reader.specs.declared.Reader.{Reader}
 use Rattle.reader.specs.Promises.{goneOn}
 use Rattle.reader.proofs.Reader.Laws as T′
-use Rattle.reader.proofs.Held.{B, D, L}
+use Rattle.reader.proofs.Held.{α₁, B, D, L}
 use Rattle.reader.proofs.take as take
-
-abbrev pub α : Lft → NamedLft
-α κ = record { mir = named 1; lft = κ }
 
 module _ {M : Type 1} (𝓤 : URA M) (H : Heap 𝓤) (A : Atoms 𝓤) (W : Given 𝓤 H A) (at-mem : Memory → SProp 𝓤) (run : Routine → Fun 𝓤) (κ : Lft) (q : Share) (l : ℕ) (d : Reader) where
   abbrev pub Take : Clauses 𝓤 take.ended
@@ -52,9 +49,9 @@ module _ {M : Type 1} (𝓤 : URA M) (H : Heap 𝓤) (A : Atoms 𝓤) (W : Given
   to a δ = (((a ∷ κ, (κ, tt)), (PosShare·left q, (PosShare·right q, tt)), (meet-⊑-right (a ∷ []) κ, tt), (lent δ, tt), (vptr l 0 ∷ [], tt)), tt)
 
   asked : (a : ℕ) (δ : GName)
-      → ent 𝓤 (⋆ 𝓤 H A (‵ (flft (a ∷ κ) (PosShare·left q)) ∷ ‵ (flft κ (PosShare·right q)) ∷ ‵ (MutRef (named 0) (a ∷ κ) (B (α κ)) .own (lent δ) (vptr l 0 ∷ [])) ∷ [])) (Promised 𝓤 H A take.ended Take .pre (to a δ))
+      → ent 𝓤 (⋆ 𝓤 H A (‵ (flft (a ∷ κ) (PosShare·left q)) ∷ ‵ (flft κ (PosShare·right q)) ∷ ‵ (MutRef (named 0) (a ∷ κ) (B (α₁ κ)) .own (lent δ) (vptr l 0 ∷ [])) ∷ [])) (Promised 𝓤 H A take.ended Take .pre (to a δ))
   asked a δ =
-      qed W (‵ (flft (a ∷ κ) (PosShare·left q)) ∷ ‵ (flft κ (PosShare·right q)) ∷ ‵ (MutRef (named 0) (a ∷ κ) (B (α κ)) .own (lent δ) (vptr l 0 ∷ [])) ∷ []) ∵
+      qed W (‵ (flft (a ∷ κ) (PosShare·left q)) ∷ ‵ (flft κ (PosShare·right q)) ∷ ‵ (MutRef (named 0) (a ∷ κ) (B (α₁ κ)) .own (lent δ) (vptr l 0 ∷ [])) ∷ []) ∵
       nothing ! $ move ! (2 ∷ 0 ∷ []) $ join ! $ move ! (1 ∷ 0 ∷ []) $ join ! $
       -- [the tokens; the loan]
       nothing ! $ move ! (2 ∷ 0 ∷ []) $ fjoin ! $ move ! (1 ∷ 0 ∷ []) $ join ! $ nothing ! $ move ! (1 ∷ 0 ∷ []) $ join ! $ done !
@@ -65,15 +62,15 @@ module _ {M : Type 1} (𝓤 : URA M) (H : Heap 𝓤) (A : Atoms 𝓤) (W : Given
 
   pub takes : {K : Type 0} {Γ : List (Item 𝓤)} {E : Env 𝓤 H} {C : Calls 𝓤 H} {Λ : Loops 𝓤 H} {f : Name} {xs : List Operand} {place : Place} {rest : Code} {post : Post 𝓤 H}
       → K → FmC 𝓤 H (W .laws) C → Triple 𝓤 (C f) (Promised 𝓤 H A take.ended Take) → (v : Val)
-      → ((a : ℕ) (δ : GName) → Opds K W (raw (Promised 𝓤 H A take.ended Take .pre (to a δ)) ∷ ‵ (flent (a ∷ κ) (Body (mem (B (α κ))) l 0 δ)) ∷ raw (rest-of a) ∷ Γ) E xs (vptr l 0 ∷ []))
-      → ((u : Val) (p : Read) (d′ : Reader) → ReadAs (now (d .bundle)) (d .next) p → d′ ≡ goneOn d p → Is S.the-row p (u ∷ []) → Is (B (α κ)) d′ (T′.lowered d′ ∷ [])
-      → Seq K W (‵ (fat fullShare (T′.mir erased) l 0 (T′.lowered d′)) ∷ ‵ (B (α κ) .own d′ (T′.lowered d′ ∷ [])) ∷ ‵ (flft κ q) ∷ ‵ (S.the-row .own p (u ∷ [])) ∷ Γ) (lands C Λ E place u rest post))
-      → Seq K W (‵ (fat fullShare (T′.mir erased) l 0 v) ∷ ‵ (B (α κ) .own d (v ∷ [])) ∷ ‵ (flft κ q) ∷ Γ) (runs C Λ E (seq (call f xs place) rest) post)
+      → ((a : ℕ) (δ : GName) → Opds K W (raw (Promised 𝓤 H A take.ended Take .pre (to a δ)) ∷ ‵ (flent (a ∷ κ) (Body (mem (B (α₁ κ))) l 0 δ)) ∷ raw (rest-of a) ∷ Γ) E xs (vptr l 0 ∷ []))
+      → ((u : Val) (p : Read) (d′ : Reader) → ReadAs (now (d .bundle)) (d .next) p → d′ ≡ goneOn d p → Is S.the-row p (u ∷ []) → Is (B (α₁ κ)) d′ (T′.lowered d′ ∷ [])
+      → Seq K W (‵ (fat fullShare (T′.mir erased) l 0 (T′.lowered d′)) ∷ ‵ (B (α₁ κ) .own d′ (T′.lowered d′ ∷ [])) ∷ ‵ (flft κ q) ∷ ‵ (S.the-row .own p (u ∷ [])) ∷ Γ) (lands C Λ E place u rest post))
+      → Seq K W (‵ (fat fullShare (T′.mir erased) l 0 v) ∷ ‵ (B (α₁ κ) .own d (v ∷ [])) ∷ ‵ (flft κ q) ∷ Γ) (runs C Λ E (seq (call f xs place) rest) post)
   takes t fm known v os k =
       lft-new t tt (λ a. move t (3 ∷ []) $ use1 W (‵ (flft κ ql) ⊛ ‵ (flft κ qr)) (W .lfts .lft-split κ q) $ split t $ move t (2 ∷ 0 ∷ []) $
       use1 W (‵ (flft (a ∷ []) ql) ⊛ raw (rest-of a)) (W .lfts .lft-carve a ql) $ split t $ move t (0 ∷ 2 ∷ []) $ use2 W (‵ (flft (a ∷ κ) ql)) (W .lfts .lft-meet (a ∷ []) κ ql) $
       -- [the loan's token; the rest of a's; half of κ's; the local; what the reading owns; Γ]
-      move t (3 ∷ 4 ∷ []) $ lends (D (α κ)) (L (α κ)) t tt (T′.mir erased) refl (named 0) (a ∷ κ) d l v (λ δ.
+      move t (3 ∷ 4 ∷ []) $ lends (D (α₁ κ)) (L (α₁ κ)) t tt (T′.mir erased) refl (named 0) (a ∷ κ) d l v (λ δ.
       move t (2 ∷ 4 ∷ 0 ∷ []) $ use3 W (raw (Promised 𝓤 H A take.ended Take .pre (to a δ))) (asked a δ) $
       asks 𝓤 H A take.ended Take (to a δ) t fm known (λ p ws. ReadAs (now (d .bundle)) (d .next) p × (ws .0 ≡ goneOn d p)) (λ p ws. refl) (os a δ) (λ u p ws said is.
       -- [what the reply owns; the tokens; the last value; the lender's part; the rest of a's token; Γ]
@@ -82,7 +79,7 @@ module _ {M : Type 1} (𝓤 : URA M) (H : Heap 𝓤) (A : Atoms 𝓤) (W : Given
       -- [κ's token; the loan's of a; true; what the reply owns; the last value; the lender's part; the rest of a's token; Γ]
       move t (1 ∷ 6 ∷ []) $ use2 W (‵ (flft (a ∷ []) fullShare)) (apply∗ 𝓤 (A .lft (a ∷ []) ql) (A .lft (a ∷ []) fullShare)) $ lft-end t tt $
       use1 W (‵ (fdead (a ∷ κ))) (W .lfts .dead-incl (a ∷ κ) (a ∷ []) (meet-⊑-left (a ∷ []) κ)) $ move t (4 ∷ []) $ fsplit t $ move t (2 ∷ 6 ∷ 0 ∷ []) $
-      regains (D (α κ)) (L (α κ)) t tt (T′.mir erased) refl (ws .0) l (λ is′.
+      regains (D (α₁ κ)) (L (α₁ κ)) t tt (T′.mir erased) refl (ws .0) l (λ is′.
       -- [the local; what the reading owns; true; κ's token; true; what the reply owns; Γ]
       move t (2 ∷ []) $ drop t $ move t (3 ∷ []) $ drop t $ k u p (ws .0) (said .0) (said .1) is is′))))
     where

@@ -20,7 +20,7 @@ use sound.WpLaws.{FmC}
 use denote.RattleType.{owns}
 use denote.Laws.{Is}
 use denote.Builtin.{u8}
-use denote.Ref.{RefT, NamedLft, now}
+use denote.Ref.{RefT, now}
 use denote.Signature.{plain}
 use denote.Slice.{sliceVal, ShrSlice, slice-vals, shr-slice-tells, shr-slice-lawful, shr-slice-copy}
 use denote.Steps.{nothing}
@@ -41,8 +41,8 @@ use Rattle.reader.specs.declared.Reader.{Reader}
 use Rattle.reader.specs.Promises.{nextOf, goneOn, lastBody, openingBody}
 use Rattle.reader.proofs.Reader.Laws as T′
 use Rattle.reader.proofs.Pages.{shows-first}
-use Rattle.reader.proofs.Held.{B, D, L}
-use Rattle.reader.proofs.Taking.{α, takes}
+use Rattle.reader.proofs.Held.{α₁, αᵉ, B, D, L}
+use Rattle.reader.proofs.Taking.{takes}
 use Rattle.reader.proofs.start as start
 use Rattle.reader.proofs.start.Symbol as start-def
 use Rattle.reader.proofs.start.Symbol.{name as #reader·start}
@@ -96,14 +96,14 @@ module _ {M : Type 1} (𝓤 : URA M) (H : Heap 𝓤) (A : Atoms 𝓤) (W : Given
   abbrev to-shown : Reader → Promised 𝓤 H A shown.ended Shown .Ghost
   to-shown r = (((κ, tt), (q, tt), tt, (r, tt), (T′.lowered r ∷ [], tt)), tt)
 
-  goes-shown : (r : Reader) → ent 𝓤 (⋆ 𝓤 H A (‵ (flft κ q) ∷ ‵ (B (α κ) .own r (T′.lowered r ∷ [])) ∷ [])) (Promised 𝓤 H A shown.ended Shown .pre (to-shown r))
+  goes-shown : (r : Reader) → ent 𝓤 (⋆ 𝓤 H A (‵ (flft κ q) ∷ ‵ (B (α₁ κ) .own r (T′.lowered r ∷ [])) ∷ [])) (Promised 𝓤 H A shown.ended Shown .pre (to-shown r))
   goes-shown r =
-      qed W (‵ (flft κ q) ∷ ‵ (B (α κ) .own r (T′.lowered r ∷ [])) ∷ []) ∵ nothing ! $ move ! (1 ∷ 0 ∷ []) $ join ! $ nothing ! $ move ! (2 ∷ 0 ∷ []) $ fjoin ! $ move ! (1 ∷ 0 ∷ []) $ join ! $
+      qed W (‵ (flft κ q) ∷ ‵ (B (α₁ κ) .own r (T′.lowered r ∷ [])) ∷ []) ∵ nothing ! $ move ! (1 ∷ 0 ∷ []) $ join ! $ nothing ! $ move ! (2 ∷ 0 ∷ []) $ fjoin ! $ move ! (1 ∷ 0 ∷ []) $ join ! $
       nothing ! $ move ! (1 ∷ 0 ∷ []) $ join ! $ done !
 
   -- the machine values have their types
-  reading : (r : Reader) (u : Val) → Is (B (α κ)) r (u ∷ []) → Holds (hasTy (T′.mir erased) u) × WT u
-  reading r u is = let αᵉ : NamedLft = record { mir = erased; lft = κ } in LL.lawful (D αᵉ) (L αᵉ) 𝓤 H A W .typed r _ is .0
+  reading : (r : Reader) (u : Val) → Is (B (α₁ κ)) r (u ∷ []) → Holds (hasTy (T′.mir erased) u) × WT u
+  reading r u is = LL.lawful (D (αᵉ κ)) (L (αᵉ κ)) 𝓤 H A W .typed r _ is .0
 
   exits : (x : RefT (List ℕ)) (u : Val) → now x ≡ openingBody (now s) → ent 𝓤 (⋆ 𝓤 H A (‵ (ShrSlice (named 0) κ u8 .own x (u ∷ [])) ∷ (‵ (flft κ q) ⊛ ‵ ftrue) ∷ ‵ Own ∷ [])) (Post u)
   exits x u e =

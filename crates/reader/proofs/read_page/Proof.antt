@@ -44,8 +44,8 @@ use Rattle.bundle.proofs.Read as S
 use Rattle.bundle.proofs.Read.Laws as S′
 use Rattle.reader.specs.declared.Reader.{Reader}
 use Rattle.reader.proofs.Reader.Laws as T′
-use Rattle.reader.proofs.Held.{B, D, L}
-use Rattle.reader.proofs.Taking.{α, takes}
+use Rattle.reader.proofs.Held.{α₁, B, D, L}
+use Rattle.reader.proofs.Taking.{takes}
 use Rattle.reader.proofs.take as take
 use Rattle.reader.proofs.take.Symbol as take-def
 use Rattle.reader.proofs.take.Symbol.{name as #reader·take}
@@ -93,7 +93,7 @@ module _ {M : Type 1} (𝓤 : URA M) (H : Heap 𝓤) (A : Atoms 𝓤) (W : Given
         (init ! 2 refl (tt, (shr-slice-lawful 𝓤 H A W (named 0) κ u8 .typed s (v ∷ []) s-is .0 .1, (record { fits = fits }, tt)))) $
         assigns ! (addr ! (from ! (stop !))) (from ! (stop !)) (init ! 0 refl (tt, tt)) $
         move ! (11 ∷ []) $ fsplit ! $ use1 W (‵ Own ⊛ ‵ Own) (shr-slice-copy 𝓤 H A W (named 0) κ u8 .twice s (v ∷ [])) $ split ! $
-        nothing ! $ owned ! u16 (Is u16) (uint-makes 𝓤 H A W w16) (c .next) _ (refl, fits) $ fjoin ! $ move ! (1 ∷ 0 ∷ []) $ fjoin ! $ use1 W (‵ (B (α κ) .own made (T′.lowered made ∷ []))) (own-shut 𝓤 H A W (D (α κ)) (L (α κ)) (s, (c .next, tt))) $
+        nothing ! $ owned ! u16 (Is u16) (uint-makes 𝓤 H A W w16) (c .next) _ (refl, fits) $ fjoin ! $ move ! (1 ∷ 0 ∷ []) $ fjoin ! $ use1 W (‵ (B (α₁ κ) .own made (T′.lowered made ∷ []))) (own-shut 𝓤 H A W (D (α₁ κ)) (L (α₁ κ)) (s, (c .next, tt))) $
         move ! (13 ∷ []) $ split ! $ move ! (7 ∷ 2 ∷ 0 ∷ []) $
         -- [_3; what the reading owns; the token; true; what the bundle owns; what the place owns; _4; …; what frees _3; _2; …; _1; …; room for _0; …]
         takes 𝓤 H A W at-mem run κ q l₃ made ! fm known (T′.lowered made) (λ a δ. and-then ! (load ! (from ! (stop !)) (look ! 6 refl)) (no-more !)) (λ u p d′ reads gone is is′.

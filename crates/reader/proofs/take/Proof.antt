@@ -27,7 +27,7 @@ use denote.Laws.{Is}
 use denote.Memory.{mem, cellAt}
 use denote.Plain.{uint-makes, uint-lawful}
 use denote.Builtin.{u8, u16}
-use denote.Ref.{RefT, NamedLft, now, MutRef, ptr-vals, mut-tells}
+use denote.Ref.{RefT, now, MutRef, ptr-vals, mut-tells}
 use denote.Signature.{Slot, plain, namedLft}
 use denote.Slice.{ShrSlice}
 use denote.Steps.{only, closes, owned, nothing}
@@ -55,7 +55,7 @@ use Rattle.reader.specs.declared.Reader.{Reader}
 use Rattle.reader.specs.Promises.{nextOf}
 use Rattle.reader.proofs.Reader as T
 use Rattle.reader.proofs.Reader.Laws as T′
-use Rattle.reader.proofs.Held.{B, D, L, fields, bundleVal, looked-into}
+use Rattle.reader.proofs.Held.{α₁, αᵉ, B, D, L, fields, bundleVal, looked-into}
 use Rattle.reader.proofs.place_after as place-after
 use Rattle.reader.proofs.place_after.Symbol as place-after-def
 use Rattle.reader.proofs.place_after.Symbol.{name as #reader·place-after}
@@ -64,13 +64,6 @@ use Rattle.reader.proofs.take.Key.{name as #reader·take}
 use Rattle.reader.proofs.take as take
 use Rattle.reader.proofs.take.Statement as stated
 use Rattle.reader.proofs.take.Code as code
-
--- 'a, and the reading's type as a local of a body has it
-abbrev α : Lft → NamedLft
-α κ′ = record { mir = named 1; lft = κ′ }
-
-abbrev αᵉ : Lft → NamedLft
-αᵉ κ′ = record { mir = erased; lft = κ′ }
 
 -- `Reader<'a>`, as the referent's place in the signature
 abbrev behind : Slot 2
@@ -91,7 +84,7 @@ module _ {M : Type 1} (𝓤 : URA M) (H : Heap 𝓤) (A : Atoms 𝓤) (W : Given
   moved n = record { bundle = h .bundle; next = n }
 
   abbrev Own : Reader → Fml
-  Own d = B (α κ′) .own d (T′.lowered d ∷ [])
+  Own d = B (α₁ κ′) .own d (T′.lowered d ∷ [])
 
   abbrev Post : Val → SProp 𝓤
   Post = walkOf 𝓤 H A take.ended stayed (take.clauses 𝓤 H A at-mem run) .post (((κ, (κ′, tt)), (q, (q′, tt)), bounds, x, at), tt)
@@ -108,7 +101,7 @@ module _ {M : Type 1} (𝓤 : URA M) (H : Heap 𝓤) (A : Atoms 𝓤) (W : Given
 
   goes-read : h .next < 2 ^ 16 → ent 𝓤 (⋆ 𝓤 H A (‵ (Own h) ∷ (‵ (flft κ′ q′) ⊛ ‵ ftrue) ∷ [])) (sep 𝓤 (Promised 𝓤 H A read-next.ended ReadNext .pre to-read) (sem 𝓤 H A (Own h)))
   goes-read fits =
-      qed W (‵ (Own h) ∷ (‵ (flft κ′ q′) ⊛ ‵ ftrue) ∷ []) ∵ use1 W (‵ (ShrSlice (named 1) κ′ u8 .own (h .bundle) (bundleVal h ∷ [])) ⊛ ‵ (Own h)) (looked-into (α κ′) 𝓤 H A W h) $ split ! $
+      qed W (‵ (Own h) ∷ (‵ (flft κ′ q′) ⊛ ‵ ftrue) ∷ []) ∵ use1 W (‵ (ShrSlice (named 1) κ′ u8 .own (h .bundle) (bundleVal h ∷ [])) ⊛ ‵ (Own h)) (looked-into (α₁ κ′) 𝓤 H A W h) $ split ! $
       -- [what the bundle owns; what the reading owns; the token]
       nothing ! $ owned ! At.the-row (Is At.the-row) (LL.makes At.the-type At′.the-plain 𝓤 H A) here _ (LL.owes At.the-type At′.the-laws here ((refl, fits), tt)) $ fjoin ! $ move ! (1 ∷ 0 ∷ []) $ fjoin ! $
       move ! (2 ∷ 0 ∷ []) $ join ! $ nothing ! $ move ! (1 ∷ 0 ∷ []) $ join ! $ frame ! $ done !
@@ -125,19 +118,19 @@ module _ {M : Type 1} (𝓤 : URA M) (H : Heap 𝓤) (A : Atoms 𝓤) (W : Given
 
   -- what the bundle owns is kept, and the facts of the next entry are made anew
   again : (n : ℕ) → n < 2 ^ 16 → ent 𝓤 (sem 𝓤 H A (Own h)) (sem 𝓤 H A (Own (moved n)))
-  again n fits = qed W (‵ (Own h) ∷ []) ∵ owned ! u16 (Is u16) (uint-makes 𝓤 H A W w16) n _ (refl, fits) $ move ! (1 ∷ 0 ∷ []) $ by ! (own-put 𝓤 H A W (D (α κ′)) (L (α κ′)) 1 (fields (α κ′) h) n (T′.lowered h))
+  again n fits = qed W (‵ (Own h) ∷ []) ∵ owned ! u16 (Is u16) (uint-makes 𝓤 H A W w16) n _ (refl, fits) $ move ! (1 ∷ 0 ∷ []) $ by ! (own-put 𝓤 H A W (D (α₁ κ′)) (L (α₁ κ′)) 1 (fields (α₁ κ′) h) n (T′.lowered h))
 
   -- the machine values have their types
-  held : Is (B (α κ′)) h (T′.lowered h ∷ []) → Holds (hasTy (T′.mir erased) (T′.lowered h)) × WT (T′.lowered h)
+  held : Is (B (α₁ κ′)) h (T′.lowered h ∷ []) → Holds (hasTy (T′.mir erased) (T′.lowered h)) × WT (T′.lowered h)
   held was = LL.lawful (D (αᵉ κ′)) (L (αᵉ κ′)) 𝓤 H A W .typed h _ was .0
 
   replied : (p : Read) (u : Val) → Is S.the-row p (u ∷ []) → Holds (hasTy S′.mir u) × WT u
   replied p u is = EL.lawful S.the-type S′.the-laws 𝓤 H A W tt .typed p _ is .0
 
   exits : (p : Read) (u : Val) (n : ℕ) → ReadAs (now (h .bundle)) (h .next) p → n ≡ nextOf p
-      → ent 𝓤 (⋆ 𝓤 H A (‵ (fobs γ (B (α κ′) .coded .code (moved n))) ∷ ‵ (fbor κ (Body (mem (B (α κ′))) b o γ)) ∷ ‵ (flft κ q) ∷ ‵ (S.the-row .own p (u ∷ [])) ∷ (‵ (flft κ′ q′) ⊛ ‵ ftrue) ∷ [])) (Post u)
+      → ent 𝓤 (⋆ 𝓤 H A (‵ (fobs γ (B (α₁ κ′) .coded .code (moved n))) ∷ ‵ (fbor κ (Body (mem (B (α₁ κ′))) b o γ)) ∷ ‵ (flft κ q) ∷ ‵ (S.the-row .own p (u ∷ [])) ∷ (‵ (flft κ′ q′) ⊛ ‵ ftrue) ∷ [])) (Post u)
   exits p u n reads place =
-      qed W (‵ (fobs γ (B (α κ′) .coded .code (moved n))) ∷ ‵ (fbor κ (Body (mem (B (α κ′))) b o γ)) ∷ ‵ (flft κ q) ∷ ‵ (S.the-row .own p (u ∷ [])) ∷ (‵ (flft κ′ q′) ⊛ ‵ ftrue) ∷ []) ∵
+      qed W (‵ (fobs γ (B (α₁ κ′) .coded .code (moved n))) ∷ ‵ (fbor κ (Body (mem (B (α₁ κ′))) b o γ)) ∷ ‵ (flft κ q) ∷ ‵ (S.the-row .own p (u ∷ [])) ∷ (‵ (flft κ′ q′) ⊛ ‵ ftrue) ∷ []) ∵
       suffices ! _ (ends-at 𝓤 H A take.ended stayed (take.clauses 𝓤 H A at-mem run) W (((κ, (κ′, tt)), (q, (q′, tt)), bounds, x, at), tt) u p (moved n, tt) (tt, tt)) $ says ! (reads, ap moved place) $
       move ! (2 ∷ 4 ∷ []) $ join ! $ frame ! $
       -- [the name; the borrow; what the reply owns]
@@ -146,10 +139,10 @@ module _ {M : Type 1} (𝓤 : URA M) (H : Heap 𝓤) (A : Atoms 𝓤) (W : Given
   module _ (C : Calls 𝓤 H) (Λ : Loops 𝓤 H) (fm : FmC 𝓤 H (W .laws) C) (known-read : Triple 𝓤 (C #bundle·read-next) (Promised 𝓤 H A read-next.ended ReadNext)) (known-place : Triple 𝓤 (C #reader·place-after) (Promised 𝓤 H A place-after.ended PlaceAfter)) where
     walk : ent 𝓤 (onEntry 𝓤 H A take.signature (κ, (κ′, tt)) (q, (q′, tt)) x at) (WpFn 𝓤 H C Λ code.function (vptr b o ∷ []) Post)
     walk =
-        qed W ((‵ (flft κ q) ⊛ ‵ (flft κ′ q′) ⊛ ‵ ftrue) ∷ ‵ (owns (MutRef (named 0) κ (B (α κ′)) ∷ []) x at) ∷ []) ∵ enter ! C Λ code.function (vptr b o ∷ []) _ $
+        qed W ((‵ (flft κ q) ⊛ ‵ (flft κ′ q′) ⊛ ‵ ftrue) ∷ ‵ (owns (MutRef (named 0) κ (B (α₁ κ′)) ∷ []) x at) ∷ []) ∵ enter ! C Λ code.function (vptr b o ∷ []) _ $
         alloc1 ! (λ l₀. alloc1 ! (λ l₁. alloc1 ! (λ l₂. alloc1 ! (λ l₃. alloc1 ! (λ l₄. alloc1 ! (λ l₅. alloc0 ! $ params1 ! $ pass1 ! (init ! 8 refl (tt, tt)) $ pass0 ! $
         move ! (13 ∷ []) $ fsplit ! $ fsplit3 ! $ drop ! $ move ! (15 ∷ []) $ split ! $ move ! (2 ∷ 3 ∷ 0 ∷ []) $
-        unlocks (D (α κ′)) (L (α κ′)) ! tt h b o (λ was.
+        unlocks (D (α₁ κ′)) (L (α₁ κ′)) ! tt h b o (λ was.
         use1 W (‵ (fat fullShare (T′.mir erased) b o (T′.lowered h))) (W .laws .raw-at fullShare (T′.mir erased) b o (T′.lowered h)) $
         -- [the reading's cell; what it owns; the open borrow; the name, twice; 'a's token; true; _5; …; _4; …; _3; …; _2; …; _1; …; room for _0; …]
         assigns ! (of-opd ! (load ! (from ! (hop ! (look ! 15 refl) (fld ! refl (stop !)))) (look-in ! 0 (sub ! 0 refl (whole !))))) (from ! (stop !)) (init ! 11 refl (tt, held was .1 .0)) $
@@ -167,7 +160,7 @@ module _ {M : Type 1} (𝓤 : URA M) (H : Heap 𝓤) (A : Atoms 𝓤) (W : Given
         assigns ! (of-opd ! (load ! (from ! (stop !)) (look ! 10 refl))) (from ! (hop ! (look ! 16 refl) (fld ! refl (stop !)))) (store-in ! 3 (sub ! 1 refl (whole !)) (tt, record { fits = is′ .1 })) $
         assigns ! (of-opd ! (load ! (from ! (stop !)) (look ! 14 refl))) (from ! (stop !)) (init ! 18 refl (replied p u is)) $
         move ! (2 ∷ []) $ use1 W (‵ (Own (moved n))) (again n (is′ .1)) $ move ! (3 ∷ 0 ∷ 4 ∷ 5 ∷ 6 ∷ []) $
-        use1 W (‵ (cellAt fullShare (B (α κ′) .mir) (T′.lowered (moved n) ∷ []) b o)) (W .laws .at-raw fullShare (T′.mir erased) b o (T′.lowered (moved n))) $ closes ! tt (B (α κ′)) (moved n) (T′.lowered (moved n) ∷ []) b o $
+        use1 W (‵ (cellAt fullShare (B (α₁ κ′) .mir) (T′.lowered (moved n) ∷ []) b o)) (W .laws .at-raw fullShare (T′.mir erased) b o (T′.lowered (moved n))) $ closes ! tt (B (α₁ κ′)) (moved n) (T′.lowered (moved n) ∷ []) b o $
         -- [the name; the borrow; its token; what the reply owns; 'a's token; true; _5; …; _4; …; _3; …; _2; …; _1; …; _0; …]
         returns ! (look ! 16 refl) $ forget ! 6 refl $ forget ! 8 refl $ forget ! 10 refl $ forget ! 12 refl $ forget ! 14 refl $ forget ! 16 refl $
         move ! (16 ∷ 17 ∷ []) $ free1 ! $ move ! (14 ∷ 15 ∷ []) $ free1 ! $ move ! (12 ∷ 13 ∷ []) $ free1 ! $ move ! (10 ∷ 11 ∷ []) $ free1 ! $ move ! (8 ∷ 9 ∷ []) $ free1 ! $ move ! (6 ∷ 7 ∷ []) $ free1 ! $ free0 ! $
@@ -183,5 +176,5 @@ take-spec 𝓤 H 𝓜 𝓖 𝓡 =
     let clauses = take.clauses 𝓤 H A (𝓜 .mem) (𝓡 .run) in
     let known-read = cited 𝓤 H (Promised 𝓤 H A read-next.ended (read-next.clauses 𝓤 H A (𝓜 .mem) (𝓡 .run))) 𝓜 𝓡 code.env #bundle·read-next read-next-def.routine code.calls-bundle·read-next (read-next-thm.met 𝓤 H 𝓜 𝓖 𝓡) in
     let known-place = cited 𝓤 H (Promised 𝓤 H A place-after.ended (place-after.clauses 𝓤 H A (𝓜 .mem) (𝓡 .run))) 𝓜 𝓡 code.env #reader·place-after place-after-def.routine code.calls-reader·place-after (place-after-thm.met 𝓤 H 𝓜 𝓖 𝓡) in
-    concluded 𝓤 H 𝓜 𝓖 𝓡 code.env take.ended stayed clauses #reader·take code.function (goes-ref 𝓤 H A given 2 0 tt behind, tt) (code.unfolded 𝓤 H 𝓜 𝓡) (λ κs. (ptr-vals, tt)) (λ κs. (mut-tells (named 0) (κs .0) (B (α (κs .1 .0))), tt))
+    concluded 𝓤 H 𝓜 𝓖 𝓡 code.env take.ended stayed clauses #reader·take code.function (goes-ref 𝓤 H A given 2 0 tt behind, tt) (code.unfolded 𝓤 H 𝓜 𝓡) (λ κs. (ptr-vals, tt)) (λ κs. (mut-tells (named 0) (κs .0) (B (α₁ (κs .1 .0))), tt))
     (λ κs qs bounds a g are. via 𝓤 _ (fst∗ 𝓤 _ (emp 𝓤)) (walk 𝓤 H A given (𝓜 .mem) (𝓡 .run) (κs .0) (κs .1 .0) (qs .0) (qs .1 .0) bounds (a .0 .ptr .0) (a .0 .ptr .1) (a .0 .name) (a .0 .now) calls loops (framed 𝓤 H 𝓜 𝓖 𝓡 code.env) known-read known-place))

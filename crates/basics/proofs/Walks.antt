@@ -1,4 +1,5 @@
--- What every walk by hand has in common: a call by the callee's contract, and the way from the walk to the function's statement.
+-- What the walks by hand have in common: a call by the callee's contract, a struct behind a `&mut`, a local that is lent, and the way
+-- from the walk to the function's statement.
 use mathlib.Core.Path.{_≡_, refl, sym, subst}
 use mathlib.Core.List.{List, [], _∷_, _++_}
 use Prim.Native.Nat.{ℕ}
@@ -8,7 +9,7 @@ use mir.Syntax.{Name, Fn, Place, Ty, Lifetime, Opd as Operand, Body as Code, seq
 use mir.Val.{Val, vptr}
 use mir.Raw.{raw as rawTy}
 use base.Logic.{SProp, ent, sep, id⊢}
-use base.Fml.{Lft, GName, Share, fsep, fat, flft, fdead, fobs, fauth, fres, fbor, fobor, flent}
+use base.Fml.{Lft, GName, Share, fsep, fat, fdies, flft, fdead, fobs, fauth, fres, fbor, fobor, flent}
 use prog.Model.{Model}
 use prog.Routine.{Env as Names}
 use prog.Wp.{Heap, Env, Calls, Loops, Closed, WpFn}
@@ -16,8 +17,8 @@ use ghost.Atoms.{Atoms, sem}
 use contract.Lifetimes.{Lfts, Shares, AllOutlive}
 use contract.Monad.{fact}
 use contract.Running.{Running, GhostRules, givenOf, tables, tablesOf}
-use types.Kit.{Given, Item, ‵, raw, _⊛_, some, later, Goal, Post, runs, lands, Soaks, Seq, _$_, _∵_, !, qed, move, use1, use2, use3, split, pick, rewrite, fsplit, fjoin, fpick, fpack, await, done}
-use types.Run.{Opds}
+use types.Kit.{Given, Item, ‵, raw, _⊛_, some, later, Goal, Post, runs, lands, frees, Soaks, Seq, Step, step, _$_, _∵_, !, qed, move, use1, use2, use3, split, pick, rewrite, fsplit, fjoin, fpick, fpack, await, done}
+use types.Run.{Opds, forget, free1, free0}
 use types.SemTy.{Body}
 use sound.WpLaws.{FmC, fmOf, WpFn-mono}
 use denote.RattleType.{RattleType, flat}
@@ -76,6 +77,20 @@ module _ {M : Type 1} (𝓤 : URA M) (H : Heap 𝓤) (A : Atoms 𝓤) (T : Ended
       use1 W (raw (fact 𝓤 (φ r ws))) (subst (λ (P : SProp 𝓤). ent 𝓤 (told r ws) P) (states r ws) (id⊢ 𝓤 (told r ws))) $ heard t (φ r ws) (λ h.
       -- [the last values; the tokens; the result]
       move t (2 ∷ 1 ∷ []) $ peeks t Result (Is Result) (shows 𝓤 H A Result) r (u ∷ []) (k u r ws h)))))
+
+-- The end of a body: its locals, each a cell with what frees it, in the order of the function's list, are freed.
+abbrev cells : {M : Type 1} (𝓤 : URA M) → List (Ty × ℕ × Val) → List (Item 𝓤)
+cells 𝓤 [] = []
+cells 𝓤 (c ∷ cs) = ‵ (fat fullShare (c .0) (c .1) 0 (c .2)) ∷ ‵ (fdies (c .0) (c .1)) ∷ cells 𝓤 cs
+
+abbrev places : List (Ty × ℕ × Val) → List (Ty × ℕ)
+places [] = []
+places (c ∷ cs) = (c .0, c .1) ∷ places cs
+
+module _ {M : Type 1} {𝓤 : URA M} {H : Heap 𝓤} {A : Atoms 𝓤} {K : Type 0} {W : Given 𝓤 H A} {Γ : List (Item 𝓤)} {G : Goal 𝓤 H} where
+  pub frees-all : K → (cs : List (Ty × ℕ × Val)) → Step K W Γ G (cells 𝓤 cs ++ Γ) (frees (places cs) G)
+  frees-all t [] = free0 t
+  frees-all t (c ∷ cs) = step (λ s. forget t 0 refl $ free1 t $ frees-all t cs $ s)
 
 -- A function's walk gives the function's statement, over the tables of the environment that it is defined in.
 module _ {M : Type 1} (𝓤 : URA M) (H : Heap 𝓤) (𝓜 : Model 𝓤 H) (𝓖 : GhostRules 𝓤 H) (𝓡 : Running 𝓤 H 𝓜) (γ : Names) where

@@ -18,7 +18,7 @@ use contract.Monad.{fact}
 use contract.Running.{Running, GhostRules}
 use types.Kit.{Given, ‵, raw, _⊛_, ⋆, _$_, _∵_, !, qed, by, move, drop, use1, use2, split, join, fsplit, fjoin, suffices, frame, done}
 use types.Part.{whole, sub, look-in}
-use types.Run.{look, init, forget, stop, fld, from, load, of-opd, and-then, no-more, assigns, land, returns, enter, alloc1, alloc0, params1, pass1, pass0, free1, free0}
+use types.Run.{look, init, stop, fld, from, load, of-opd, and-then, no-more, assigns, land, returns, enter, alloc1, alloc0, params1, pass1, pass0}
 use sound.WpLaws.{FmC}
 use denote.RattleType.{owns}
 use denote.Laws.{Is}
@@ -34,7 +34,7 @@ use denote.Triple.Entry.{Vals, onEntry}
 use denote.Triple.Statement.{Triple}
 use denote.Triple.Walked.{says, Stays, stay-none, walkOf, goes-none, ends-at}
 use denote.Exit.{yes}
-use Rattle.basics.proofs.Walks.{Promised, asks, C, Λ, W, framed, concluded}
+use Rattle.basics.proofs.Walks.{Promised, asks, frees-all, C, Λ, W, framed, concluded}
 use Rattle.reader.specs.declared.Reader.{Reader}
 use Rattle.reader.proofs.Reader.Laws as T′
 use Rattle.reader.proofs.Held.{B, D, L, bundleVal, looked-into}
@@ -139,8 +139,7 @@ module _ (res : Slot 1) (φ : (κs : Lfts 1) → RefT (List ℕ) → ℕ → typ
           asks 𝓤 H A (covered res) Covered to ! fm known (λ r _. φ (κ, tt) (d .bundle) (d .next) r) (λ r ws. refl) (and-then ! (load ! (from ! (stop !)) (look ! 4 refl)) (and-then ! (load ! (from ! (stop !)) (look ! 2 refl)) (no-more !))) (λ u r ws e is.
           -- [the result; the token; the last values; what the reading owns; _3; …; _2; …; _1; …; room for _0; …]
           move ! (2 ∷ []) $ drop ! $ land ! (from ! (stop !)) (init ! 9 refl (typed r u is)) $
-          returns ! (look ! 9 refl) $ forget ! 3 refl $ forget ! 5 refl $ forget ! 7 refl $ forget ! 9 refl $
-          move ! (9 ∷ 10 ∷ []) $ free1 ! $ move ! (7 ∷ 8 ∷ []) $ free1 ! $ move ! (5 ∷ 6 ∷ []) $ free1 ! $ move ! (3 ∷ 4 ∷ []) $ free1 ! $ free0 ! $ by ! (exits r u e))))))
+          returns ! (look ! 9 refl) $ move ! (9 ∷ 10 ∷ 7 ∷ 8 ∷ 5 ∷ 6 ∷ 3 ∷ 4 ∷ []) $ frees-all ! ((_, l₀, _) ∷ (_, l₁, _) ∷ (_, l₂, _) ∷ (_, l₃, _) ∷ []) $ by ! (exits r u e))))))
 
 -- such a function meets its contract, where that says φ, and the covered one meets its own
 module _ (res : Slot 1) (φ : (κs : Lfts 1) → RefT (List ℕ) → ℕ → typeAt res κs .Denot → Type 0) (τ : Ty) (f name : Name) {M : Type 1} (𝓤 : URA M) (H : Heap 𝓤) (𝓜 : Model 𝓤 H) (𝓖 : GhostRules 𝓤 H) (𝓡 : Running 𝓤 H 𝓜) (γ : Names) where

@@ -15,7 +15,7 @@ use prog.Wp.{Heap, Calls, Loops, WpFn}
 use ghost.Atoms.{Atoms}
 use contract.Monad.{Fun}
 use types.Kit.{Given, ‵, raw, _⊛_, ⋆, _$_, _∵_, !, qed, by, move, keep, use1, use2, split, join, fsplit, fjoin, suffices, frame, done}
-use types.Run.{look, init, store, forget, stop, from, load, addr, of-opd, and-then, no-more, assigns, land, returns, enter, alloc1, alloc0, params1, pass1, pass0, free1, free0}
+use types.Run.{look, init, store, stop, from, load, addr, of-opd, and-then, no-more, assigns, land, returns, enter, alloc1, alloc0, params1, pass1, pass0}
 use sound.WpLaws.{FmC}
 use denote.RattleType.{owns}
 use denote.Laws.{Is}
@@ -32,7 +32,7 @@ use denote.Triple.Statement.{Triple}
 use denote.Triple.Table.{cited}
 use denote.Triple.Walked.{says, Stays, stay-none-slice, walkOf, goes-none-slice, ends-at}
 use denote.Exit.{yes}
-use Rattle.basics.proofs.Walks.{Promised, asks, C, Λ, W, framed, concluded}
+use Rattle.basics.proofs.Walks.{Promised, asks, frees-all, C, Λ, W, framed, concluded}
 use Rattle.bundle.specs.declared.Read.{Read}
 use Rattle.bundle.specs.Promises.{ReadAs}
 use Rattle.bundle.proofs.Read as S
@@ -134,8 +134,7 @@ module _ {M : Type 1} (𝓤 : URA M) (H : Heap 𝓤) (A : Atoms 𝓤) (W : Given
         asks 𝓤 H A shown.ended Shown (to-shown r′) ! fm known-shown (λ x _. now x ≡ lastBody (now (r′ .bundle)) (r′ .next)) (λ x ws. refl) (and-then ! (load ! (from ! (stop !)) (look ! 11 refl)) (no-more !)) (λ w x ws′ shows is-x.
         -- [what the body owns; the token; the last values; _2; what the reply owns; true; the last values; what the bundle owns; true; _5; …; _4; …; _3; …; what frees _2; _1; …; room for _0; …]
         land ! (from ! (stop !)) (init ! 18 refl (shr-slice-lawful 𝓤 H A W (named 0) κ u8 .typed x _ is-x .0)) $
-        returns ! (look ! 18 refl) $ forget ! 3 refl $ forget ! 9 refl $ forget ! 11 refl $ forget ! 13 refl $ forget ! 16 refl $ forget ! 18 refl $
-        move ! (18 ∷ 19 ∷ []) $ free1 ! $ move ! (16 ∷ 17 ∷ []) $ free1 ! $ move ! (3 ∷ 15 ∷ []) $ free1 ! $ move ! (12 ∷ 13 ∷ []) $ free1 ! $ move ! (10 ∷ 11 ∷ []) $ free1 ! $ move ! (8 ∷ 9 ∷ []) $ free1 ! $ free0 ! $
+        returns ! (look ! 18 refl) $ move ! (18 ∷ 19 ∷ 16 ∷ 17 ∷ 3 ∷ 15 ∷ 13 ∷ 14 ∷ 11 ∷ 12 ∷ 9 ∷ 10 ∷ []) $ frees-all ! ((_, l₀, _) ∷ (_, l₁, _) ∷ (_, l₂, _) ∷ (_, l₃, _) ∷ (_, l₄, _) ∷ (_, l₅, _) ∷ []) $
         keep ! (0 ∷ 1 ∷ 6 ∷ []) $ by ! (exits x w (shows ∙ shows-opening s r r′ p made reads gone)))))))))))
 
 pub opening-body-spec : {M : Type 1} → stated.statement M

@@ -19,7 +19,7 @@ use contract.Lifetimes.{AllOutlive}
 use contract.Monad.{Fun}
 use types.Kit.{Given, ‵, raw, _⊛_, ⋆, _$_, _∵_, !, qed, by, move, keep, drop, use1, use2, split, join, rewrite, fsplit, fsplit3, fjoin, fjoin3, feqI, suffices, frame, done}
 use types.Part.{agg, whole, sub, look-in, store-in}
-use types.Run.{look, init, store, forget, stop, hop, fld, from, load, of-opd, and-then, no-more, assigns, land, returns, enter, alloc1, alloc0, params1, pass1, pass0, free1, free0}
+use types.Run.{look, init, store, stop, hop, fld, from, load, of-opd, and-then, no-more, assigns, land, returns, enter, alloc1, alloc0, params1, pass1, pass0}
 use types.SemTy.{Body}
 use sound.WpLaws.{FmC}
 use denote.RattleType.{owns}
@@ -39,7 +39,7 @@ use denote.Triple.Entry.{onEntry}
 use denote.Triple.Statement.{Triple}
 use denote.Triple.Table.{cited}
 use denote.Triple.Walked.{says, Stays, stay-ref, walkOf, goes-ref, ends-at}
-use Rattle.basics.proofs.Walks.{Promised, asks, unlocks, C, Λ, W, framed, concluded}
+use Rattle.basics.proofs.Walks.{Promised, asks, unlocks, frees-all, C, Λ, W, framed, concluded}
 use Rattle.bundle.specs.declared.Cursor.{Cursor}
 use Rattle.bundle.specs.declared.Read.{Read}
 use Rattle.bundle.specs.Promises.{ReadAs}
@@ -162,8 +162,7 @@ module _ {M : Type 1} (𝓤 : URA M) (H : Heap 𝓤) (A : Atoms 𝓤) (W : Given
         move ! (2 ∷ []) $ use1 W (‵ (Own (moved n))) (again n (is′ .1)) $ move ! (3 ∷ 0 ∷ 4 ∷ 5 ∷ 6 ∷ []) $
         use1 W (‵ (cellAt fullShare (B (α₁ κ′) .mir) (T′.lowered (moved n) ∷ []) b o)) (W .laws .at-raw fullShare (T′.mir erased) b o (T′.lowered (moved n))) $ closes ! tt (B (α₁ κ′)) (moved n) (T′.lowered (moved n) ∷ []) b o $
         -- [the name; the borrow; its token; what the reply owns; 'a's token; true; _5; …; _4; …; _3; …; _2; …; _1; …; _0; …]
-        returns ! (look ! 16 refl) $ forget ! 6 refl $ forget ! 8 refl $ forget ! 10 refl $ forget ! 12 refl $ forget ! 14 refl $ forget ! 16 refl $
-        move ! (16 ∷ 17 ∷ []) $ free1 ! $ move ! (14 ∷ 15 ∷ []) $ free1 ! $ move ! (12 ∷ 13 ∷ []) $ free1 ! $ move ! (10 ∷ 11 ∷ []) $ free1 ! $ move ! (8 ∷ 9 ∷ []) $ free1 ! $ move ! (6 ∷ 7 ∷ []) $ free1 ! $ free0 ! $
+        returns ! (look ! 16 refl) $ move ! (16 ∷ 17 ∷ 14 ∷ 15 ∷ 12 ∷ 13 ∷ 10 ∷ 11 ∷ 8 ∷ 9 ∷ 6 ∷ 7 ∷ []) $ frees-all ! ((_, l₀, _) ∷ (_, l₁, _) ∷ (_, l₂, _) ∷ (_, l₃, _) ∷ (_, l₄, _) ∷ (_, l₅, _) ∷ []) $
         keep ! (0 ∷ 1 ∷ 2 ∷ 3 ∷ 4 ∷ []) $ by ! (exits p u n reads place))))))))))
 
 pub take-spec : {M : Type 1} → stated.statement M

@@ -1,4 +1,5 @@
-// A bundle: its check, and its reading page by page. What a page holds is read by the crate `pages`.
+// A bundle: its check, and its reading page by page, by a cursor. What a page holds is read by the crate `pages`; a reading that holds its
+// bundle is in the crate `reader`.
 use crate::checks::Search;
 use crate::checks::Walk;
 use crate::checks::first_wrong_sum;

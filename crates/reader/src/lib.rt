@@ -36,8 +36,8 @@ fn body_before<'a>(bundle: &'a [u8], next: u16) -> &'a [u8]
     body(bundle, contents_at(bundle, next - 1))
 }
 
-// No entry is left from this one.
-fn is_behind(bundle: &[u8], next: u16) -> bool
+// This entry is behind the last.
+fn is_past_end(bundle: &[u8], next: u16) -> bool
     ensures { λ r. ⌜ r ≡ noneLeft (now (bundle .entry)) next ⌝ }
 {
     entry_count(bundle) <= next
@@ -70,7 +70,7 @@ pub fn shown<'a>(r: Reader<'a>) -> &'a [u8]
 pub fn none_left<'a>(r: Reader<'a>) -> bool
     ensures { λ b. ⌜ b ≡ noneLeft (now (r .entry .bundle)) (r .entry .next) ⌝ }
 {
-    is_behind(r.bundle, r.next)
+    is_past_end(r.bundle, r.next)
 }
 
 // One page by plain parameters: a reading is taken up at this place, and takes the next page.

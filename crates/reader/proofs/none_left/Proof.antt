@@ -1,4 +1,4 @@
--- The reading is taken apart, and `is_behind` is called.
+-- The reading is taken apart, and `is_past_end` is called.
 use Prim.Native.Nat.{ℕ}
 use mathlib.Core.Path.{_≡_, refl}
 use mathlib.Core.List.{List, [], _∷_}
@@ -22,9 +22,9 @@ use Rattle.basics.proofs.Walks.{Promised}
 use Rattle.reader.specs.declared.Reader.{Reader}
 use Rattle.reader.specs.Promises.{noneLeft}
 use Rattle.reader.proofs.Passing.{thin, covered, Ensures, stating, covered-says, passed-on}
-use Rattle.reader.proofs.is_behind.Symbol as is-behind-def
-use Rattle.reader.proofs.is_behind.Symbol.{name as #reader·is-behind}
-use Rattle.reader.proofs.is_behind.Met as is-behind-thm
+use Rattle.reader.proofs.is_past_end.Symbol as is-past-end-def
+use Rattle.reader.proofs.is_past_end.Symbol.{name as #reader·is-past-end}
+use Rattle.reader.proofs.is_past_end.Met as is-past-end-thm
 use Rattle.reader.proofs.none_left.Key.{name as #reader·none-left}
 use Rattle.reader.proofs.none_left as none-left
 use Rattle.reader.proofs.none_left.Statement as stated
@@ -47,6 +47,6 @@ module _ {M : Type 1} (𝓤 : URA M) (H : Heap 𝓤) (A : Atoms 𝓤) (mem : Mem
 pub none-left-spec : {M : Type 1} → stated.statement M
 unfolding code.routine
 none-left-spec 𝓤 H 𝓜 𝓖 𝓡 =
-    passed-on res φ tyBool #reader·is-behind #reader·none-left 𝓤 H 𝓜 𝓖 𝓡 code.env (promises 𝓤 H (𝓖 .A) (𝓜 .mem) (𝓡 .run)) (code.unfolded 𝓤 H 𝓜 𝓡)
-    (cited 𝓤 H (Promised 𝓤 H (𝓖 .A) (covered res) (covered-says res 𝓤 φ)) 𝓜 𝓡 code.env #reader·is-behind is-behind-def.routine code.calls-reader·is-behind (is-behind-thm.met 𝓤 H 𝓜 𝓖 𝓡))
+    passed-on res φ tyBool #reader·is-past-end #reader·none-left 𝓤 H 𝓜 𝓖 𝓡 code.env (promises 𝓤 H (𝓖 .A) (𝓜 .mem) (𝓡 .run)) (code.unfolded 𝓤 H 𝓜 𝓡)
+    (cited 𝓤 H (Promised 𝓤 H (𝓖 .A) (covered res) (covered-says res 𝓤 φ)) 𝓜 𝓡 code.env #reader·is-past-end is-past-end-def.routine code.calls-reader·is-past-end (is-past-end-thm.met 𝓤 H 𝓜 𝓖 𝓡))
     (λ κs r u is. bool-lawful 𝓤 H (𝓖 .A) (givenOf 𝓤 H 𝓜 𝓖) .typed r (u ∷ []) is .0)

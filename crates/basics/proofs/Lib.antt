@@ -2,5 +2,6 @@
 pub mod Typed
 pub mod Walks
 pub mod Loops
+pub mod Filling
 pub mod Counting
 pub mod ReadBack

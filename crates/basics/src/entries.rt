@@ -7,7 +7,7 @@ use model::Seat;
 use model::Slot;
 use model::Transfer;
 ghost use mathlib.Core.Path.{_≡_};
-ghost use Rattle.model.specs.Records.{freshEntry, withBalance, withAcked, withAck, withProposed, withPending, withBooked, entryAt, setEntry, entryOf, withEntry};
+ghost use Rattle.model.specs.Records.{freshEntry, withAcked, withAck, withProposed, withPending, entryOf, withEntry};
 
 // An account at opening.
 pub fn fresh_entry(balance: u32) -> Entry
@@ -21,14 +21,6 @@ pub fn fresh_entry(balance: u32) -> Entry
         proposed: false,
         pending: Slot::Empty,
     }
-}
-
-pub fn with_balance(e: Entry, balance: u32) -> Entry
-    ensures { λ r. ⌜ r ≡ withBalance e balance ⌝ }
-{
-    let mut out = e;
-    out.balance = balance;
-    out
 }
 
 pub fn with_acked(e: Entry) -> Entry
@@ -75,43 +67,12 @@ pub fn with_pending(e: Entry, t: Transfer) -> Entry
     }
 }
 
-// The number was applied: the account's acks and marks are cleared.
-pub fn with_booked(e: Entry, number: u32) -> Entry
-    ensures { λ r. ⌜ r ≡ withBooked e number ⌝ }
-{
-    Entry {
-        balance: e.balance,
-        current: number,
-        acked: false,
-        acks: [AckSlot { slot: Slot::Empty }; 16],
-        proposed: false,
-        pending: Slot::Empty,
-    }
-}
-
-pub fn entry_at(es: [Entry; 32], a: Account) -> Entry
-    ensures { λ r. ⌜ r ≡ entryAt es a ⌝ }
-{
-    let i = a.0 as usize;
-    if i < 32 { es[i] } else { fresh_entry(0) }
-}
-
-pub fn set_entry(es: [Entry; 32], a: Account, e: Entry) -> [Entry; 32]
-    ensures { λ r. ⌜ r ≡ setEntry es a e ⌝ }
-{
-    let at = a.0 as usize;
-    let mut out = es;
-    if at < 32 {
-        out[at] = e;
-    }
-    out
-}
-
+// An account behind the last entry reads as a fresh one.
 pub fn entry_of(l: Ledger, a: Account) -> Entry
     ensures { λ r. ⌜ r ≡ entryOf l a ⌝ }
 {
-    let es = l.entries;
-    entry_at(es, a)
+    let i = a.0 as usize;
+    if i < 32 { l.entries[i] } else { fresh_entry(0) }
 }
 
 pub fn with_entry(l: Ledger, a: Account, e: Entry) -> Ledger

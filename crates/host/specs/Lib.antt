@@ -1,2 +1,3 @@
 -- What the exported functions promise beside the model's definitions.
 pub mod Quorums
+pub mod Waiting

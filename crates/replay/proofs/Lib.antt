@@ -1,7 +1,10 @@
 -- Laws of replaying.
+pub mod Sound
+pub mod Turning
 pub mod Playing
 pub mod Closing
 pub mod Telling
+pub mod Listing
 pub mod Fronts
 pub mod OneText
 pub mod WholeOutput

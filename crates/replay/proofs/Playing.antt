@@ -3,46 +3,43 @@
 use Prim.Native.Nat.{ℕ, suc, _+_, _*_, _-_, _≤_, _<_}
 use native.Mathlib.Numerals.{add-one}
 use native.Mathlib.Omega.{arith}
-use mathlib.Core.Path.{_≡_, refl, ap, subst, _∙_}
+use mathlib.Core.Path.{_≡_, refl, subst}
 use mathlib.Core.List.{List, [], _++_, append-assoc}
 use mathlib.Core.Option.{Option, none, some}
 use lib.ListN.{length}
+use Rattle.model.specs.declared.Entry.{Entry}
 use Rattle.model.specs.declared.Ledger.{Ledger}
 use Rattle.model.specs.declared.Message.{Message}
 use Rattle.model.specs.declared.Answer.{Answer}
+use Rattle.model.specs.Replies.{Meets}
+use Rattle.model.specs.Calls.{step}
 use Rattle.model.specs.Bundles.{entryCount, Page, pageAt, messageOf}
-use Rattle.model.proofs.Steps.{step-group}
-use Rattle.ledger.specs.Promises.{Answered}
 use Rattle.text.specs.Lines.{decimal, replyLine}
 use Rattle.text.specs.Outputs.{Writes}
 use Rattle.text.proofs.Writing.{nothing, then, within}
 use Rattle.text.proofs.Decimals.{three-digits}
 use Rattle.replay.specs.declared.Played.{Played}
-use Rattle.replay.specs.Text.{EntryText, ledgerAfter, closing, LinesFrom}
-use Rattle.replay.specs.Promises.{PlayedEntry, PlayedAll}
+use Rattle.replay.specs.Text.{EntryText, ledgerAfter, ledgerFrom, closing, LinesFrom}
+use Rattle.replay.specs.Promises.{live, PlayedAll}
 
--- an entry leaves the number of accounts as it is
-entry-accounts : (i : ℕ) (l : Ledger) (asked : Option Message) (line : List ℕ) → EntryText i l asked line
-    → ledgerAfter l asked .accounts ≡ l .accounts
-entry-accounts i l none line right = refl
-entry-accounts i l (some m) line right = step-group l m (right .0) (right .1) .accounts-same
+-- One entry: what it adds to the text is written at a place of the buffer, and the ledger is the one after it.
+pub record PlayedEntry (i : ℕ) (l : Ledger) (asked : Option Message) (before : List ℕ) (at : ℕ) (after : List ℕ) (filled : ℕ) (next : Ledger) : Type 0 where
+  pub line : List ℕ
+  pub right : EntryText i l asked line
+  pub writes : Writes before at line (length (decimal i) + 33) after filled
+  pub ledger-after : next ≡ ledgerAfter l asked
 
 -- what one entry does: nothing without a message; else the line of the reply and the ledger that the call leaves
 module _ {i : ℕ} {l : Ledger} {asked : Option Message} {before : List ℕ} {at : ℕ} where
-  pub entry-none : asked ≡ none → PlayedEntry i l asked before at before (record { filled = at; ledger = l })
+  pub entry-none : asked ≡ none → PlayedEntry i l asked before at before at l
   entry-none e = rw e (record { line = []; right = refl; writes = nothing; ledger-after = refl })
 
-  pub entry-some : {m : Message} {a : Answer} {after : List ℕ} {filled : ℕ} → asked ≡ some m → Answered l m a
+  pub entry-some : {m : Message} (a : Answer) {after : List ℕ} {filled : ℕ} → asked ≡ some m → Meets (step l m) a
       → Writes before at (replyLine i (a .reply)) (length (decimal i) + 33) after filled
-      → PlayedEntry i l asked before at after (record { filled = filled; ledger = a .ledger })
-  entry-some {a = a} e answered w =
+      → PlayedEntry i l asked before at after filled (a .ledger)
+  entry-some a e meets w =
       rw e
-      (record {
-        line = replyLine i (a .reply);
-        right = (a .reply, answered .meets .0, refl);
-        writes = w;
-        ledger-after = answered .meets .1;
-      })
+      (record { line = replyLine i (a .reply); right = (a .reply, meets .0, refl); writes = w; ledger-after = meets .1 })
 
 module _ (bytes : List ℕ) (l : Ledger) (before : List ℕ) where
   -- the entries from 1 to i - 1 are played
@@ -52,8 +49,8 @@ module _ (bytes : List ℕ) (l : Ledger) (before : List ℕ) where
     pub few : i ≤ 1_000
     pub goes-on : (rest : List ℕ) → LinesFrom bytes (entryCount bytes - i) i so-far rest
         → LinesFrom bytes (entryCount bytes - 1) 1 l (lines ++ rest)
+    pub left : ledgerFrom bytes (entryCount bytes - i) i so-far ≡ ledgerFrom bytes (entryCount bytes - 1) 1 l
     pub writes : Writes before 0 lines (36 * (i - 1)) after filled
-    pub accounts-same : so-far .accounts ≡ l .accounts
 
   pub played-none : PlayedTo 1 l before 0
   played-none =
@@ -62,49 +59,52 @@ module _ (bytes : List ℕ) (l : Ledger) (before : List ℕ) where
         from-one = omega arith;
         few = omega arith;
         goes-on = λ rest h. h;
+        left = refl;
         writes = nothing;
-        accounts-same = refl;
       }
 
   module _ {i : ℕ} {so-far : Ledger} {mid : List ℕ} {at : ℕ} (p : PlayedTo i so-far mid at) where
-    pub played-more : {after : List ℕ} {r : Played} (page : Page) {next : ℕ}
+    pub played-more : {after : List ℕ} {filled : ℕ} {next-ledger : Ledger} (page : Page) {next : ℕ}
         → (i < entryCount bytes) × (page ≡ pageAt bytes i) × (next ≡ i + 1) → entryCount bytes ≤ 1_000
-        → PlayedEntry i so-far (messageOf page) mid at after r
-        → PlayedTo next (r .ledger) after (r .filled)
-    played-more {after} {r} page {next} taken few played =
+        → PlayedEntry i so-far (messageOf page) mid at after filled next-ledger
+        → PlayedTo next next-ledger after filled
+    played-more {after} {filled} {next-ledger} page {next} taken few played =
         record {
           lines = p .lines ++ e .line;
           from-one = omega (arith, taken .2);
           few = omega (arith, taken .0, taken .2);
           goes-on = more;
+          left = rw (taken .2, add-one i, e .ledger-after) (rw one at (p .left));
           writes =
               within
               (omega (arith, taken .2, three-digits i (omega (arith, taken .0)), p .from-one))
               (then (p .writes) (e .writes));
-          accounts-same = ap (λ (x : Ledger). x .accounts) (e .ledger-after) ∙ entry-accounts i so-far asked (e .line) (e .right) ∙ p .accounts-same;
         }
       where
-        asked : Option Message
-        asked = messageOf (pageAt bytes i)
+        e : PlayedEntry i so-far (messageOf (pageAt bytes i)) mid at after filled next-ledger
+        e = subst (λ (x : Page). PlayedEntry i so-far (messageOf x) mid at after filled next-ledger) (taken .1) played
 
-        e : PlayedEntry i so-far asked mid at after r
-        e = subst (λ (x : Page). PlayedEntry i so-far (messageOf x) mid at after r) (taken .1) played
+        one : entryCount bytes - i ≡ suc (entryCount bytes - suc i)
+        one = let inside = taken .0 in omega arith
 
-        more : (rest : List ℕ) → LinesFrom bytes (entryCount bytes - next) next (r .ledger) rest
+        more : (rest : List ℕ) → LinesFrom bytes (entryCount bytes - next) next next-ledger rest
             → LinesFrom bytes (entryCount bytes - 1) 1 l ((p .lines ++ e .line) ++ rest)
         more rest h =
-            let inside = taken .0 in
-            let one : entryCount bytes - i ≡ suc (entryCount bytes - suc i) = omega arith in
             let left = rw (taken .2, add-one i, e .ledger-after) at h in
             rw (append-assoc (p .lines) (e .line) rest)
             (p .goes-on (e .line ++ rest) (rw one (e .line, rest, e .right, left, refl)))
 
-    pub played-all : (r : Played) → r .ledger ≡ so-far → r .filled ≡ at → entryCount bytes ≤ i → PlayedAll bytes l before mid r
-    played-all r same place over =
-        let none-left : entryCount bytes - i ≡ 0 = omega arith in
-        record {
-          lines = p .lines;
-          right = rw same (p .goes-on (closing so-far) (rw none-left refl));
-          writes = rw place (within (omega (arith, p .few)) (p .writes));
-          accounts-same = rw same (p .accounts-same);
-        }
+  -- after the last entry: the ledger so far is the one that is left
+  pub played-all : {i : ℕ} {mid : List ℕ} (es : List Entry) (r : Played) → PlayedTo i (live l es (r .funds)) mid (r .filled)
+      → length es ≡ 32 → length (r .funds) ≡ 32 → entryCount bytes ≤ i → PlayedAll bytes l before mid r
+  played-all {i} es r p places funds-places over =
+      let none-left : entryCount bytes - i ≡ 0 = omega arith in
+      record {
+        lines = p .lines;
+        entries = es;
+        places = places;
+        funds-places = funds-places;
+        left = rw none-left at (p .left);
+        right = p .goes-on (closing (live l es (r .funds))) (rw none-left refl);
+        writes = within (omega (arith, p .few)) (p .writes);
+      }

@@ -16,8 +16,9 @@ use Rattle.text.specs.Lines.{refusalLine}
 use Rattle.text.specs.Outputs.{Writes}
 use Rattle.text.proofs.Writing.{then, within, whole}
 use Rattle.replay.specs.declared.Played.{Played}
-use Rattle.replay.specs.Text.{closing, LinesFrom, opened, CheckedText, TextOf}
-use Rattle.replay.specs.Promises.{closingMost, textMost, Replayed, Wrote, PlayedAll}
+use Rattle.replay.proofs.Closing.{closing-told}
+use Rattle.replay.specs.Text.{LinesFrom, opened, CheckedText, TextOf}
+use Rattle.replay.specs.Promises.{closingMost, closingBy, textMost, Replayed, Wrote, PlayedAll}
 
 -- what is right by one definition is right by another that follows from it
 rightly : {P Q : List ℕ → Type 0} {before after : List ℕ} {r : ℕ} → ((text : List ℕ) → P text → Q text) → Wrote P before after r → Wrote Q before after r
@@ -31,12 +32,12 @@ single-line line h most w = record { text = line; right = h; writes = within mos
 module _ (bytes : List ℕ) {before : List ℕ} where
   -- the entries' lines, and behind them the closing lines
   pub wrote-lines : {l : Ledger} {mid after : List ℕ} {p : Played} {r : ℕ} → PlayedAll bytes l before mid p
-      → Writes mid (p .filled) (closing (p .ledger)) closingMost after r
+      → l .accounts ≤ 32 → Writes mid (p .filled) (closingBy (p .funds) (l .accounts) 0) closingMost after r
       → Wrote (LinesFrom bytes (entryCount bytes - 1) 1 l) before after r
-  wrote-lines {p = p} played closes =
+  wrote-lines {l} {p = p} played few closes =
       record {
-        text = played .lines ++ closing (p .ledger);
-        right = played .right;
+        text = played .lines ++ closingBy (p .funds) (l .accounts) 0;
+        right = rw (closing-told l (played .entries) (p .funds) (played .places) (played .funds-places) few) at (played .right);
         writes = within (omega arith) (then (played .writes) closes);
       }
 

@@ -1,16 +1,18 @@
 -- What replaying promises.
-use Prim.Native.Nat.{ℕ, _+_, _-_, _*_, _≤_}
+use Prim.Native.Nat.{ℕ, zero, suc, _+_, _-_, _*_, _≤_}
 use mathlib.Core.Path.{_≡_}
-use mathlib.Core.List.{List, _++_}
-use mathlib.Core.Option.{Option}
-use lib.ListN.{length, take, drop}
+use mathlib.Core.List.{List, [], _++_}
+use lib.ListN.{length, getD, take, drop}
+use Rattle.model.specs.declared.Entry.{Entry}
 use Rattle.model.specs.declared.Ledger.{Ledger}
-use Rattle.model.specs.declared.Message.{Message}
+use Rattle.model.specs.Records.{freshEntry, withEntries}
 use Rattle.model.specs.Bundles.{entryCount}
-use Rattle.text.specs.Lines.{decimal}
+use Rattle.settling.specs.declared.Funds.{Funds}
+use Rattle.settling.specs.Funds.{fundsOf, withAllFunds}
+use Rattle.text.specs.Lines.{accountLine}
 use Rattle.text.specs.Outputs.{Writes}
 use Rattle.replay.specs.declared.Played.{Played}
-use Rattle.replay.specs.Text.{EntryText, ledgerAfter, closing, LinesFrom, TextOf}
+use Rattle.replay.specs.Text.{ledgerFrom, closing, LinesFrom, TextOf}
 
 -- How long a text can be. The longest line of an entry is that of P: the entry in 3 digits, the letter, account and recipient in 3 digits
 -- each, number and value in 10 each, their spaces and the end of the line: 36 bytes, for 999 entries. The line of an account has 27, for 32.
@@ -48,17 +50,26 @@ pub record Wrote (Right : List ℕ → Type 0) (before after : List ℕ) (r : �
   pub right : Right text
   pub writes : Writes before 0 text textMost after r
 
--- One entry: what it adds to the text is written at a place of the buffer, and the ledger is the one after it.
-pub record PlayedEntry (i : ℕ) (l : Ledger) (asked : Option Message) (before : List ℕ) (at : ℕ) (after : List ℕ) (r : Played) : Type 0 where
-  pub line : List ℕ
-  pub right : EntryText i l asked line
-  pub writes : Writes before at line (length (decimal i) + 33) after (r .filled)
-  pub ledger-after : r .ledger ≡ ledgerAfter l asked
+-- the funds of an account; behind the last those of a fresh entry
+abbrev pub fundsAt : List Funds → ℕ → Funds
+fundsAt fs a = getD fs a (fundsOf (freshEntry 0))
 
--- All entries from 1 on: their lines stand at the buffer's front, and with the closing lines of the ledger that is left they are the
--- whole text of the entries.
+-- the ledger whose accounts have these funds, and whose acks and marks are those of these entries
+abbrev pub live : Ledger → List Entry → List Funds → Ledger
+live l es fs = withEntries l (withAllFunds es fs)
+
+-- the closing lines of the `left` accounts from a on, told by the accounts' funds
+abbrev pub closingBy : List Funds → ℕ → ℕ → List ℕ
+closingBy fs zero a = []
+closingBy fs (suc left) a = accountLine a (fundsAt fs a .balance) (fundsAt fs a .current) ++ closingBy fs left (suc a)
+
+-- All entries from 1 on: their lines stand at the buffer's front, and the funds are those of the ledger that is left, whose closing lines
+-- are still to come.
 pub record PlayedAll (bytes : List ℕ) (l : Ledger) (before after : List ℕ) (r : Played) : Type 0 where
   pub lines : List ℕ
-  pub right : LinesFrom bytes (entryCount bytes - 1) 1 l (lines ++ closing (r .ledger))
+  pub entries : List Entry
+  pub places : length entries ≡ 32
+  pub funds-places : length (r .funds) ≡ 32
+  pub left : live l entries (r .funds) ≡ ledgerFrom bytes (entryCount bytes - 1) 1 l
+  pub right : LinesFrom bytes (entryCount bytes - 1) 1 l (lines ++ closing (live l entries (r .funds)))
   pub writes : Writes before 0 lines linesMost after (r .filled)
-  pub accounts-same : r .ledger .accounts ≡ l .accounts

@@ -30,6 +30,11 @@ abbrev pub ledgerAfter : Ledger → Option Message → Ledger
 ledgerAfter l none = l
 ledgerAfter l (some m) = step l m .next
 
+-- the ledger after the `left` entries from i on
+abbrev pub ledgerFrom : List ℕ → ℕ → ℕ → Ledger → Ledger
+ledgerFrom bytes zero i l = l
+ledgerFrom bytes (suc left) i l = ledgerFrom bytes left (suc i) (ledgerAfter l (messageOf (pageAt bytes i)))
+
 -- "then per account `= account balance current`": the `left` accounts from a on
 abbrev pub closingFrom : Ledger → ℕ → ℕ → List ℕ
 closingFrom l zero a = []

@@ -1,101 +1,122 @@
 // A whole bundle against a ledger: every byte that `daybook` writes, into a lent buffer.
 use basics::codes::code_of;
-use basics::entries::entry_of;
 use bundle::Cursor;
 use bundle::Read;
 use bundle::check;
-use ledger::call;
+use ledger::list_waiting;
 use ledger::open;
-use model::Account;
 use model::BundleReply;
-use model::ContentsEntry;
 use model::Ledger;
+use model::ListReply;
+use model::Message;
+use model::OpenAnswer;
 use model::OpenReply;
+use model::Reply;
 use pages::messages::Asked;
 use pages::messages::message_of;
 use pages::messages::opening_of;
 use reader::opening_body;
 use reader::read_page;
+use settling::Funds;
+use settling::all_funds;
+use settling::funds_of;
+use settling::settle_all;
+use settling::with_all_funds;
+use settling::with_funds;
 use text::lines::put_account;
 use text::lines::put_refusal;
 use text::lines::put_reply;
-ghost use Prim.Native.Nat.{_-_, _≤_};
+use turns::Verdict;
+use turns::payer_of;
+use turns::take_turn;
+ghost use mathlib.Core.Path.{_≡_};
+ghost use Prim.Native.Nat.{_-_, _≤_, _<_};
 ghost use Rattle.model.specs.declared.BundleReply.the-variants.{Sound};
-ghost use Rattle.model.specs.Bundles.{entryCount, pageOf, messageOf};
+ghost use Rattle.model.specs.Bundles.{entryCount};
+ghost use Rattle.turns.specs.Turns.{payerOf};
 ghost use Rattle.text.specs.Outputs.{Writes};
-ghost use Rattle.replay.specs.Text.{closing, LinesFrom, CheckedText};
-ghost use Rattle.replay.specs.Promises.{closingMost, Replayed, Wrote, PlayedEntry, PlayedAll};
+ghost use Rattle.ledger.specs.Promises.{ListedAs};
+ghost use Rattle.replay.specs.Text.{ledgerFrom, LinesFrom, opened, CheckedText};
+ghost use Rattle.replay.specs.Lists.{SoundList, ListOf};
+ghost use Rattle.replay.specs.Promises.{closingMost, closingBy, Replayed, Wrote, PlayedAll};
 
 // The longest text: 999 lines of a proposed transfer, 36 bytes each, and 32 lines of an account, 27 bytes each: 36,828 bytes.
 pub const TEXT_SIZE: usize = 36 * 999 + 27 * 32;
 
-// How much of the buffer's front is written, and the ledger after the entries so far.
+// How much of the buffer's front is written, and the accounts' funds after the entries.
 struct Played {
     filled: usize,
-    ledger: Ledger,
+    funds: [Funds; 32],
 }
 
-// One entry: its message is put to the ledger, and the reply's line is written.
-fn play_entry(
-    bytes: &[u8],
-    c: ContentsEntry,
-    i: u16,
-    l: Ledger,
-    out: &mut [u8],
-    at: usize,
-) -> Played
-    ensures { λ r. ⌜ PlayedEntry i l (messageOf (pageOf (now (bytes .entry)) c)) (now (out .entry)) at (now (out .exit)) r ⌝ }
+// Where the entry of a message's account stands. A message about an account behind the 32nd is refused at any entry, which it leaves as it is.
+fn place_of(m: Message) -> usize
+    ensures { λ r. ⌜ (r < 32) × (payerOf m .0 < 32 → r ≡ payerOf m .0) ⌝ }
 {
-    match message_of(bytes, c) {
-        Asked::Nothing => Played {
-            filled: at,
-            ledger: l,
-        },
-        Asked::Asks(m) => {
-            let answer = call(l, m);
-            let reply = answer.reply;
-            let after = answer.ledger;
-            Played {
-                filled: put_reply(out, at, i as u32, reply),
-                ledger: after,
-            }
-        }
-    }
+    let a = payer_of(m);
+    if a.0 < 32 { a.0 as usize } else { 0 }
 }
 
-// The entries behind the opening page, in their order.
+// The entries behind the opening page, in their order. The ledger's 32 entries stand here and are changed in place; what settling changes of
+// them, their funds, is held apart, and put back at the end.
 fn play(bytes: &[u8], l: Ledger, out: &mut [u8]) -> Played
     requires { ⌜ entryCount (now bytes) ≤ 1_000 ⌝ }
+    requires { ⌜ l .accounts ≤ 32 ⌝ }
     ensures { λ r. ⌜ PlayedAll (now (bytes .entry)) l (now (out .entry)) (now (out .exit)) r ⌝ }
 {
-    let mut played = Played {
-        filled: 0,
-        ledger: l,
-    };
+    let mut entries = l.entries;
+    let mut funds = all_funds(entries);
+    let mut filled: usize = 0;
     let mut cursor = Cursor { next: 1 };
     loop {
         let i = cursor.next;
         match read_page(bytes, cursor) {
-            Read::Taken(c, next) => {
-                let so_far = played.ledger;
-                played = play_entry(bytes, c, i, so_far, out, played.filled);
-                cursor = next;
+            Read::NoMore(_) => {
+                return Played {
+                    filled: filled,
+                    funds: funds,
+                };
             }
-            Read::NoMore(_) => return played,
+            Read::Taken(c, next) => {
+                cursor = next;
+                match message_of(bytes, c) {
+                    Asked::Nothing => {}
+                    Asked::Asks(m) => {
+                        let at = place_of(m);
+                        let kept = entries[at];
+                        let paid = funds[at];
+                        let turn = take_turn(l, with_funds(kept, paid), m);
+                        let entry = turn.entry;
+                        entries[at] = entry;
+                        funds[at] = funds_of(entry);
+                        let verdict = turn.verdict;
+                        let reply = match verdict {
+                            Verdict::Replies(r) => r,
+                            Verdict::Accepts => {
+                                let s = settle_all(funds);
+                                let left = s.funds;
+                                funds = left;
+                                Reply::Accept(s.applied)
+                            }
+                        };
+                        filled = put_reply(out, filled, i as u32, reply);
+                    }
+                }
+            }
         }
     }
 }
 
 // The closing lines: each account with its balance and its current number.
-fn put_closing(l: Ledger, out: &mut [u8], at: usize) -> usize
-    requires { ⌜ l .accounts ≤ 32 ⌝ }
-    ensures { λ r. ⌜ Writes (now (out .entry)) at (closing l) closingMost (now (out .exit)) r ⌝ }
+fn put_closing(accounts: u8, funds: [Funds; 32], out: &mut [u8], at: usize) -> usize
+    requires { ⌜ accounts ≤ 32 ⌝ }
+    ensures { λ r. ⌜ Writes (now (out .entry)) at (closingBy funds accounts 0) closingMost (now (out .exit)) r ⌝ }
 {
     let mut filled = at;
     let mut a: u8 = 0;
-    while a < l.accounts {
-        let e = entry_of(l, Account(a));
-        filled = put_account(out, filled, a, e.balance, e.current);
+    while a < accounts {
+        let f = funds[a as usize];
+        filled = put_account(out, filled, a, f.balance, f.current);
         a += 1;
     }
     filled
@@ -108,8 +129,17 @@ fn replay_opened(bytes: &[u8], l: Ledger, out: &mut [u8]) -> usize
     ensures { λ r. ⌜ Wrote (LinesFrom (now (bytes .entry)) (entryCount (now (bytes .entry)) - 1) 1 l) (now (out .entry)) (now (out .exit)) r ⌝ }
 {
     let played = play(bytes, l, out);
-    let last = played.ledger;
-    put_closing(last, out, played.filled)
+    let funds = played.funds;
+    put_closing(l.accounts, funds, out, played.filled)
+}
+
+// What the opening page is answered: page 0 of a bundle.
+fn open_bundle(bytes: &[u8]) -> OpenAnswer
+    requires { ⌜ 1 ≤ entryCount (now bytes) ⌝ }
+    ensures { λ r. ⌜ r ≡ opened (now (bytes .entry)) ⌝ }
+{
+    let page = opening_body(bytes);
+    open(opening_of(page))
 }
 
 // The text of a bundle that is sound.
@@ -117,8 +147,7 @@ fn replay_sound(bytes: &[u8], out: &mut [u8]) -> usize
     requires { ⌜ (1 ≤ entryCount (now bytes)) × (entryCount (now bytes) ≤ 1_000) ⌝ }
     ensures { λ r. ⌜ Wrote (CheckedText (now (bytes .entry)) (Sound (entryCount (now (bytes .entry))))) (now (out .entry)) (now (out .exit)) r ⌝ }
 {
-    let page = opening_body(bytes);
-    let answer = open(opening_of(page));
+    let answer = open_bundle(bytes);
     let reply = answer.reply;
     let l = answer.ledger;
     match reply {
@@ -134,5 +163,45 @@ pub fn replay(bytes: &[u8], out: &mut [u8; TEXT_SIZE]) -> usize
     match check(bytes) {
         BundleReply::Sound(_) => replay_sound(bytes, out),
         BundleReply::BundleRefused(r, i) => put_refusal(out, 0, code_of(r), i),
+    }
+}
+
+// The waiting list of the ledger that an opened ledger's entries leave. The text goes nowhere; what waits is told by the funds.
+fn list_opened(bytes: &[u8], l: Ledger, buffer: &mut [u8]) -> ListReply
+    requires { ⌜ entryCount (now bytes) ≤ 1_000 ⌝ }
+    requires { ⌜ l .accounts ≤ 32 ⌝ }
+    ensures { λ r. ⌜ ListedAs (ledgerFrom (now (bytes .entry)) (entryCount (now (bytes .entry)) - 1) 1 l) (now (buffer .entry)) r (now (buffer .exit)) ⌝ }
+{
+    let mut nowhere = [0u8; 1];
+    let played = play(bytes, l, &mut nowhere);
+    let funds = played.funds;
+    let es = l.entries;
+    let left = with_all_funds(es, funds);
+    let mut last = l;
+    last.entries = left;
+    list_waiting(last, buffer)
+}
+
+// The same of a bundle that is sound.
+fn list_sound(bytes: &[u8], buffer: &mut [u8]) -> ListReply
+    requires { ⌜ (1 ≤ entryCount (now bytes)) × (entryCount (now bytes) ≤ 1_000) ⌝ }
+    ensures { λ r. ⌜ SoundList (now (bytes .entry)) (now (buffer .entry)) r (now (buffer .exit)) ⌝ }
+{
+    let answer = open_bundle(bytes);
+    let reply = answer.reply;
+    let l = answer.ledger;
+    match reply {
+        OpenReply::Opened => list_opened(bytes, l, buffer),
+        OpenReply::OpenRefused(r) => ListReply::ListRefused(r),
+    }
+}
+
+// The waiting list, asked behind a bundle's last entry. A bundle or an opening that is refused has no list: its own code is replied.
+pub fn list_after(bytes: &[u8], buffer: &mut [u8]) -> ListReply
+    ensures { λ r. ⌜ ListOf (now (bytes .entry)) (now (buffer .entry)) r (now (buffer .exit)) ⌝ }
+{
+    match check(bytes) {
+        BundleReply::Sound(_) => list_sound(bytes, buffer),
+        BundleReply::BundleRefused(r, _) => ListReply::ListRefused(r),
     }
 }

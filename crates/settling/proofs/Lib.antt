@@ -1,2 +1,3 @@
--- What the functions' proofs share. Each function's own proof stands in its folder.
+-- What the functions' proofs share, and the laws of funds for callers. Each function's own proof stands in its folder.
 pub mod ReadBack
+pub mod FundsLaws

@@ -1,2 +1,3 @@
--- What the search answers, beside the model's definitions.
+-- What the search answers and what the funds are, beside the model's definitions.
 pub mod Results
+pub mod Funds

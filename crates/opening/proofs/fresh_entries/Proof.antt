@@ -1,25 +1,30 @@
--- The loop's invariant: the entries that are filled, followed by the fresh ones of the balances that are left, are those of all balances.
+-- The loop's invariant: the places before `i` hold the fresh entries of the balances there.
 use Prim.Native.Nat.{_-_}
 use native.Mathlib.Omega.{arith}
-use mathlib.Core.Path.{_≡_, refl}
-use mathlib.Core.List.{map, _++_}
-use lib.ListN.{length, take, drop, length-set}
+use mathlib.Core.Path.{_≡_, sym, _∙_}
+use mathlib.Core.List.{map}
+use lib.ListN.{length, length-map, List·getD-map}
 use Rattle.model.specs.Records.{freshEntry}
-use Rattle.opening.proofs.Opening.{balances-length, fill-left, none-unfilled}
+use Rattle.basics.proofs.Filling.{Filled, filled-none, filled-more, filled-all}
+use Rattle.opening.proofs.Opening.{balances-length}
 use Rattle.opening.proofs.fresh_entries.Statement.{statement}
 use Rattle.opening.proofs.fresh_entries.Tie as tie
 
 abbrev Inv-loop : tie.InvT-loop
-Inv-loop balances es₀ i₀ es i = (length es ≡ 32) × (take i es ++ map freshEntry (drop i balances) ≡ map freshEntry balances)
+Inv-loop balances es₀ i₀ es i = Filled (map freshEntry balances) es i
 
 abbrev μ-loop : tie.MeasureT-loop
 μ-loop balances es₀ i₀ es i = 32 - i
+
+-- as many entries are wanted as there are balances
+wanted : (c : tie.Start Inv-loop μ-loop) → length (map freshEntry (c .args .t1)) ≡ 32
+wanted c = length-map (c .args .t1) freshEntry ∙ balances-length (c .args .t1) _ (c .good .0)
 
 fresh-entry-requires : tie.Need-fresh-entry-requires Inv-loop μ-loop
 fresh-entry-requires c κs = tt
 
 loop-holds : tie.Need-loop-holds Inv-loop μ-loop
-loop-holds c = (refl, refl)
+loop-holds c = filled-none (sym (wanted (c .before)))
 
 mul-fresh-entry : tie.Need-mul-fresh-entry Inv-loop μ-loop
 mul-fresh-entry c = omega arith
@@ -44,21 +49,13 @@ loop-less c = omega arith
 
 loop-again : tie.Need-loop-again Inv-loop μ-loop
 loop-again c =
+    let loop = c .before .before .loop in
     let start = c .before .before .before .before in
-    let xs = start .args .t1 in
-    let size = balances-length xs _ (start .good .0) in
-    let loop = c .before .before .loop in (
-      rw length-set (loop .inv .0),
-      rw (c .fresh-entry2 .ensures, fill-left freshEntry xs (loop .es) (loop .i) 0 (omega (arith, size)) (omega arith)) (loop .inv .1),
-    )
+    filled-more (loop .inv) _ (freshEntry 0) (omega (arith, wanted start))
+    (c .fresh-entry2 .ensures ∙ sym (List·getD-map freshEntry (start .args .t1) (loop .i) _))
 
 returns : tie.Need-returns Inv-loop μ-loop
-returns c =
-    let start = c .before .before .before in
-    let xs = start .args .t1 in
-    let size = balances-length xs _ (start .good .0) in
-    let loop = c .before .loop in
-    rw (none-unfilled freshEntry xs (loop .es) (loop .i) (omega (arith, size)) (omega arith)) at (loop .inv .1)
+returns c = filled-all (c .before .loop .inv) (omega (arith, wanted (c .before .before .before)))
 
 pub fresh-entries-spec : {M : Type 1} → statement M
 fresh-entries-spec =

@@ -1,11 +1,9 @@
 -- The check decides: a refused bundle's line, or what the opening page and the entries give. The buffer is as long as the longest text.
-use Rattle.bundle.proofs.Longest.{few-entries}
+use Rattle.replay.proofs.Sound.{sound-count}
 use Rattle.replay.proofs.Telling.{wrote-sound, wrote-refused, replayed}
-use Prim.Native.Nat.{_≤_}
-use native.Mathlib.Omega.{arith}
 use mathlib.Core.Path.{_≡_, sym, _∙_}
 use Rattle.model.specs.declared.BundleReply.the-variants.{Sound}
-use Rattle.model.specs.Bundles.{entryCount, checkBundle}
+use Rattle.model.specs.Bundles.{checkBundle}
 use borrow.Author.Needs.{needs}
 use Rattle.replay.proofs.replay.Statement.{statement}
 use Rattle.replay.proofs.replay.Tie as tie
@@ -14,12 +12,6 @@ use Rattle.replay.proofs.replay.Tie as tie
 sound : (c : tie.After-enum-told) → checkBundle (c .before .before .before .before .args .bytes .now) ≡ Sound (c .enum-told .given .0 .0)
 sound c = sym (c .before .before .check .ensures .meets) ∙ c .enum-told .given .1
 
-sound-count : (c : tie.After-enum-told) → (
-    let m = entryCount (c .before .before .before .before .args .bytes .now) in
-    (c .enum-told .given .0 .0 ≡ m) × (1 ≤ m) × (m ≤ 1_000)
-    )
-sound-count c = let few = few-entries _ _ (sound c) in (few .0, omega (arith, few .0, few .1), omega (arith, few .0, few .2))
-
 check-requires : tie.Need-check-requires
 check-requires c κs = search needs
 
@@ -27,7 +19,7 @@ enum-told : tie.Need-enum-told
 enum-told c = search needs
 
 replay-sound-requires : tie.Need-replay-sound-requires
-replay-sound-requires c κs = let count = sound-count (c .before) in (count .1, count .2)
+replay-sound-requires c κs = let count = sound-count _ _ (sound (c .before)) in (count .1, count .2)
 
 enum-known-r : tie.Need-enum-known-r
 enum-known-r c = search needs
@@ -41,7 +33,7 @@ put-refusal-requires c κs = search needs
 returns : tie.Need-returns
 returns c =
     let told = c .before .before in
-    replayed _ (search needs) (wrote-sound _ (sound told) (sound-count told .0) (c .replay-sound .ensures))
+    replayed _ (search needs) (wrote-sound _ (sound told) (sound-count _ _ (sound told) .0) (c .replay-sound .ensures))
 
 returns-2 : tie.Need-returns-2
 returns-2 c =

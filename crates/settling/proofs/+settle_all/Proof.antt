@@ -2,23 +2,27 @@
 use Prim.Native.Nat.{ℕ, suc, _+_, _<_}
 use native.Mathlib.Numerals.{add-one}
 use native.Mathlib.Omega.{arith}
-use mathlib.Core.Path.{_≡_, ap, sym, _∙_}
+use mathlib.Core.Path.{_≡_, refl, sym, _∙_}
 use mathlib.Core.List.{List}
-use mathlib.Core.Option.{some}
+use mathlib.Core.Option.{none, some}
+use lib.ListN.{length, replicate}
 use borrow.Author.Needs.{needs}
 use borrow.Fn.Kinds.{In}
 use borrow.Fn.PlainCycle.{Measures, is, falls, and}
 use Rattle.model.specs.declared.Account.{Account}
 use Rattle.model.specs.declared.Entry.{Entry}
-use Rattle.model.specs.declared.Settled.{Settled}
 use Rattle.settling.specs.declared.Found.{Found}
 use Rattle.settling.specs.declared.Found.the-variants.{At}
+use Rattle.settling.specs.declared.Funds.{Funds}
+use Rattle.settling.specs.declared.SettledFunds.{SettledFunds}
 use Rattle.settling.specs.Results.{foundOf}
-use Rattle.model.specs.Settling.{lowestAffordable, isWaiting, waiting, apply, settle}
+use Rattle.settling.specs.Funds.{withAllFunds, SettlesAs}
+use Rattle.model.specs.Records.{freshEntry}
+use Rattle.model.specs.Settling.{lowestAffordable, apply}
 use Rattle.model.proofs.Booking.{apply-waiting}
-use Rattle.model.proofs.Settles.{lowest-affordable, settle-none, settle-some, settle-waiting}
-use Rattle.basics.proofs.Counting.{count-most}
+use Rattle.model.proofs.Settles.{lowest-affordable, settle-none, settle-some}
 use Rattle.settling.proofs.ReadBack.{found, missing}
+use Rattle.settling.proofs.FundsLaws.{waitingIn, few-applied}
 use Rattle.settling.proofs.settle_all.Reads as settle-all
 use Rattle.settling.proofs.settle_all.Kinds as settle-all-kinds
 use Rattle.settling.proofs.+settle_all.Lts-settle_all as lts
@@ -28,7 +32,7 @@ use Rattle.settling.proofs.+settle_all.{statement}
 use Rattle.settling.proofs.+settle_all.Tie.{close}
 
 abbrev μ-settle-all : Measures 0 settle-all-kinds.ps ℕ
-μ-settle-all κs a = waiting (a .0)
+μ-settle-all κs a = waitingIn (a .0)
 
 -- what the function is given at the measure t, and what a call of it asks below t
 abbrev given : ℕ → In 0 settle-all-kinds.ps
@@ -40,17 +44,35 @@ asked t = and 0 settle-all-kinds.ps (falls 0 settle-all-kinds.ps _<_ μ-settle-a
 abbrev callees : ℕ → lts.Claims
 callees t = (lowest.Asked, lowest.Learnt, apply-at.Asked, apply-at.Learnt, asked t, settle-all.Post)
 
--- what the first call finds is the lowest affordable account; what the second makes has one waiting transfer fewer
-module _ (es after : List Entry) (a : Account) (first : Found) (first-is : first ≡ foundOf (lowestAffordable es)) (at : first ≡ At a) (after-is : after ≡ apply es a) where
-  lowest-is : lowestAffordable es ≡ some a
-  lowest-is = found _ a (sym first-is ∙ at)
+-- nothing is affordable: settling leaves the funds as they are
+ended : (fs : List Funds) → length fs ≡ 32 → ((es : List Entry) → length es ≡ 32 → lowestAffordable (withAllFunds es fs) ≡ none)
+    → SettlesAs fs (record { applied = 0; funds = fs })
+ended fs places none-is = record { places = places; settled = λ es size. settle-none _ (none-is es size) }
 
-  one-fewer : waiting es ≡ suc (waiting after)
-  one-fewer = rw after-is (apply-waiting es a (lowest-affordable es a lowest-is .affords-it))
+-- What the first call finds is the lowest affordable account; what the second makes has its transfer applied.
+module _
+    (fs after : List Funds) (a : Account) (first : Found)
+    (first-is : (es : List Entry) → length es ≡ 32 → first ≡ foundOf (lowestAffordable (withAllFunds es fs)))
+    (at : first ≡ At a)
+    (after-is : (es : List Entry) → length es ≡ 32 → withAllFunds es after ≡ apply (withAllFunds es fs) a)
+  where
+    lowest-is : (es : List Entry) → length es ≡ 32 → lowestAffordable (withAllFunds es fs) ≡ some a
+    lowest-is es size = found _ a (sym (first-is es size) ∙ at)
 
-  -- with what settling makes of that, it is what settling makes of the whole
-  settled : (rest : Settled) → rest ≡ settle after → record { applied = rest .applied + 1; entries = rest .entries } ≡ settle es
-  settled rest rest-is = rw (settle-some es a lowest-is, rest-is, after-is, add-one)
+    -- one transfer fewer waits
+    one-fewer : waitingIn fs ≡ suc (waitingIn after)
+    one-fewer =
+        let es = replicate 32 (freshEntry 0) in
+        rw (after-is es refl) (apply-waiting (withAllFunds es fs) a (lowest-affordable (withAllFunds es fs) a (lowest-is es refl) .affords-it))
+
+    -- with what settling makes of the rest, it is what settling makes of the whole
+    whole : (rest : SettledFunds) → SettlesAs after rest → SettlesAs fs (record { applied = rest .applied + 1; funds = rest .funds })
+    whole rest rest-is =
+        record {
+          places = rest-is .places;
+          settled = λ es size.
+              rw (settle-some (withAllFunds es fs) a (lowest-is es size), ← after-is es size, rest-is .settled es size, add-one);
+        }
 
 lowest-affordable-requires : (t : ℕ) → lts.Need-lowest-affordable-requires (callees t) (given t) settle-all.Post
 lowest-affordable-requires t c κs = search needs
@@ -70,24 +92,15 @@ settle-all-requires t c κs =
     (omega arith, tt)
 
 add-t8 : (t : ℕ) → lts.Need-add-t8 (callees t) (given t) settle-all.Post
-add-t8 t c =
-    let es = c .before .before .before .before .before .before .before .before .args .es in
-    let next = one-fewer _ _ _ _ (c .before .before .before .before .before .before .before .lowest-affordable .ensures) (c .before .before .before .before .before .a .given .1) (c .before .before .before .apply-at .ensures) in
-    omega (
-      arith,
-      ap (λ (s : Settled). s .applied) (c .before .before .settle-all .ensures),
-      settle-waiting (c .before .before .before .apply-at .result),
-      count-most isWaiting es,
-      c .before .before .before .before .before .before .before .before .good .0 .1 .0 .1,
-    )
+add-t8 t c = omega (arith, few-applied _ _ (c .before .before .settle-all .ensures))
 
 returns : (t : ℕ) → lts.Need-returns (callees t) (given t) settle-all.Post
 returns t c =
-    sym (settle-none _ (missing _ (sym (c .before .before .lowest-affordable .ensures) ∙ c .enum-told .given .1)))
+    ended _ (c .before .before .before .good .0 .1 .0 .1) (λ es size. missing _ (sym (c .before .before .lowest-affordable .ensures es size) ∙ c .enum-told .given .1))
 
 returns-2 : (t : ℕ) → lts.Need-returns-2 (callees t) (given t) settle-all.Post
 returns-2 t c =
-    settled _ _ _ _ (c .before .before .before .before .before .before .before .lowest-affordable .ensures) (c .before .before .before .before .before .a .given .1) (c .before .before .before .apply-at .ensures) _ (c .before .before .settle-all .ensures)
+    whole _ _ _ _ (c .before .before .before .before .before .before .before .lowest-affordable .ensures) (c .before .before .before .before .before .a .given .1) (c .before .before .before .apply-at .ensures) _ (c .before .before .settle-all .ensures)
 
 pub +settle-all-spec : {M : Type 1} → statement M
 +settle-all-spec =

@@ -6,11 +6,8 @@ use Rattle.settling.proofs.credit.Tie as tie
 wrapping-add-u32-requires : tie.Need-wrapping-add-u32-requires
 wrapping-add-u32-requires c κs = search needs
 
-with-balance-requires : tie.Need-with-balance-requires
-with-balance-requires c κs = search needs
-
 returns : tie.Need-returns
-returns c = rw (← c .before .wrapping-add-u32 .ensures) (c .with-balance .ensures)
+returns c e = rw (c .wrapping-add-u32 .ensures)
 
 pub credit-spec : {M : Type 1} → statement M
-credit-spec = tie.close (tie.spec wrapping-add-u32-requires with-balance-requires returns)
+credit-spec = tie.close (tie.spec wrapping-add-u32-requires returns)

@@ -1,0 +1,79 @@
+-- The seat comes first, then what every transfer meets, then the ack that this seat has recorded.
+use mathlib.Core.Path.{sym, _∙_}
+use mathlib.Core.List.{List, [], _∷_}
+use borrow.Author.Tests.{le-leb, lt-leb}
+use Rattle.model.specs.declared.Seat.{Seat}
+use Rattle.model.specs.declared.Entry.{Entry}
+use Rattle.model.specs.declared.Transfer.{Transfer}
+use Rattle.model.specs.declared.Refusal.the-variants.{AckRepeated, AckConflicting}
+use Rattle.model.specs.Acks.{holds, conflicts}
+use Rattle.model.specs.Refusals.{Rule, ackFrom, transferRules}
+use Rattle.turns.proofs.Rules.{passes, fails}
+use borrow.Author.Needs.{needs}
+use Rattle.turns.proofs.checks.ack_check.Statement.{statement}
+use Rattle.turns.proofs.checks.ack_check.Tie as tie
+
+-- the rules after those that every transfer meets
+abbrev after : Entry → Seat → Transfer → List Rule
+after e s t = (holds t (ackFrom e s), AckRepeated) ∷ (conflicts t (ackFrom e s), AckConflicting) ∷ []
+
+returns : tie.Need-returns
+returns c = rw (le-leb _ _ (c .if1 .taken))
+
+transfer-check-requires : tie.Need-transfer-check-requires
+transfer-check-requires c κs = search needs
+
+enum-known-r : tie.Need-enum-known-r
+enum-known-r c = search needs
+
+enum-told : tie.Need-enum-told
+enum-told c = search needs
+
+ack-from-requires : tie.Need-ack-from-requires
+ack-from-requires c κs = search needs
+
+is-held-requires : tie.Need-is-held-requires
+is-held-requires c κs = search needs
+
+returns-2 : tie.Need-returns-2
+returns-2 c =
+    let a = c .before .before .before .before .before .before .before .before .before .args in
+    let passed = sym (c .before .before .before .enum-told .given .1) ∙ c .before .before .before .before .before .transfer-check .ensures in
+    rw (lt-leb _ _ (c .before .before .before .before .before .before .if1 .left)) (passes (transferRules (a .l) (a .e) (a .t)) (after (a .e) (a .s) (a .t)) _ passed (rw (← c .before .before .ack-from .ensures, ← c .before .is-held .ensures, c .if2 .taken)))
+
+is-against-requires : tie.Need-is-against-requires
+is-against-requires c κs = search needs
+
+returns-3 : tie.Need-returns-3
+returns-3 c =
+    let a = c .before .before .before .before .before .before .before .before .before .before .before .args in
+    let passed = sym (c .before .before .before .before .before .enum-told .given .1) ∙ c .before .before .before .before .before .before .before .transfer-check .ensures in
+    rw (lt-leb _ _ (c .before .before .before .before .before .before .before .before .if1 .left)) (passes (transferRules (a .l) (a .e) (a .t)) (after (a .e) (a .s) (a .t)) _ passed (rw (← c .before .before .before .before .ack-from .ensures, ← c .before .before .before .is-held .ensures, c .before .before .if2 .left, ← c .before .is-against .ensures, c .if3 .taken)))
+
+returns-4 : tie.Need-returns-4
+returns-4 c =
+    let a = c .before .before .before .before .before .before .before .args in
+    let failed = sym (c .before .r .given .1) ∙ c .before .before .before .transfer-check .ensures in
+    rw (lt-leb _ _ (c .before .before .before .before .if1 .left)) (fails (transferRules (a .l) (a .e) (a .t)) (after (a .e) (a .s) (a .t)) _ failed)
+
+returns-5 : tie.Need-returns-5
+returns-5 c =
+    let a = c .before .before .before .before .before .before .before .before .before .before .before .args in
+    let passed = sym (c .before .before .before .before .before .enum-told .given .1) ∙ c .before .before .before .before .before .before .before .transfer-check .ensures in
+    rw (lt-leb _ _ (c .before .before .before .before .before .before .before .before .if1 .left)) (passes (transferRules (a .l) (a .e) (a .t)) (after (a .e) (a .s) (a .t)) _ passed (rw (← c .before .before .before .before .ack-from .ensures, ← c .before .before .before .is-held .ensures, c .before .before .if2 .left, ← c .before .is-against .ensures, c .if3 .left)))
+
+pub ack-check-spec : {M : Type 1} → statement M
+ack-check-spec =
+    tie.close
+    (tie.spec
+    returns
+    transfer-check-requires
+    enum-known-r
+    enum-told
+    ack-from-requires
+    is-held-requires
+    returns-2
+    is-against-requires
+    returns-3
+    returns-4
+    returns-5)

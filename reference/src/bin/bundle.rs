@@ -1,0 +1,68 @@
+//! The person's tool: packs the text form of a bundle into bytes, unpacks bytes into the text form, and shows any bytes
+//! entry by entry.
+
+#![forbid(unsafe_code)]
+
+use reference::{bundle, streams, written};
+use std::ffi::OsStr;
+use std::process::ExitCode;
+
+const USAGE: &str = "usage: bundle pack [FILE]     the text form to a bundle's bytes
+       bundle unpack [FILE]   a bundle's bytes to the text form
+       bundle show [FILE]     any bytes, entry by entry, with the replies or the place of the fault
+Standard input is read if no file is named.";
+
+/// No text or bundle is anywhere near this long; it keeps endless input out.
+const MOST_BYTES: usize = 1 << 24;
+
+fn main() -> ExitCode {
+    let arguments: Vec<_> = std::env::args_os().skip(1).collect();
+    let arguments: Vec<&OsStr> = arguments.iter().map(|argument| argument.as_os_str()).collect();
+    let (word, file) = match arguments[..] {
+        [word] => (word, None),
+        [word, file] => (word, Some(file)),
+        _ => return streams::complain(2, USAGE),
+    };
+    let run = match word.to_str() {
+        Some("pack") => pack,
+        Some("unpack") => unpack,
+        Some("show") => show,
+        _ => return streams::complain(2, USAGE),
+    };
+    let result = input(file).and_then(|bytes| run(&bytes));
+    match result {
+        Ok(output) => streams::output(&output),
+        Err(what) => streams::complain(1, &format!("{}:{what}", streams::name(file))),
+    }
+}
+
+/// The input; this and the three functions below say in Err what stands behind the file's name and a colon.
+fn input(file: Option<&OsStr>) -> Result<Vec<u8>, String> {
+    let bytes = streams::input(file, MOST_BYTES + 1).map_err(|error| format!(" {error}"))?;
+    if bytes.len() > MOST_BYTES {
+        return Err(format!(" longer than {MOST_BYTES} bytes"));
+    }
+    Ok(bytes)
+}
+
+fn pack(bytes: &[u8]) -> Result<Vec<u8>, String> {
+    let text = std::str::from_utf8(bytes).map_err(|error| {
+        let line = 1 + bytes[..error.valid_up_to()]
+            .iter()
+            .filter(|byte| **byte == b'\n')
+            .count();
+        format!("{line}: not a text: a byte that is not UTF-8")
+    })?;
+    written::parse(text).map_err(|mistake| format!("{}: {}", mistake.line, mistake.what))
+}
+
+fn unpack(bytes: &[u8]) -> Result<Vec<u8>, String> {
+    let text = written::written(bytes).map_err(|bundle::Fault { code, entry }| {
+        format!(" refused with {code} at entry {entry}; `bundle show` says what is wrong")
+    })?;
+    Ok(text.into_bytes())
+}
+
+fn show(bytes: &[u8]) -> Result<Vec<u8>, String> {
+    Ok(written::shown(bytes).into_bytes())
+}

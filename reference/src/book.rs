@@ -1,0 +1,337 @@
+//! One seat's book, changed in place by each message.
+
+use std::fmt;
+
+/// The most seats that a book can have.
+const MOST_SEATS: usize = 16;
+/// The most accounts that a book can have, and the least length of a waiting-list buffer.
+const MOST_ACCOUNTS: usize = 32;
+
+/// The account pays the value to the recipient; the number counts the account's slips from 1.
+#[derive(Clone, Copy, PartialEq, Eq, Hash, Debug)]
+pub struct Slip {
+    pub account: u8,
+    pub number: u32,
+    pub value: u32,
+    pub recipient: u8,
+}
+
+/// As document 01 writes a slip: `(0, 1, 4, 1)`.
+impl fmt::Display for Slip {
+    fn fmt(&self, out: &mut fmt::Formatter) -> fmt::Result {
+        write!(
+            out,
+            "({}, {}, {}, {})",
+            self.account, self.number, self.value, self.recipient
+        )
+    }
+}
+
+/// n seats, of which f may misbehave, and k accounts with their opening balances.
+#[derive(Clone, PartialEq, Eq, Debug)]
+pub struct OpeningPage {
+    pub n: u8,
+    pub f: u8,
+    pub k: u8,
+    pub balances: [u32; 32],
+}
+
+impl OpeningPage {
+    /// The opening sum, which may be above the limit.
+    pub fn sum(&self) -> u64 {
+        self.balances.iter().map(|balance| u64::from(*balance)).sum()
+    }
+}
+
+#[derive(Clone, Copy, PartialEq, Eq, Debug)]
+pub enum Message {
+    /// a home's new slip
+    Request(Slip),
+    /// a circulated slip
+    Slip(Slip),
+    Ack {
+        seat: u8,
+        slip: Slip,
+    },
+    Ruling(Slip),
+    /// a balance question
+    Question {
+        account: u8,
+    },
+}
+
+#[derive(Clone, PartialEq, Eq, Debug)]
+pub enum Reply {
+    /// C: circulate the slip
+    Circulate,
+    /// A: ack the slip
+    Ack,
+    /// K: the slip is accepted, and this call booked so many slips
+    Accepted { booked: u32 },
+    /// P: one slip that has the most acks; `Book::most_acked` lists every slip that P may carry
+    PutForward { slip: Slip },
+    /// N: the ack is recorded, and that is all
+    Noted,
+    /// B: the balance
+    Balance(u32),
+    /// R: the code of the refusal
+    Refused(u8),
+}
+
+/// What the book holds for one account.
+#[derive(Clone, PartialEq, Eq, Debug)]
+struct Account {
+    balance: u32,
+    /// the number last booked, 0 at opening
+    current: u32,
+    /// whether this seat has acked the next number
+    acked: bool,
+    /// each seat's first ack for the next number
+    acks: [Option<Slip>; MOST_SEATS],
+    /// whether a slip was put forward for the next number
+    put_forward: bool,
+    /// the accepted slip that waits to be booked
+    waiting: Option<Slip>,
+}
+
+impl Account {
+    fn open(balance: u32) -> Account {
+        Account {
+            balance,
+            current: 0,
+            acked: false,
+            acks: [None; MOST_SEATS],
+            put_forward: false,
+            waiting: None,
+        }
+    }
+
+    /// How many seats' acks are recorded for the next number.
+    fn recorded(&self) -> usize {
+        self.acks.iter().flatten().count()
+    }
+
+    /// How many of the recorded acks are equal to this slip.
+    fn acks_for(&self, slip: &Slip) -> usize {
+        self.acks.iter().flatten().filter(|acked| *acked == slip).count()
+    }
+
+    /// The first slip that has the most acks, and how many it has.
+    fn most_acked(&self) -> Option<(Slip, usize)> {
+        let mut best = None;
+        let mut most = 0;
+        for slip in self.acks.iter().flatten() {
+            let count = self.acks_for(slip);
+            if count > most {
+                most = count;
+                best = Some((*slip, count));
+            }
+        }
+        best
+    }
+}
+
+/// One seat's record.
+#[derive(Clone, PartialEq, Eq, Debug)]
+pub struct Book {
+    n: usize,
+    f: usize,
+    opening_sum: u32,
+    accounts: Vec<Account>,
+}
+
+impl Book {
+    /// Opens a book, or refuses with 1, 2 or 3.
+    pub fn open(page: &OpeningPage) -> Result<Book, u8> {
+        let (n, f, k) = (usize::from(page.n), usize::from(page.f), usize::from(page.k));
+        if !(1..=MOST_SEATS).contains(&n) || 5 * f >= n {
+            return Err(1);
+        }
+        if !(1..=MOST_ACCOUNTS).contains(&k) || page.balances[k..].iter().any(|balance| *balance != 0) {
+            return Err(2);
+        }
+        let opening_sum = u32::try_from(page.sum()).map_err(|_| 3)?;
+        let accounts = page.balances[..k]
+            .iter()
+            .map(|balance| Account::open(*balance))
+            .collect();
+        Ok(Book {
+            n,
+            f,
+            opening_sum,
+            accounts,
+        })
+    }
+
+    /// Does what the message says and replies; a refusal changes nothing.
+    pub fn call(&mut self, message: &Message) -> Reply {
+        let reply = match *message {
+            Message::Request(slip) => self.request(slip),
+            Message::Slip(slip) => self.slip(slip),
+            Message::Ack { seat, slip } => self.ack(usize::from(seat), slip),
+            Message::Ruling(slip) => self.ruling(slip),
+            Message::Question { account } => self.question(usize::from(account)),
+        };
+        reply.unwrap_or_else(Reply::Refused)
+    }
+
+    /// Writes the accounts with a waiting slip into the front of the buffer and replies how many; 17 if the buffer is
+    /// too short.
+    pub fn waiting_list(&self, buffer: &mut [u8]) -> Result<usize, u8> {
+        if buffer.len() < MOST_ACCOUNTS {
+            return Err(17);
+        }
+        let mut count = 0;
+        for (number, account) in (0..).zip(&self.accounts) {
+            if account.waiting.is_some() {
+                buffer[count] = number;
+                count += 1;
+            }
+        }
+        Ok(count)
+    }
+
+    /// k
+    pub fn accounts(&self) -> usize {
+        self.accounts.len()
+    }
+
+    /// The balance of an account below k.
+    pub fn balance(&self, account: usize) -> u32 {
+        self.accounts[account].balance
+    }
+
+    /// The current number of an account below k.
+    pub fn current(&self, account: usize) -> u32 {
+        self.accounts[account].current
+    }
+
+    /// Every slip that has the most recorded acks for the next number of an account below k, each once.
+    pub fn most_acked(&self, account: usize) -> Vec<Slip> {
+        let account = &self.accounts[account];
+        let most = account.most_acked().map_or(0, |(_, count)| count);
+        let mut slips = Vec::new();
+        for slip in account.acks.iter().flatten() {
+            if account.acks_for(slip) == most && !slips.contains(slip) {
+                slips.push(*slip);
+            }
+        }
+        slips
+    }
+
+    fn request(&self, slip: Slip) -> Result<Reply, u8> {
+        let account = self.check_slip(&slip)?;
+        self.check_funds(account, &slip)?;
+        Ok(Reply::Circulate)
+    }
+
+    fn slip(&mut self, slip: Slip) -> Result<Reply, u8> {
+        let account = self.check_slip(&slip)?;
+        // 12 comes before 11
+        if self.accounts[account].acked {
+            return Err(12);
+        }
+        self.check_funds(account, &slip)?;
+        self.accounts[account].acked = true;
+        Ok(Reply::Ack)
+    }
+
+    fn ack(&mut self, seat: usize, slip: Slip) -> Result<Reply, u8> {
+        if seat >= self.n {
+            return Err(4);
+        }
+        let number = self.check_slip(&slip)?;
+        let account = &mut self.accounts[number];
+        if let Some(first) = account.acks[seat] {
+            return Err(if first == slip { 9 } else { 10 });
+        }
+        account.acks[seat] = Some(slip);
+        let equal = account.acks_for(&slip);
+        if 2 * equal > self.n + 3 * self.f {
+            return Ok(self.accept(number, slip));
+        }
+        // this ack is recorded too, so two of them conflict just if not all are equal to it
+        let recorded = account.recorded();
+        let split = recorded >= self.n - self.f && recorded > equal;
+        if !split || account.put_forward {
+            return Ok(Reply::Noted);
+        }
+        account.put_forward = true;
+        let most_acked = account.most_acked().map_or(slip, |(most_acked, _)| most_acked);
+        Ok(Reply::PutForward { slip: most_acked })
+    }
+
+    fn ruling(&mut self, slip: Slip) -> Result<Reply, u8> {
+        let account = self.check_slip(&slip)?;
+        Ok(self.accept(account, slip))
+    }
+
+    fn question(&self, account: usize) -> Result<Reply, u8> {
+        let account = self.accounts.get(account).ok_or(5)?;
+        Ok(Reply::Balance(account.balance))
+    }
+
+    /// Codes 5 to 8, which every message with a slip can meet. Returns the payer's place in `accounts`.
+    fn check_slip(&self, slip: &Slip) -> Result<usize, u8> {
+        let (payer, recipient) = (usize::from(slip.account), usize::from(slip.recipient));
+        let k = self.accounts.len();
+        if payer >= k || recipient >= k || slip.number == 0 || slip.value == 0 || slip.value > self.opening_sum {
+            return Err(5);
+        }
+        let account = &self.accounts[payer];
+        if slip.number <= account.current {
+            return Err(6);
+        }
+        if slip.number - account.current > 1 {
+            return Err(7);
+        }
+        if account.waiting.is_some() {
+            return Err(8);
+        }
+        Ok(payer)
+    }
+
+    /// Code 11, which only requests and slips can meet: an accepted slip waits for its funds.
+    fn check_funds(&self, account: usize, slip: &Slip) -> Result<(), u8> {
+        if slip.value > self.accounts[account].balance {
+            return Err(11);
+        }
+        Ok(())
+    }
+
+    /// The accepted slip waits, then settling begins.
+    fn accept(&mut self, account: usize, slip: Slip) -> Reply {
+        self.accounts[account].waiting = Some(slip);
+        Reply::Accepted { booked: self.settle() }
+    }
+
+    /// Books while some waiting slip has its funds, and counts. Each booking can give another slip its funds, so the
+    /// search starts again.
+    fn settle(&mut self) -> u32 {
+        let mut booked = 0;
+        while let Some(slip) = self.next_to_book() {
+            self.book(slip);
+            booked += 1;
+        }
+        booked
+    }
+
+    /// The waiting slip with the lowest account among those whose value is at most the payer's balance.
+    fn next_to_book(&self) -> Option<Slip> {
+        self.accounts
+            .iter()
+            .find_map(|account| account.waiting.filter(|slip| slip.value <= account.balance))
+    }
+
+    /// Takes the value from the payer, who starts afresh at the next number, and gives it to the recipient, who may be
+    /// the payer.
+    fn book(&mut self, slip: Slip) {
+        let payer = &mut self.accounts[usize::from(slip.account)];
+        *payer = Account {
+            current: slip.number,
+            ..Account::open(payer.balance - slip.value)
+        };
+        // never above the opening sum, as no portion is made or lost
+        self.accounts[usize::from(slip.recipient)].balance += slip.value;
+    }
+}

@@ -1,0 +1,38 @@
+//! Reading and writing for the programs of this package. Nothing here panics, also if a pipe is closed.
+
+use std::ffi::OsStr;
+use std::fs::File;
+use std::io::{self, Read, Write};
+use std::process::ExitCode;
+
+/// The bytes of the file, or of standard input if none is named; no more than `most` of them are read.
+pub fn input(file: Option<&OsStr>, most: usize) -> io::Result<Vec<u8>> {
+    let mut bytes = Vec::new();
+    match file {
+        Some(name) => File::open(name)?.take(most as u64).read_to_end(&mut bytes)?,
+        None => io::stdin().lock().take(most as u64).read_to_end(&mut bytes)?,
+    };
+    Ok(bytes)
+}
+
+/// What messages call the file.
+pub fn name(file: Option<&OsStr>) -> String {
+    file.map_or("<stdin>".to_string(), |name| name.to_string_lossy().into_owned())
+}
+
+/// Writes all of it to standard output. A reader that went away wants no message.
+pub fn output(bytes: &[u8]) -> ExitCode {
+    let mut out = io::stdout().lock();
+    match out.write_all(bytes).and_then(|()| out.flush()) {
+        Ok(()) => ExitCode::SUCCESS,
+        Err(error) if error.kind() == io::ErrorKind::BrokenPipe => ExitCode::FAILURE,
+        Err(error) => complain(1, &format!("standard output: {error}")),
+    }
+}
+
+/// Writes a line to standard error, which may be closed, and returns the status to end with.
+pub fn complain(status: u8, line: &str) -> ExitCode {
+    // there is nobody left to tell if this fails
+    let _ = writeln!(io::stderr(), "{line}");
+    ExitCode::from(status)
+}

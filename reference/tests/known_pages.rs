@@ -1,0 +1,377 @@
+//! Document 01's known pages, and its rules one by one.
+
+mod common;
+
+use common::Chance;
+use reference::book::{Book, Message, OpeningPage, Reply, Slip};
+use reference::bundle::{self, Fault};
+use reference::daybook::{self, Free};
+
+const T: Slip = Slip {
+    account: 0,
+    number: 1,
+    value: 4,
+    recipient: 1,
+};
+const U: Slip = Slip { value: 5, ..T };
+const V: Slip = Slip { value: 6, ..T };
+
+fn page(n: u8, f: u8, given: &[u32]) -> OpeningPage {
+    let mut balances = [0; 32];
+    balances[..given.len()].copy_from_slice(given);
+    OpeningPage {
+        n,
+        f,
+        k: given.len() as u8,
+        balances,
+    }
+}
+
+fn open(n: u8, f: u8, given: &[u32]) -> Book {
+    Book::open(&page(n, f, given)).expect("the page is not refused")
+}
+
+fn slip(account: u8, number: u32, value: u32, recipient: u8) -> Slip {
+    Slip {
+        account,
+        number,
+        value,
+        recipient,
+    }
+}
+
+fn ack(seat: u8, slip: Slip) -> Message {
+    Message::Ack { seat, slip }
+}
+
+/// The replies to acks of these slips from seats 0, 1, 2 and so on.
+fn acked(book: &mut Book, slips: &[Slip]) -> Vec<Reply> {
+    (0..)
+        .zip(slips)
+        .map(|(seat, slip)| book.call(&ack(seat, *slip)))
+        .collect()
+}
+
+#[test]
+fn acks_needed() {
+    for (n, f, needed) in [
+        (1, 0, 1),
+        (2, 0, 2),
+        (6, 1, 5),
+        (7, 1, 6),
+        (8, 1, 6),
+        (11, 2, 9),
+        (16, 3, 13),
+    ] {
+        let mut book = open(n, f, &[10, 3]);
+        let mut due = vec![Reply::Noted; needed - 1];
+        due.push(Reply::Accepted { booked: 1 });
+        assert_eq!(acked(&mut book, &vec![T; needed]), due, "n {n}, f {f}");
+    }
+}
+
+#[test]
+fn openings() {
+    let with_k = |k| OpeningPage { k, ..page(6, 1, &[1]) };
+    let too_much = page(1, 0, &[u32::MAX, 1]);
+    let cases = [
+        (page(5, 1, &[10, 5]), Err(1)),
+        (page(17, 0, &[10, 5]), Err(1)),
+        (page(0, 0, &[1]), Err(1)),
+        (page(16, 255, &[1]), Err(1)),
+        (page(16, 3, &[1]), Ok(1)),
+        (page(1, 0, &[0; 32]), Ok(32)),
+        (with_k(0), Err(2)),
+        (with_k(33), Err(2)),
+        (
+            OpeningPage {
+                k: 1,
+                ..page(6, 1, &[10, 5])
+            },
+            Err(2),
+        ),
+        (page(1, 0, &[u32::MAX - 1, 1]), Ok(2)),
+        (too_much.clone(), Err(3)),
+        // codes rise
+        (
+            OpeningPage {
+                n: 0,
+                k: 0,
+                ..too_much.clone()
+            },
+            Err(1),
+        ),
+        (OpeningPage { k: 1, ..too_much }, Err(2)),
+    ];
+    for (page, due) in cases {
+        assert_eq!(Book::open(&page).map(|book| book.accounts()), due, "{page:?}");
+    }
+}
+
+#[test]
+fn splits() {
+    let put_forward = Reply::PutForward { slip: T };
+    let mut book = open(6, 1, &[10, 3]);
+    assert_eq!(
+        acked(&mut book, &[T, T, T, U, U, T])[3..],
+        [Reply::Noted, put_forward.clone(), Reply::Noted]
+    );
+    let mut book = open(6, 1, &[10, 3]);
+    let accepted = Reply::Accepted { booked: 1 };
+    assert_eq!(
+        acked(&mut book, &[T, T, T, T, U, T])[3..],
+        [Reply::Noted, put_forward, accepted]
+    );
+}
+
+#[test]
+fn not_this_seats_own_slip_is_put_forward_but_the_most_acked() {
+    let mut book = open(6, 1, &[10, 3]);
+    assert_eq!(book.call(&Message::Slip(T)), Reply::Ack);
+    assert_eq!(acked(&mut book, &[T, U, U, T, U])[4], Reply::PutForward { slip: U });
+}
+
+#[test]
+fn tie() {
+    let messages: Vec<_> = (0..)
+        .zip([T, T, T, U, U, U, V])
+        .map(|(seat, slip)| ack(seat, slip))
+        .collect();
+    let bytes = bundle::write(&page(8, 1, &[10, 3]), &messages);
+    let printed = daybook::printed(&bytes);
+    assert_eq!(
+        printed.free,
+        [Free {
+            entry: 7,
+            slips: vec![T, U]
+        }]
+    );
+    let text = |value| format!("1 N\n2 N\n3 N\n4 N\n5 N\n6 N\n7 P 0 1 {value} 1\n= 0 10 0\n= 1 3 0\n");
+    // the text carries the first of the list
+    assert_eq!(printed.text, text(4));
+    assert_eq!(daybook::compare(&bytes, text(4).as_bytes()), Ok(()));
+    assert_eq!(daybook::compare(&bytes, text(5).as_bytes()), Ok(()));
+    let third = daybook::compare(&bytes, text(6).as_bytes()).expect_err("the third slip has fewer acks");
+    assert!(third.contains("line 7"), "{third}");
+}
+
+#[test]
+fn funds() {
+    let mut book = open(6, 1, &[10, 5]);
+    for (value, due) in [(16, Reply::Refused(5)), (11, Reply::Refused(11)), (10, Reply::Ack)] {
+        assert_eq!(book.call(&Message::Slip(Slip { value, ..T })), due, "value {value}");
+    }
+}
+
+#[test]
+fn settled_twice() {
+    let mut book = open(6, 1, &[0, 5]);
+    assert_eq!(
+        book.call(&Message::Ruling(slip(0, 1, 5, 1))),
+        Reply::Accepted { booked: 0 }
+    );
+    let mut buffer = [7; 40];
+    assert_eq!(book.waiting_list(&mut buffer), Ok(1));
+    assert_eq!((buffer[0], &buffer[1..]), (0, &[7; 39][..]));
+    assert_eq!(book.waiting_list(&mut buffer[..31]), Err(17));
+    assert_eq!(
+        book.call(&Message::Ruling(slip(1, 1, 5, 0))),
+        Reply::Accepted { booked: 2 }
+    );
+    assert_eq!((book.balance(0), book.balance(1)), (0, 5));
+    assert_eq!((book.current(0), book.current(1)), (1, 1));
+    assert_eq!(book.waiting_list(&mut buffer), Ok(0));
+}
+
+#[test]
+fn the_recipient_may_be_the_payer() {
+    let mut book = open(1, 0, &[u32::MAX]);
+    assert_eq!(
+        book.call(&ack(0, slip(0, 1, u32::MAX, 0))),
+        Reply::Accepted { booked: 1 }
+    );
+    assert_eq!((book.balance(0), book.current(0)), (u32::MAX, 1));
+}
+
+#[test]
+fn sums() {
+    assert_eq!(bundle::sum(&[]), 0);
+    assert_eq!(bundle::sum(&[1, 2]), 33);
+    assert_eq!(bundle::sum(&[255; 7]), 1_928_985_951);
+}
+
+#[test]
+fn whole_output() {
+    let mut messages = vec![Message::Slip(T)];
+    messages.extend((0..5).map(|seat| ack(seat, T)));
+    messages.push(Message::Question { account: 1 });
+    let bytes = bundle::write(&page(6, 1, &[10, 3]), &messages);
+    let due = "1 A\n2 N\n3 N\n4 N\n5 N\n6 K 1\n7 B 7\n= 0 6 1\n= 1 7 0\n";
+    assert_eq!(daybook::printed(&bytes).text, due);
+    assert_eq!(daybook::compare(&bytes, due.as_bytes()), Ok(()));
+    for wrong in [
+        &due[..due.len() - 1],
+        &due[4..],
+        "",
+        &format!("{due}\n"),
+        &due.replace("K 1", "K 2"),
+    ] {
+        assert!(daybook::compare(&bytes, wrong.as_bytes()).is_err(), "{wrong:?}");
+    }
+}
+
+/// Each message meets the first code that fits it, and often others behind that.
+#[test]
+fn codes_in_their_order() {
+    let mut book = open(6, 1, &[10, 5]);
+    // account 0 has booked its number 1, this seat and seat 0 have acked its number 2, and account 1's slip waits
+    let before = [
+        Message::Ruling(slip(0, 1, 1, 0)),
+        Message::Slip(slip(0, 2, 9, 1)),
+        ack(0, slip(0, 2, 9, 1)),
+        Message::Ruling(slip(1, 1, 15, 0)),
+    ];
+    for message in &before {
+        assert!(!matches!(book.call(message), Reply::Refused(_)), "{message:?}");
+    }
+    let cases = [
+        (ack(6, slip(2, 0, 0, 2)), 4),
+        (ack(5, slip(2, 2, 1, 0)), 5),
+        (ack(5, slip(0, 2, 1, 2)), 5),
+        (Message::Request(slip(0, 0, 1, 0)), 5),
+        (Message::Ruling(slip(0, 2, 0, 0)), 5),
+        (Message::Slip(slip(0, 1, 16, 0)), 5),
+        (Message::Question { account: 2 }, 5),
+        (Message::Slip(slip(0, 1, 15, 0)), 6),
+        (Message::Ruling(slip(0, 3, 15, 0)), 7),
+        (Message::Request(slip(1, u32::MAX, 15, 0)), 7),
+        (Message::Request(slip(1, 1, 15, 0)), 8),
+        (Message::Slip(slip(1, 1, 15, 0)), 8),
+        (ack(1, slip(1, 1, 15, 0)), 8),
+        (Message::Ruling(slip(1, 1, 15, 0)), 8),
+        (ack(0, slip(0, 2, 9, 1)), 9),
+        (ack(0, slip(0, 2, 15, 1)), 10),
+        (Message::Request(slip(0, 2, 15, 1)), 11),
+        (Message::Slip(slip(0, 2, 15, 1)), 12),
+        (Message::Slip(slip(0, 2, 9, 1)), 12),
+    ];
+    for (message, code) in cases {
+        assert_eq!(book.call(&message), Reply::Refused(code), "{message:?}");
+    }
+}
+
+/// Of every call: a refusal changes nothing, K counts the rise of the current numbers, no portion is made or lost.
+#[test]
+fn every_call() {
+    let mut chance = Chance(1);
+    let mut replies_seen = [0; 7];
+    for _ in 0..300 {
+        let page = chance.good_page();
+        let mut book = Book::open(&page).expect("a good page opens");
+        let total = |book: &Book| {
+            (0..book.accounts())
+                .map(|account| u64::from(book.balance(account)))
+                .sum::<u64>()
+        };
+        let numbers = |book: &Book| (0..book.accounts()).map(|account| book.current(account)).sum::<u32>();
+        let opening_sum = total(&book);
+        for message in chance.messages(200) {
+            let before = book.clone();
+            let rise = match book.call(&message) {
+                Reply::Accepted { booked } => booked,
+                _ => 0,
+            };
+            let reply = before.clone().call(&message);
+            assert_eq!(numbers(&book), numbers(&before) + rise, "{message:?}");
+            assert_eq!(total(&book), opening_sum, "{message:?}");
+            if matches!(reply, Reply::Refused(_) | Reply::Circulate | Reply::Balance(_)) {
+                assert_eq!(book, before, "{message:?}");
+            } else {
+                assert_ne!(book, before, "{message:?}");
+            }
+            replies_seen["CAKPNBR".find(&reply.to_string()[..1]).expect("a reply letter")] += 1;
+        }
+    }
+    assert!(replies_seen.iter().all(|count| *count > 20), "{replies_seen:?}");
+}
+
+/// The changes (place, byte), the length, and the code and entry of the fault.
+type Damage = (&'static [(usize, u8)], usize, u8, usize);
+
+/// Damages to a bundle of 168 bytes: its opening page's body starts at 26, a question's at 157, an ack's at 158.
+const DAMAGES: &[Damage] = &[
+    (&[], 0, 13, 0),
+    (&[], 1, 13, 0),
+    (&[], 25, 13, 0),
+    (&[(0, 0)], 168, 13, 0),
+    (&[(0, 0xe9), (1, 3)], 9000, 13, 0),
+    (&[(1, 255)], 168, 13, 0),
+    (&[(2, 1)], 168, 14, 0),
+    (&[(2, 6)], 168, 14, 0),
+    (&[(3, 1)], 168, 14, 0),
+    (&[(4, 27)], 168, 14, 0),
+    (&[(5, 1)], 168, 14, 0),
+    (&[(10, 0)], 168, 14, 1),
+    (&[(10, 255)], 168, 14, 1),
+    (&[(11, 1)], 168, 14, 1),
+    (&[(18, 4)], 168, 14, 2),
+    // 14 of a later entry comes before 15 and 16 of an earlier one
+    (&[(6, 0), (7, 0), (18, 6)], 26, 14, 2),
+    (&[], 26, 15, 0),
+    (&[(6, 0), (7, 0)], 167, 15, 0),
+    (&[(6, 0), (7, 0)], 169, 15, 0),
+    (&[(26, 2), (157, 1)], 168, 16, 0),
+    (&[(157, 1), (158, 1)], 168, 16, 1),
+    (&[(167, 0)], 168, 16, 2),
+];
+
+#[test]
+fn faults_of_bundles() {
+    let sound = bundle::write(&page(1, 0, &[1]), &[Message::Question { account: 0 }, ack(3, T)]);
+    assert_eq!((bundle::check(&sound), sound.len()), (Ok(3), 168));
+    for (changes, length, code, entry) in DAMAGES {
+        let mut bytes = sound.clone();
+        for (place, byte) in *changes {
+            bytes[*place] = *byte;
+        }
+        bytes.resize(*length, 0);
+        let fault = Fault {
+            code: *code,
+            entry: *entry,
+        };
+        assert_eq!(bundle::check(&bytes), Err(fault), "{changes:?}, {length} bytes");
+        assert_eq!(bundle::read(&bytes), Err(fault));
+        assert_eq!(daybook::printed(&bytes).text, format!("F {code} {entry}\n"));
+    }
+}
+
+#[test]
+fn the_longest_bundle() {
+    let bytes = bundle::write(&page(1, 0, &[1]), &[Message::Request(slip(0, 1, 1, 0)); 999]);
+    assert_eq!(bytes.len(), bundle::LONGEST);
+    assert_eq!(bundle::check(&bytes), Ok(bundle::MOST_ENTRIES));
+    assert!(daybook::printed(&bytes).text.ends_with("\n999 C\n= 0 1 0\n"));
+}
+
+#[test]
+fn write_and_read() {
+    let mut chance = Chance(2);
+    for _ in 0..200 {
+        let (page, messages) = (chance.any_page(), chance.messages(40));
+        let bytes = bundle::write(&page, &messages);
+        assert_eq!(bundle::check(&bytes), Ok(1 + messages.len()));
+        assert_eq!(bundle::read(&bytes), Ok((page, messages)));
+    }
+}
+
+#[test]
+fn refused_openings_print_their_code() {
+    for (page, code) in [
+        (page(5, 1, &[1]), 1),
+        (page(6, 1, &[]), 2),
+        (page(6, 1, &[u32::MAX, 1]), 3),
+    ] {
+        let bytes = bundle::write(&page, &[Message::Question { account: 0 }]);
+        assert_eq!(daybook::printed(&bytes).text, format!("F {code} 0\n"));
+    }
+}

@@ -1,0 +1,145 @@
+//! The two programs, run as a person runs them.
+
+use std::io::Write;
+use std::process::{Command, Output, Stdio};
+
+const BUNDLE: &str = env!("CARGO_BIN_EXE_bundle");
+const REFERENCE: &str = env!("CARGO_BIN_EXE_reference");
+
+/// Runs a program with these bytes on standard input.
+fn run(program: &str, arguments: &[&str], input: &[u8]) -> Output {
+    let mut command = Command::new(program);
+    command
+        .args(arguments)
+        .stdin(Stdio::piped())
+        .stdout(Stdio::piped())
+        .stderr(Stdio::piped());
+    let mut child = command.spawn().expect("the program starts");
+    // a program that looks only at its arguments does not read
+    let _ = child.stdin.take().expect("a pipe").write_all(input);
+    child.wait_with_output().expect("the program ends")
+}
+
+fn status(output: &Output) -> i32 {
+    output.status.code().expect("no signal ended it")
+}
+
+fn errors(output: &Output) -> String {
+    String::from_utf8_lossy(&output.stderr).into_owned()
+}
+
+const TEXT: &str = "open n 8, f 1, k 2, balances 10 3
+ack 0 (0, 1, 4, 1)
+ack 1 (0, 1, 4, 1)
+ack 2 (0, 1, 5, 1)
+ack 3 (0, 1, 5, 1)
+ack 4 (0, 1, 6, 1)
+ack 5 (0, 1, 6, 1)
+ack 6 (0, 1, 7, 1)
+";
+
+#[test]
+fn pack_unpack_show_and_print() {
+    let packed = run(BUNDLE, &["pack"], TEXT.as_bytes());
+    assert_eq!((status(&packed), errors(&packed)), (0, String::new()));
+    let unpacked = run(BUNDLE, &["unpack"], &packed.stdout);
+    assert_eq!((status(&unpacked), unpacked.stdout), (0, TEXT.as_bytes().to_vec()));
+    let shown = run(BUNDLE, &["show"], &packed.stdout);
+    assert_eq!(status(&shown), 0);
+    assert_eq!(shown.stdout, reference::written::shown(&packed.stdout).into_bytes());
+    let printed = run(REFERENCE, &[], &packed.stdout);
+    assert_eq!(status(&printed), 0);
+    let due = "1 N\n2 N\n3 N\n4 N\n5 N\n6 N\n7 P 0 1 4 1\n= 0 10 0\n= 1 3 0\n";
+    assert_eq!(printed.stdout, due.as_bytes());
+    assert_eq!(
+        errors(&printed),
+        "line 7 is free: P may also carry (0, 1, 5, 1) or (0, 1, 6, 1)\n"
+    );
+}
+
+/// A program, its arguments, its input, the status it ends with, and a part of the message.
+type Failing = (&'static str, &'static [&'static str], &'static [u8], i32, &'static str);
+
+const FAILING: &[Failing] = &[
+    (BUNDLE, &[], b"", 2, "usage: bundle pack [FILE]"),
+    (BUNDLE, &["mend"], b"", 2, "usage: bundle pack [FILE]"),
+    (BUNDLE, &["pack", "a", "b"], b"", 2, "usage: bundle pack [FILE]"),
+    (
+        BUNDLE,
+        &["pack"],
+        b"open n 1, f 0, k 1\nslop",
+        1,
+        "<stdin>:2: unknown word `slop`",
+    ),
+    (
+        BUNDLE,
+        &["pack"],
+        b"open n 1, f 0, k 1\n# \xff",
+        1,
+        "<stdin>:2: not a text",
+    ),
+    (BUNDLE, &["pack", "no/such.page"], b"", 1, "no/such.page: "),
+    (
+        BUNDLE,
+        &["unpack"],
+        b"",
+        1,
+        "<stdin>: refused with 13 at entry 0; `bundle show` says what is wrong",
+    ),
+    (BUNDLE, &["unpack", "no/such.bundle"], b"", 1, "no/such.bundle: "),
+    (BUNDLE, &["show", "."], b"", 1, ".: "),
+    (REFERENCE, &["a", "b"], b"", 2, "usage: reference [FILE]"),
+    (REFERENCE, &["no/such.bundle"], b"", 1, "no/such.bundle: "),
+    (REFERENCE, &["."], b"", 1, ".: "),
+];
+
+#[test]
+fn what_goes_wrong_is_said() {
+    for (program, arguments, input, due, part) in FAILING {
+        let output = run(program, arguments, input);
+        assert_eq!(status(&output), *due, "{arguments:?}");
+        assert!(errors(&output).contains(part), "{arguments:?}: {}", errors(&output));
+        assert!(output.stdout.is_empty(), "{arguments:?}");
+    }
+}
+
+#[test]
+fn a_bundle_that_is_too_long() {
+    let longest = run(
+        BUNDLE,
+        &["pack"],
+        b"open n 1, f 0, k 1, balances 1\nrepeat 999 request (0, 1, 1, 0)\n",
+    )
+    .stdout;
+    for more in [1, 100_000] {
+        let bytes = [longest.clone(), vec![0; more]].concat();
+        assert_eq!(run(REFERENCE, &[], &bytes).stdout, b"F 15 0\n");
+    }
+}
+
+/// A program whose output nobody reads ends with 1 and without a word; with no panic, which would end it with 101.
+#[test]
+fn a_closed_pipe() {
+    let mut text = TEXT.to_string();
+    text.push_str("repeat 900 question 0\n");
+    let packed = run(BUNDLE, &["pack"], text.as_bytes()).stdout;
+    for (program, arguments) in [(BUNDLE, &["show"][..]), (BUNDLE, &["unpack"]), (REFERENCE, &[])] {
+        let mut command = Command::new(program);
+        command
+            .args(arguments)
+            .stdin(Stdio::piped())
+            .stdout(Stdio::piped())
+            .stderr(Stdio::piped());
+        let mut child = command.spawn().expect("the program starts");
+        drop(child.stdout.take());
+        child
+            .stdin
+            .take()
+            .expect("a pipe")
+            .write_all(&packed)
+            .expect("the program reads");
+        let output = child.wait_with_output().expect("the program ends");
+        assert_eq!(status(&output), 1, "{arguments:?}");
+        assert!(!errors(&output).contains("panic"), "{arguments:?}: {}", errors(&output));
+    }
+}

@@ -1,0 +1,150 @@
+//! Calls each function that the static library exports, and holds it to document 01's known answers:
+//!
+//!     host DIR
+//!
+//! with the folder of examples. The last line is `N passed, M failed`, and the status is 1 if one failed.
+
+use std::process::ExitCode;
+use trials::checks::Checks;
+use trials::daybook::{acks_needed, is_enough, opening_code, text_of, waiting, UNTOUCHED};
+use trials::edges::wait_of;
+use trials::known::{self, page};
+
+/// The two functions on acks against each other and against document 01: twice the count exceeds n + 3f.
+fn acks(checks: &mut Checks) {
+    for n in 1..=16 {
+        for f in 0..=3 {
+            for count in 0..=16 {
+                let what = format!("whether {count} acks are enough at n {n}, f {f}");
+                checks.same(&what, is_enough(n, f, count), 2 * count > n + 3 * f);
+                checks.same(&what, is_enough(n, f, count), u16::from(count) >= acks_needed(n, f));
+            }
+        }
+    }
+}
+
+fn openings(checks: &mut Checks) {
+    let mut code = |wanted, what, page: &[u8]| checks.same(what, opening_code(page), wanted);
+    let max = u32::MAX;
+    let mut last = [0; 32];
+    last[31] = 1 << 24;
+    let good = page(6, 1, 3, &[100, 200, 300]);
+    let refused = page(17, 0, 1, &[100]);
+    let longer = |page: &[u8]| [page, &[255; 40]].concat();
+
+    code(0, "a good page", &good);
+    code(0, "32 accounts", &page(16, 3, 32, &[1; 32]));
+    code(1, "n 0", &page(0, 0, 1, &[100]));
+    code(1, "n 5 with f 1", &page(5, 1, 1, &[100]));
+    code(1, "n 17 with f 0", &refused);
+    code(2, "k 0", &page(6, 1, 0, &[]));
+    code(2, "k 33", &page(6, 1, 33, &[]));
+    code(2, "a balance behind k", &page(6, 1, 2, &[100, 200, 300]));
+    code(2, "the last behind k", &page(6, 1, 31, &last));
+    code(0, "the last within k", &page(6, 1, 32, &last));
+    code(3, "a sum of 4,294,967,296", &page(6, 1, 2, &[max, 1]));
+    code(0, "a sum of 4,294,967,295", &page(6, 1, 2, &[max - 1, 1]));
+    code(1, "no bytes", &[]);
+    code(2, "n and f alone", &[6, 1]);
+    code(0, "n, f and k alone", &[6, 1, 3]);
+    code(0, "bytes behind a good page", &longer(&good));
+    code(1, "bytes behind a refused page", &longer(&refused));
+}
+
+fn example(folder: &str, name: &str) -> Vec<u8> {
+    std::fs::read(format!("{folder}/{name}.bundle")).unwrap_or_else(|error| panic!("{name}.bundle: {error}"))
+}
+
+/// Input longer than a bundle can be gives 13, 14 or 15, and the same text as its first 18,124 bytes.
+fn long_inputs(checks: &mut Checks, folder: &str) {
+    let longest = example(folder, "longest");
+    let inputs = [
+        (vec![0; 18_124], "F 13 0\n"),
+        (vec![255; 1_000_000], "F 13 0\n"),
+        (vec![1; 40_000], "F 14 0\n"),
+        ([&longest[..], &[0]].concat(), "F 15 0\n"),
+        ([&longest[..], &longest[..]].concat(), "F 15 0\n"),
+    ];
+    for (bytes, wanted) in inputs {
+        let what = format!("an input of {} bytes", bytes.len());
+        checks.same(&what, text_of(&bytes), wanted.as_bytes().to_vec());
+        checks.same(
+            "the same from its front",
+            text_of(&bytes[..18_124]),
+            wanted.as_bytes().to_vec(),
+        );
+    }
+}
+
+/// A bundle with one byte changed is refused: m and each start by the bodies' lengths, the bodies by their sums. Only
+/// the kind and the seat of an entry may be changed to others that are as good.
+fn damaged(checks: &mut Checks, folder: &str) {
+    let bundle = example(folder, "whole_output");
+    let contents = 2..2 + 8 * usize::from(bundle[0]);
+    let may_be_as_good = |place: &usize| contents.contains(place) && (place - 2) % 8 < 2;
+    for place in (0..bundle.len()).filter(|place| !may_be_as_good(place)) {
+        for change in [1, 128, 255] {
+            let mut bytes = bundle.clone();
+            bytes[place] ^= change;
+            let text = text_of(&bytes);
+            let refused = [13, 14, 15, 16]
+                .iter()
+                .any(|code| text.starts_with(format!("F {code} ").as_bytes()));
+            checks.that(
+                &format!("the bundle with byte {place} changed by {change} is refused"),
+                refused,
+            );
+        }
+    }
+}
+
+/// The waiting list after a bundle: its code and count, and the whole buffer, where what is not written stays.
+fn waiting_lists(checks: &mut Checks, folder: &str) {
+    let mut ask = |bytes: &[u8], length: usize, code, accounts: &[u8]| {
+        let mut list = vec![UNTOUCHED; length];
+        let mut wanted = list.clone();
+        wanted[..accounts.len()].copy_from_slice(accounts);
+        let reply = waiting(bytes, &mut list);
+        let what = format!("a waiting list of {length} bytes, where {code} is due and {accounts:?}");
+        checks.same(&what, reply, (code, accounts.len() as u8));
+        checks.same(&what, list, wanted);
+    };
+    let settled = example(folder, "settled_twice");
+    for length in [32, 33, 255] {
+        ask(&settled, length, 0, &[]);
+        ask(&wait_of(7).bytes, length, 0, &[7]);
+        ask(&wait_of(31).bytes, length, 0, &[31]);
+        ask(&example(folder, "wrong_sum"), length, 16, &[]);
+        ask(&example(folder, "refused_opening_17_0"), length, 1, &[]);
+    }
+    for length in [0, 1, 31] {
+        ask(&settled, length, 17, &[]);
+        ask(&wait_of(7).bytes, length, 17, &[]);
+        // the bundle's own codes are tried first
+        ask(&example(folder, "empty"), length, 13, &[]);
+        ask(&example(folder, "refused_opening_5_1"), length, 1, &[]);
+    }
+}
+
+fn main() -> ExitCode {
+    let folder = match std::env::args().nth(1) {
+        Some(folder) => folder,
+        None => {
+            eprintln!("usage: host DIR, with the folder of examples");
+            return ExitCode::from(2);
+        }
+    };
+    let mut checks = Checks::default();
+    checks.part("host: known pages");
+    known::facts(&mut checks);
+    known::examples(&mut checks, &folder, None);
+    checks.part("host: acks, openings");
+    acks(&mut checks);
+    openings(&mut checks);
+    checks.part("host: inputs that are too long or damaged");
+    long_inputs(&mut checks, &folder);
+    damaged(&mut checks, &folder);
+    checks.part("host: waiting lists");
+    waiting_lists(&mut checks, &folder);
+    checks.finish()
+}

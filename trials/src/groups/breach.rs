@@ -1,0 +1,125 @@
+//! What is broken on purpose, to show that the checks can fail: one premise, or the text that `daybook` printed.
+
+use super::checks::{self, Check};
+use super::lies::Lie;
+use super::plan::Plan;
+use super::premises::{self, Premise};
+use super::world;
+use crate::dice::Dice;
+
+#[derive(Clone, Copy, PartialEq, Eq, Debug)]
+pub enum Breach {
+    /// Acks name honest seats and carry what these never acked.
+    ForgedAcks,
+    /// Rulings for one account and number differ between seats.
+    TwoRulings,
+    /// A ruling before anything was put forward, while another slip gathers acks.
+    EarlyRuling,
+    /// A ruling for another slip than the one that all put forward.
+    OtherRuling,
+    /// So many bad seats in a group with this n and f.
+    BadSeats { n: usize, f: usize, bad: usize },
+    /// Seats open from different pages.
+    TwoPages,
+    /// The premises are kept, but the text is changed before it is read.
+    Told(Lie),
+}
+
+impl Breach {
+    /// All that is searched for.
+    pub fn all() -> Vec<Breach> {
+        let mut all = vec![
+            Breach::ForgedAcks,
+            Breach::TwoRulings,
+            Breach::EarlyRuling,
+            Breach::OtherRuling,
+        ];
+        for (n, f) in [(3, 0), (6, 1), (11, 2), (16, 3)] {
+            all.push(Breach::BadSeats { n, f, bad: f + 1 });
+        }
+        all.push(Breach::TwoPages);
+        all.extend([Lie::BalanceOneMore, Lie::AcceptedAsNoted, Lie::AcceptedTwice].map(Breach::Told));
+        all
+    }
+
+    pub fn name(self) -> String {
+        let name = match self {
+            Breach::ForgedAcks => "acks that name honest seats and carry what these never acked",
+            Breach::TwoRulings => "rulings for one account and number that differ between seats",
+            Breach::EarlyRuling => "a ruling before anything was put forward",
+            Breach::OtherRuling => "a ruling for another slip than the one that all put forward",
+            Breach::BadSeats { n, f, bad } => return format!("{bad} bad (f + {}) of n {n} seats with f {f}", bad - f),
+            Breach::TwoPages => "seats that open from different pages",
+            Breach::Told(Lie::BalanceOneMore) => "a text with a balance one more",
+            Breach::Told(Lie::AcceptedAsNoted) => "a text with an N in the place of a K",
+            Breach::Told(Lie::AcceptedTwice) => "a text with two K at one number",
+        };
+        name.to_string()
+    }
+
+    /// The one premise that it breaks.
+    fn premise(self) -> Option<Premise> {
+        match self {
+            Breach::ForgedAcks => Some(Premise::OwnAcks),
+            Breach::TwoRulings => Some(Premise::OneRuling),
+            Breach::EarlyRuling => Some(Premise::PutForwardFirst),
+            Breach::OtherRuling => Some(Premise::OnlyOnePutForward),
+            Breach::BadSeats { .. } => Some(Premise::AtMostFBad),
+            Breach::TwoPages => Some(Premise::OnePage),
+            Breach::Told(_) => None,
+        }
+    }
+
+    /// The same with one bad seat more, if the number of bad seats is what it breaks and two honest seats are left.
+    fn worse(self) -> Option<Breach> {
+        match self {
+            Breach::BadSeats { n, f, bad } if bad + 3 <= n => Some(Breach::BadSeats { n, f, bad: bad + 1 }),
+            _ => None,
+        }
+    }
+
+    fn is_lie(self) -> bool {
+        matches!(self, Breach::Told(_))
+    }
+}
+
+/// A run in which a check failed.
+pub struct Found {
+    /// What was broken in it, perhaps with more bad seats than at first.
+    pub breach: Breach,
+    pub runs: u64,
+    pub how: String,
+}
+
+/// Looks for a run that breaks this premise and no other and in which a check of demand 3 fails. Err says why there
+/// is none.
+pub fn search(breach: Breach, most: u64, dice: &mut Dice) -> Result<Found, String> {
+    for runs in 1..=most {
+        if let Some(how) = attempt(breach, dice)? {
+            return Ok(Found { breach, runs, how });
+        }
+    }
+    match breach.worse() {
+        Some(worse) => search(worse, most, dice),
+        None => Err(format!("no check failed in {most} runs")),
+    }
+}
+
+/// One run. Some says how a check failed; Err that one failed although all premises were kept, or that a text could not
+/// be read.
+fn attempt(breach: Breach, dice: &mut Dice) -> Result<Option<String>, String> {
+    let plan = Plan::aimed(breach, dice);
+    let record = world::run(plan, dice).record;
+    let broken: Vec<Premise> = premises::broken(&record).into_keys().collect();
+    let failed = match checks::failures(&record).into_iter().next() {
+        Some(failed) => failed,
+        None => return Ok(None),
+    };
+    let how = format!("{:?}: {}", failed.check, failed.what);
+    let innocent = broken.is_empty() && !breach.is_lie();
+    if innocent || failed.check == Check::Text {
+        return Err(format!("a check fails for another reason, {how}"));
+    }
+    let as_meant = broken == breach.premise().into_iter().collect::<Vec<_>>();
+    Ok(Some(how).filter(|_| as_meant))
+}

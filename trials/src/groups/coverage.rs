@@ -1,0 +1,157 @@
+//! What the runs met, counted: a row that stays 0 shows that the runs prove too little.
+
+use super::checks::currents_of;
+use super::printed::Reply;
+use super::record::{Call, Event};
+use super::world::World;
+use reference::book::Message;
+use std::collections::HashMap;
+
+/// The first rows; behind them stand those of each code, n and f.
+const FIRST_ROWS: [&str; 20] = [
+    "calls",
+    "places looked at",
+    "runs looked at after each call",
+    "runs with bad seats",
+    "conflicts made",
+    "P printed",
+    "rulings for the only slip put forward",
+    "rulings for one of several put forward",
+    "rulings for one that nobody put forward",
+    "slips accepted by acks",
+    "slips accepted by a ruling",
+    "K 0",
+    "K 1",
+    "K 2",
+    "K 3 or more",
+    "messages lost",
+    "messages repeated",
+    "messages reordered",
+    "runs that end with different counts at two honest seats",
+    "runs that end with equal counts, not all 0, at two honest seats",
+];
+const MEETINGS: &str = "places with counts, not all 0, that another seat had before";
+const MOST_BOOKED: &str = "most numbers booked at one account";
+
+pub struct Coverage {
+    rows: Vec<(String, u64)>,
+}
+
+impl Coverage {
+    /// All rows, at 0.
+    pub fn new() -> Coverage {
+        let mut names: Vec<String> = FIRST_ROWS.iter().map(|name| name.to_string()).collect();
+        names.extend([MEETINGS, MOST_BOOKED].map(str::to_string));
+        names.extend((4..=12).map(|code| format!("R {code}")));
+        names.extend((1..=16).map(|n| format!("runs with n {n}")));
+        names.extend((0..=3).map(|f| format!("runs with f {f}")));
+        Coverage {
+            rows: names.into_iter().map(|name| (name, 0)).collect(),
+        }
+    }
+
+    pub fn rows(&self) -> &[(String, u64)] {
+        &self.rows
+    }
+
+    fn row(&mut self, name: &str) -> &mut u64 {
+        let place = self
+            .rows
+            .iter()
+            .position(|row| row.0 == name)
+            .unwrap_or(self.rows.len());
+        if place == self.rows.len() {
+            self.rows.push((name.to_string(), 0));
+        }
+        &mut self.rows[place].1
+    }
+
+    fn add(&mut self, name: &str, amount: u64) {
+        *self.row(name) += amount;
+    }
+
+    /// Counts what happened in a run.
+    pub fn count(&mut self, world: &World) {
+        let page = &world.plan.pages[0];
+        self.add(&format!("runs with n {}", page.n), 1);
+        self.add(&format!("runs with f {}", page.f), 1);
+        self.add("runs with bad seats", world.plan.bad.contains(&true) as u64);
+        self.add("runs looked at after each call", world.plan.every_call as u64);
+        self.add("conflicts made", world.conflicts);
+        self.add("rulings for the only slip put forward", world.council.only);
+        self.add("rulings for one of several put forward", world.council.several);
+        self.add("rulings for one that nobody put forward", world.council.nobody);
+        self.add("messages lost", world.network.lost);
+        self.add("messages repeated", world.network.repeated);
+        self.add("messages reordered", world.network.reordered);
+        for event in &world.record.events {
+            match event {
+                Event::Call(call) => self.count_call(call),
+                Event::Look { .. } => self.add("places looked at", 1),
+            }
+        }
+        self.count_meetings(world);
+        self.count_ends(world);
+    }
+
+    fn count_call(&mut self, call: &Call) {
+        self.add("calls", 1);
+        match call.reply {
+            Reply::PutForward(_) => self.add("P printed", 1),
+            Reply::Refused { code } => self.add(&format!("R {code}"), 1),
+            Reply::Accepted { booked } if booked < 3 => self.add(&format!("K {booked}"), 1),
+            Reply::Accepted { .. } => self.add("K 3 or more", 1),
+            _ => {}
+        }
+        if call.accepted().is_some() {
+            let by_ruling = matches!(call.message, Message::Ruling(_));
+            self.add(
+                if by_ruling {
+                    "slips accepted by a ruling"
+                } else {
+                    "slips accepted by acks"
+                },
+                1,
+            );
+        }
+    }
+
+    /// Counts the places at which a seat has booked just what another seat had booked at an earlier place.
+    fn count_meetings(&mut self, world: &World) {
+        let mut first: HashMap<Vec<u32>, usize> = HashMap::new();
+        for event in &world.record.events {
+            if let Event::Look { seat, closings } = event {
+                let counts = currents_of(closings);
+                let booked = counts.iter().any(|count| *count > 0);
+                let met = *first.entry(counts).or_insert(*seat) != *seat;
+                self.add(MEETINGS, (booked && met) as u64);
+            }
+        }
+    }
+
+    /// Compares the counts at the honest seats when the run ends.
+    fn count_ends(&mut self, world: &World) {
+        let ends: Vec<Vec<u32>> = world.seats.values().map(|seat| currents_of(seat.closings())).collect();
+        let most = ends.iter().flatten().max().copied().unwrap_or(0) as u64;
+        let before = *self.row(MOST_BOOKED);
+        *self.row(MOST_BOOKED) = before.max(most);
+        let different = ends.iter().any(|end| *end != ends[0]);
+        self.add(
+            "runs that end with different counts at two honest seats",
+            different as u64,
+        );
+        let booked = |end: &Vec<u32>| end.iter().any(|count| *count > 0);
+        let twice = |end: &Vec<u32>| ends.iter().filter(|other| *other == end).count() > 1;
+        let equal = ends.iter().any(|end| booked(end) && twice(end));
+        self.add(
+            "runs that end with equal counts, not all 0, at two honest seats",
+            equal as u64,
+        );
+    }
+}
+
+impl Default for Coverage {
+    fn default() -> Coverage {
+        Coverage::new()
+    }
+}

@@ -1,0 +1,17 @@
+//! Whole groups of seats, some of them bad: each honest seat is the real `daybook`, and demand 3 is checked on what it
+//! prints.
+
+pub mod breach;
+pub mod checks;
+pub mod council;
+pub mod coverage;
+pub mod lies;
+pub mod network;
+pub mod plan;
+pub mod premises;
+pub mod printed;
+pub mod record;
+pub mod seat;
+pub mod slate;
+pub mod slips;
+pub mod world;

@@ -1,0 +1,127 @@
+//! What a run is made of: the group, its opening page, its bad seats, and how much happens.
+
+use super::breach::Breach;
+use crate::dice::Dice;
+use reference::book::OpeningPage;
+
+/// About so many messages at most are replayed in a run, over all seats and rounds: this sets how long it takes.
+const REPLAYED: u64 = 400_000;
+
+/// At most so many messages are brought to a seat in a run.
+const MOST_BROUGHT: u64 = 900;
+
+pub struct Plan {
+    /// The page that each seat opens from.
+    pub pages: Vec<OpeningPage>,
+    pub bad: Vec<bool>,
+    pub rounds: u64,
+    /// So many of the rounds, the last ones, bring no new slips, and nothing is lost in them.
+    pub calm: u64,
+    /// At most so many messages to a seat in a round, or twice as many in a calm one.
+    pub batch: u64,
+    /// The closing lines are looked at after each single call, not only after each round.
+    pub every_call: bool,
+    /// A home makes conflicting slips once in so many times; 0 is never.
+    pub contest: u64,
+    pub breach: Option<Breach>,
+}
+
+impl Plan {
+    /// A run that keeps the premises. Every n comes up in turn; f is often the largest.
+    pub fn of_run(index: u64, dice: &mut Dice) -> Plan {
+        let n = 1 + (index % 16) as usize;
+        let largest = (n as u64 - 1) / 5;
+        let f = if dice.once_in(4) {
+            dice.below(largest + 1)
+        } else {
+            largest
+        };
+        let bad = if dice.once_in(4) { dice.below(f + 1) } else { f };
+        let k = if dice.once_in(12) { 32 } else { dice.within(1, 8) };
+        let page = page(n, f as usize, k, dice);
+        let page = if dice.once_in(8) { scaled_up(page) } else { page };
+        let every_call = dice.once_in(6);
+        let (rounds, batch) = size(n as u64, every_call, dice);
+        Plan {
+            pages: vec![page; n],
+            bad: chosen(n, bad as usize, dice),
+            rounds,
+            calm: dice.below(2) * (rounds / 3),
+            batch,
+            every_call,
+            contest: *dice.pick(&[0, 2, 3, 8]),
+            breach: None,
+        }
+    }
+
+    /// A run that aims at a failed check: conflicts at every number, so that the bad seats, the council or the liar
+    /// can make something of them.
+    pub fn aimed(breach: Breach, dice: &mut Dice) -> Plan {
+        let (n, f, bad) = match breach {
+            Breach::BadSeats { n, f, bad } => (n, f, bad),
+            // Without conflicting acks nothing is put forward, which keeps an early ruling early.
+            Breach::EarlyRuling => (6, 1, 0),
+            _ => *dice.pick(&[(6, 1, 1), (8, 1, 1), (11, 2, 2)]),
+        };
+        let mut pages = vec![page(n, f, dice.within(1, 3), dice); n];
+        if breach == Breach::TwoPages {
+            let seat = dice.below(n as u64) as usize;
+            pages[seat].balances[0] ^= 1;
+        }
+        Plan {
+            pages,
+            bad: chosen(n, bad, dice),
+            rounds: 10,
+            calm: 0,
+            batch: 4 * n as u64,
+            every_call: false,
+            contest: (breach != Breach::EarlyRuling) as u64,
+            breach: Some(breach),
+        }
+    }
+}
+
+/// An opening page with small balances, so that funds run out and slips wait.
+fn page(n: usize, f: usize, k: u64, dice: &mut Dice) -> OpeningPage {
+    let mut balances = [0; 32];
+    let one_has_all = dice.once_in(2);
+    for balance in &mut balances[..k as usize] {
+        *balance = if one_has_all { 0 } else { dice.below(12) as u32 };
+    }
+    balances[dice.below(k) as usize] += dice.below(20) as u32;
+    OpeningPage {
+        n: n as u8,
+        f: f as u8,
+        k: k as u8,
+        balances,
+    }
+}
+
+/// The same page with balances as large as the opening sum lets them be.
+fn scaled_up(mut page: OpeningPage) -> OpeningPage {
+    let scale = u32::MAX / page.balances.iter().sum::<u32>().max(1);
+    page.balances.iter_mut().for_each(|balance| *balance *= scale);
+    page
+}
+
+/// So many of n seats, any of them.
+pub fn chosen(n: usize, count: usize, dice: &mut Dice) -> Vec<bool> {
+    let mut chosen = vec![false; n];
+    while chosen.iter().filter(|seat| **seat).count() < count {
+        chosen[dice.below(n as u64) as usize] = true;
+    }
+    chosen
+}
+
+/// The rounds, and the messages to a seat in each, that replay up to `REPLAYED` messages: a seat's r-th replay has r
+/// batches, or each of its messages has a replay of its own.
+fn size(n: u64, every_call: bool, dice: &mut Dice) -> (u64, u64) {
+    let rounds = dice.within(10, 70 + 60 / n);
+    let batch = if every_call {
+        let messages = (2.0 * REPLAYED as f64 / n as f64).sqrt() as u64;
+        messages / rounds
+    } else {
+        2 * REPLAYED / (n * rounds * (rounds + 1))
+    };
+    (rounds, batch.min(MOST_BROUGHT / rounds).max(3))
+}

@@ -1,0 +1,374 @@
+//! Ledgers that live: messages made beside a book of the second program, so that most are not refused, and so that
+//! quorums, conflicts, put-forwards, waits and chains are frequent.
+
+use crate::dice::Dice;
+use crate::openings;
+use reference::book::{Book, Message, OpeningPage, Reply, Slip};
+use reference::bundle;
+
+/// From so many messages on a bundle is long.
+const LONG: usize = 200;
+
+/// The bytes of a bundle with `most` messages (a few more where it begins with a chain over all accounts).
+pub fn living(dice: &mut Dice, most: usize) -> Vec<u8> {
+    let mut page = openings::sound(dice);
+    if most >= LONG && dice.once_in(2) {
+        // one seat accepts at once, so that numbers of three digits are booked
+        (page.n, page.f) = (1, 0);
+    }
+    let mut life = Life::open(dice, page, most);
+    if life.dice.once_in(8) {
+        life.most = most.max(usize::from(life.page.k) + 1);
+        life.chain(true);
+    }
+    while life.messages.len() < life.most {
+        life.scene();
+    }
+    bundle::write(&life.page, &life.messages)
+}
+
+/// A book and the messages that it has got.
+struct Life<'a> {
+    dice: &'a mut Dice,
+    page: OpeningPage,
+    book: Book,
+    /// the opening sum
+    sum: u32,
+    /// many scenes play at this account, so that it comes to high numbers
+    favourite: u8,
+    messages: Vec<Message>,
+    most: usize,
+}
+
+impl<'a> Life<'a> {
+    fn open(dice: &'a mut Dice, page: OpeningPage, most: usize) -> Life<'a> {
+        let book = Book::open(&page).expect("a page that opens");
+        let sum = page.balances.iter().sum();
+        let favourite = dice.below(u64::from(page.k)) as u8;
+        Life {
+            dice,
+            page,
+            book,
+            sum,
+            favourite,
+            messages: Vec::new(),
+            most,
+        }
+    }
+
+    /// A message comes. Once the bundle is full it is left out, and so is all that follows.
+    fn say(&mut self, message: Message) -> Reply {
+        if self.messages.len() < self.most {
+            self.messages.push(message);
+        }
+        self.book.call(&message)
+    }
+
+    /// A few messages that belong together, at least one.
+    fn scene(&mut self) {
+        match self.dice.below(16) {
+            0..=5 => self.vote(),
+            6 | 7 => self.pay(),
+            8 => self.rule(),
+            9 | 10 => self.wait(),
+            11 => self.chain(false),
+            12..=14 => self.odd(),
+            _ => self.question(),
+        }
+    }
+
+    // What the scenes are made of.
+
+    /// Mostly an account that does not wait, and often the favourite.
+    fn account(&mut self) -> u8 {
+        let free = self.accounts_that_do_not_wait();
+        if free.is_empty() || self.dice.once_in(10) {
+            self.any_account()
+        } else if free.contains(&self.favourite) && self.dice.once_in(2) {
+            self.favourite
+        } else {
+            *self.dice.pick(&free)
+        }
+    }
+
+    fn any_account(&mut self) -> u8 {
+        self.dice.below(u64::from(self.page.k)) as u8
+    }
+
+    fn balance(&self, account: u8) -> u32 {
+        self.book.balance(usize::from(account))
+    }
+
+    fn current(&self, account: u8) -> u32 {
+        self.book.current(usize::from(account))
+    }
+
+    /// A value that the account mostly can pay.
+    fn value(&mut self, account: u8) -> u32 {
+        let balance = self.balance(account);
+        match self.dice.below(8) {
+            0 => balance.max(1),
+            1 => 1,
+            2 if balance < self.sum => self.dice.portions(balance + 1, self.sum),
+            _ => self.dice.portions(1, balance.max(1)),
+        }
+    }
+
+    /// A slip with the account's next number.
+    fn slip(&mut self, account: u8) -> Slip {
+        let value = self.value(account);
+        let recipient = if self.dice.once_in(5) {
+            account
+        } else {
+            self.any_account()
+        };
+        Slip {
+            account,
+            number: self.current(account) + 1,
+            value,
+            recipient,
+        }
+    }
+
+    /// A slip with the same account and number, and mostly with another value or recipient.
+    fn rival(&mut self, slip: Slip) -> Slip {
+        if self.dice.once_in(2) {
+            Slip {
+                recipient: (slip.recipient + 1) % self.page.k,
+                ..slip
+            }
+        } else {
+            Slip {
+                value: self.value(slip.account),
+                ..slip
+            }
+        }
+    }
+
+    /// All seats in any order, or some of them.
+    fn seats(&mut self) -> Vec<u8> {
+        let mut seats: Vec<u8> = (0..self.page.n).collect();
+        self.dice.shuffle(&mut seats);
+        if self.dice.once_in(3) {
+            let some = 1 + self.dice.place(seats.len());
+            seats.truncate(some);
+        }
+        seats
+    }
+
+    /// The slip is accepted: by a ruling, or in a small group perhaps by acks.
+    fn accept(&mut self, slip: Slip) {
+        if self.page.n > 3 || self.dice.once_in(2) {
+            self.say(Message::Ruling(slip));
+            return;
+        }
+        for seat in 0..self.page.n {
+            self.say(Message::Ack { seat, slip });
+        }
+    }
+
+    // The scenes.
+
+    /// Seats ack one, two or three slips with one number, some of them twice; then perhaps the council rules.
+    fn vote(&mut self) {
+        let account = self.account();
+        let first = self.slip(account);
+        let slips = [first, self.rival(first), self.rival(first)];
+        let slips = &slips[..1 + self.dice.place(3)];
+        if self.dice.once_in(2) {
+            // this seat itself acks the slip that perhaps has the fewest acks
+            self.say(Message::Slip(slips[slips.len() - 1]));
+        }
+        // how often a seat may ack another slip than the first
+        let strife = *self.dice.pick(&[1, 2, 4]);
+        for seat in self.seats() {
+            let slip = if self.dice.once_in(strife) {
+                *self.dice.pick(slips)
+            } else {
+                first
+            };
+            self.say(Message::Ack { seat, slip });
+            if self.dice.once_in(10) {
+                let slip = *self.dice.pick(slips);
+                self.say(Message::Ack { seat, slip });
+            }
+        }
+        if self.dice.once_in(3) {
+            let slip = *self.dice.pick(slips);
+            self.say(Message::Ruling(slip));
+        }
+    }
+
+    /// A home asks, the slip is circulated and perhaps a rival too, and perhaps it is accepted.
+    fn pay(&mut self) {
+        let account = self.account();
+        let slip = self.slip(account);
+        if self.dice.once_in(2) {
+            self.say(Message::Request(slip));
+        }
+        self.say(Message::Slip(slip));
+        if self.dice.once_in(3) {
+            let rival = self.rival(slip);
+            self.say(Message::Slip(rival));
+        }
+        if self.dice.once_in(3) {
+            self.accept(slip);
+        }
+    }
+
+    fn rule(&mut self) {
+        let account = self.account();
+        let slip = self.slip(account);
+        self.say(Message::Ruling(slip));
+    }
+
+    fn question(&mut self) {
+        let account = self.account();
+        self.say(Message::Question { account });
+    }
+
+    /// A ruling waits because its payer lacks the funds, messages come too late for it, and mostly another account
+    /// then pays what is missing.
+    fn wait(&mut self) {
+        let poor = self.account();
+        let others = (0..self.page.k).filter(|account| *account != poor);
+        let rich = others.max_by_key(|account| self.balance(*account)).unwrap_or(poor);
+        let (has, gift) = (self.balance(poor), self.balance(rich));
+        if rich == poor || gift == 0 {
+            return self.rule();
+        }
+        let missing = self.dice.portions(1, gift);
+        let slip = Slip {
+            value: has + missing,
+            ..self.slip(poor)
+        };
+        self.say(Message::Ruling(slip));
+        for _ in 0..self.dice.below(4) {
+            self.late(slip);
+        }
+        if !self.dice.once_in(4) {
+            let value = self.dice.portions(missing, gift);
+            self.accept(Slip {
+                account: rich,
+                number: self.current(rich) + 1,
+                value,
+                recipient: poor,
+            });
+        }
+    }
+
+    /// A message of any kind for this slip, or for one that conflicts with it.
+    fn late(&mut self, slip: Slip) {
+        let slip = if self.dice.once_in(2) { slip } else { self.rival(slip) };
+        let seat = self.dice.below(u64::from(self.page.n)) as u8;
+        let message = with_slip(self.dice, seat, slip);
+        self.say(message);
+    }
+
+    /// Rulings that wait for each other's funds, in any order, and last the one that lets all of them be booked.
+    fn chain(&mut self, over_all: bool) {
+        let mut accounts = self.accounts_that_do_not_wait();
+        self.dice.shuffle(&mut accounts);
+        let payer = match accounts.iter().position(|account| self.balance(*account) > 0) {
+            Some(place) if accounts.len() > 1 => place,
+            _ => return self.question(),
+        };
+        accounts.swap(0, payer);
+        if !over_all {
+            let some = 2 + self.dice.place(accounts.len() - 1);
+            accounts.truncate(some);
+        }
+        let mut slips = self.links(&accounts);
+        let first = slips.remove(0);
+        self.dice.shuffle(&mut slips);
+        for slip in slips {
+            self.say(Message::Ruling(slip));
+        }
+        self.accept(first);
+    }
+
+    fn accounts_that_do_not_wait(&self) -> Vec<u8> {
+        let mut list = [0; 32];
+        let count = self.book.waiting_list(&mut list).expect("a list of 32 bytes");
+        (0..self.page.k)
+            .filter(|account| !list[..count].contains(account))
+            .collect()
+    }
+
+    /// Each account pays the next one; all but the first can pay only once the one before them has paid.
+    fn links(&mut self, accounts: &[u8]) -> Vec<Slip> {
+        let mut slips = Vec::new();
+        let mut gift = 0;
+        for (place, account) in accounts.iter().enumerate() {
+            let balance = self.balance(*account);
+            let value = if place == 0 {
+                self.dice.portions(1, balance)
+            } else {
+                balance + self.dice.portions(1, gift)
+            };
+            let recipient = accounts[(place + 1) % accounts.len()];
+            slips.push(Slip {
+                account: *account,
+                number: self.current(*account) + 1,
+                value,
+                recipient,
+            });
+            gift = value;
+        }
+        slips
+    }
+
+    /// A message with one or two fields at a limit or just beyond it.
+    fn odd(&mut self) {
+        let account = self.account();
+        let mut slip = self.slip(account);
+        for _ in 0..self.dice.within(1, 2) {
+            self.make_odd(&mut slip);
+        }
+        let last = self.page.n - 1;
+        let seat = *self.dice.pick(&[0, last, last, last, last + 1, 16, 255]);
+        let message = if self.dice.once_in(6) {
+            Message::Question {
+                account: self.odd_account(),
+            }
+        } else {
+            with_slip(self.dice, seat, slip)
+        };
+        self.say(message);
+    }
+
+    fn make_odd(&mut self, slip: &mut Slip) {
+        let (balance, current) = (
+            self.balance(slip.account % self.page.k),
+            self.current(slip.account % self.page.k),
+        );
+        match self.dice.below(6) {
+            0 => slip.account = self.odd_account(),
+            1 => slip.recipient = self.odd_account(),
+            2 | 3 => {
+                slip.number = *self
+                    .dice
+                    .pick(&[0, current, current, current + 1, current + 2, u32::MAX])
+            }
+            _ => {
+                let (more, above) = (balance.saturating_add(1), self.sum.saturating_add(1));
+                slip.value = *self.dice.pick(&[0, 1, balance, more, more, self.sum, above, u32::MAX]);
+            }
+        }
+    }
+
+    fn odd_account(&mut self) -> u8 {
+        let k = self.page.k;
+        *self.dice.pick(&[0, k - 1, k - 1, k, 31, 32, 255])
+    }
+}
+
+/// A message of any kind that has a slip.
+pub fn with_slip(dice: &mut Dice, seat: u8, slip: Slip) -> Message {
+    match dice.below(4) {
+        0 => Message::Request(slip),
+        1 => Message::Slip(slip),
+        2 => Message::Ack { seat, slip },
+        _ => Message::Ruling(slip),
+    }
+}

@@ -1,0 +1,15 @@
+//! What the trials share: the compiled `daybook`, dice, the counting of checks, and the bundles that are tried.
+
+pub mod checks;
+pub mod damage;
+pub mod daybook;
+pub mod dice;
+pub mod edges;
+pub mod groups;
+pub mod known;
+pub mod ledgers;
+pub mod openings;
+pub mod tallies;
+pub mod trial;
+pub mod waiting;
+pub mod wild;

@@ -1,0 +1,160 @@
+//! How often each reply and each refusal occurred, counted from what `daybook` printed.
+
+use crate::checks::Checks;
+use crate::waiting::Answer;
+use reference::daybook::printed;
+use std::collections::BTreeMap;
+
+/// The classes of random bundles, each a column of the table.
+pub const CLASSES: [&str; 4] = ["living", "wild", "damaged", "bytes"];
+
+/// The words for kinds 1 to 5, and the replies that document 01 allows to each.
+const KINDS: [(&str, &[&str]); 5] = [
+    ("request", &["C", "R 5", "R 6", "R 7", "R 8", "R 11"]),
+    ("slip", &["A", "R 5", "R 6", "R 7", "R 8", "R 11", "R 12"]),
+    (
+        "ack",
+        &["K", "P", "N", "R 4", "R 5", "R 6", "R 7", "R 8", "R 9", "R 10"],
+    ),
+    ("ruling", &["K", "R 5", "R 6", "R 7", "R 8"]),
+    ("question", &["B", "R 5"]),
+];
+
+/// The other rows of the table.
+const ROWS: [&[&str]; 7] = [
+    &["A", "C", "K", "P", "N", "B", "R"],
+    &["K 0", "K 1", "K 2", "K 3 to 31", "K 32"],
+    &["P free on a tie", "P not free"],
+    &["R 4", "R 5", "R 6", "R 7", "R 8", "R 9", "R 10", "R 11", "R 12"],
+    &["F 1", "F 2", "F 3", "F 13", "F 14", "F 15", "F 16"],
+    &[
+        "F 14 at entry 0",
+        "F 14 at a later one",
+        "F 16 at entry 0",
+        "F 16 at a later one",
+    ],
+    &[
+        "none waits",
+        "one waits",
+        "more wait",
+        "waiting list 17",
+        "waiting list F",
+    ],
+];
+
+#[derive(Default)]
+pub struct Tallies {
+    counts: BTreeMap<String, [u64; CLASSES.len()]>,
+}
+
+impl Tallies {
+    fn add(&mut self, class: usize, row: &str) {
+        match self.counts.get_mut(row) {
+            Some(counts) => counts[class] += 1,
+            None => {
+                self.counts.insert(row.to_string(), [0; CLASSES.len()]);
+                self.add(class, row);
+            }
+        }
+    }
+
+    /// Counts the lines of the text that `daybook` printed for these bytes.
+    pub fn text(&mut self, class: usize, bytes: &[u8], text: &[u8]) {
+        let text = String::from_utf8_lossy(text);
+        // The text does not say whether a P was free: that is asked of the second program.
+        let free = if text.contains(" P ") {
+            printed(bytes).free
+        } else {
+            Vec::new()
+        };
+        for line in text.lines() {
+            let words: Vec<&str> = line.split(' ').collect();
+            match words[..] {
+                ["F", code, entry] => self.refusal(class, code, entry),
+                ["=", ..] => {}
+                [entry, ref reply @ ..] => {
+                    let entry = entry.parse().unwrap_or(0);
+                    self.reply(class, reply, free.iter().any(|line| line.entry == entry));
+                    self.reply_to_kind(class, bytes.get(2 + 8 * entry), reply);
+                }
+                [] => {}
+            }
+        }
+    }
+
+    /// The line `F code entry`.
+    fn refusal(&mut self, class: usize, code: &str, entry: &str) {
+        self.add(class, &format!("F {code}"));
+        if code == "14" || code == "16" {
+            let place = if entry == "0" { "entry 0" } else { "a later one" };
+            self.add(class, &format!("F {code} at {place}"));
+        }
+    }
+
+    /// The line of an entry, without the entry.
+    fn reply(&mut self, class: usize, reply: &[&str], free: bool) {
+        self.add(class, reply.first().unwrap_or(&"no letter"));
+        match reply {
+            ["K", count @ ("0" | "1" | "2" | "32")] => self.add(class, &format!("K {count}")),
+            ["K", ..] => self.add(class, "K 3 to 31"),
+            ["P", ..] => self.add(class, if free { "P free on a tie" } else { "P not free" }),
+            ["R", code] => self.add(class, &format!("R {code}")),
+            _ => {}
+        }
+    }
+
+    /// The same line, by the kind of the message, which its entry in the contents has.
+    fn reply_to_kind(&mut self, class: usize, kind: Option<&u8>, reply: &[&str]) {
+        let place = kind.map_or(0, |kind| usize::from(*kind)).wrapping_sub(1);
+        let word = KINDS.get(place).map_or("no kind", |(word, _)| word);
+        match reply {
+            ["R", code] => self.add(class, &format!("{word}: R {code}")),
+            [letter, ..] => self.add(class, &format!("{word}: {letter}")),
+            [] => {}
+        }
+    }
+
+    /// Counts an answer to the question for the waiting list.
+    pub fn waiting(&mut self, class: usize, answer: Answer) {
+        let row = match answer {
+            Ok(0) => "none waits",
+            Ok(1) => "one waits",
+            Ok(_) => "more wait",
+            Err(17) => "waiting list 17",
+            Err(_) => "waiting list F",
+        };
+        self.add(class, row);
+    }
+
+    /// Prints the table. Each row is a check, and so is each reply that has no row: no message may get it.
+    pub fn table(&self, checks: &mut Checks) {
+        println!(
+            "{:20} {:>9} {}",
+            "",
+            "all",
+            CLASSES.map(|class| format!("{class:>9}")).join(" ")
+        );
+        let rows = rows();
+        for row in &rows {
+            let counts = self.counts.get(row).copied().unwrap_or_default();
+            let all: u64 = counts.iter().sum();
+            println!(
+                "{row:20} {all:>9} {}",
+                counts.map(|count| format!("{count:>9}")).join(" ")
+            );
+            checks.that(&format!("never seen: {row}"), all > 0);
+        }
+        for row in self.counts.keys().filter(|row| !rows.contains(row)) {
+            checks.fail(&format!("not a reply of document 01: {row}"));
+        }
+    }
+}
+
+/// Every row of the table, in its order.
+fn rows() -> Vec<String> {
+    let mut rows: Vec<String> = ROWS.concat().iter().map(|row| row.to_string()).collect();
+    for (word, replies) in KINDS {
+        rows.extend(replies.iter().map(|reply| format!("{word}: {reply}")));
+    }
+    rows
+}

@@ -1,5 +1,15 @@
 //! Pseudo-random numbers that a seed gives again: the generator SplitMix64.
 
+use std::time::{SystemTime, UNIX_EPOCH};
+
+/// A seed from the clock and the process's number, short enough to be typed again.
+pub fn own_seed() -> u64 {
+    let clock = SystemTime::now()
+        .duration_since(UNIX_EPOCH)
+        .map_or(0, |time| time.as_nanos() as u64);
+    Dice::new(clock ^ u64::from(std::process::id()).rotate_left(40)).below(1_000_000_000)
+}
+
 pub struct Dice {
     state: u64,
 }
@@ -9,8 +19,8 @@ impl Dice {
         Dice { state: seed }
     }
 
-    /// The dice of one bundle: they depend on the seed and the bundle's number alone.
-    pub fn of_bundle(seed: u64, index: u64) -> Dice {
+    /// The dice of one bundle or run: they depend on the seed and its number alone.
+    pub fn of(seed: u64, index: u64) -> Dice {
         let start = Dice::new(seed).any();
         Dice::new(Dice::new(start ^ index).any())
     }

@@ -4,12 +4,13 @@
 //!
 //! `--program` gives some final bundles to the program `daybook` too; `--only` makes one run of the seed and prints it.
 
-use reference::book::Message;
+use std::process::ExitCode;
+use trials::checks::Checks;
 use trials::daybook;
-use trials::dice::Dice;
+use trials::dice::{self, Dice};
 use trials::groups::breach::{self, Breach};
-use trials::groups::checks;
 use trials::groups::coverage::Coverage;
+use trials::groups::demand3;
 use trials::groups::plan::Plan;
 use trials::groups::premises;
 use trials::groups::record::Event;
@@ -29,48 +30,38 @@ struct Options {
     only: Option<u64>,
 }
 
-#[derive(Default)]
-struct Tally {
-    passed: u64,
-    failed: u64,
-}
-
-impl Tally {
-    /// Counts a check; says what is wrong if it failed.
-    fn check(&mut self, name: &str, faults: &[String]) {
-        if faults.is_empty() {
-            self.passed += 1;
-            return;
+/// Counts a check; says what is wrong if it failed.
+fn count(checks: &mut Checks, name: &str, faults: &[String]) {
+    match faults.first() {
+        None => checks.pass(),
+        Some(first) => {
+            checks.fail(&format!("{name}: {} faults, the first: {first}", faults.len()));
         }
-        self.failed += 1;
-        println!("FAILED {name}: {} faults, the first of them", faults.len());
-        faults.iter().take(5).for_each(|fault| println!("    {fault}"));
     }
 }
 
-fn main() {
-    let options = options().unwrap_or_else(|wrong| {
-        eprintln!("groups: {wrong}\ngroups [--program PATH] [--seed N] [--runs N] [--only INDEX]");
-        std::process::exit(2);
-    });
+fn main() -> ExitCode {
+    let options = match options() {
+        Ok(options) => options,
+        Err(wrong) => {
+            eprintln!("groups: {wrong}\ngroups [--program PATH] [--seed N] [--runs N] [--only INDEX]");
+            return ExitCode::from(2);
+        }
+    };
     let (seed, runs) = (options.seed, options.runs);
     println!("groups: seed {seed}, again with --seed {seed} --runs {runs}, one run with --seed {seed} --only INDEX");
-    let mut tally = Tally::default();
+    let mut checks = Checks::default();
     match options.only {
-        Some(index) => {
-            let world = one_run(index, &options, &mut tally);
-            print_run(&world);
-        }
-        None => all_runs(&options, &mut tally),
+        Some(index) => print_run(&one_run(index, &options, &mut checks)),
+        None => all_runs(&options, &mut checks),
     }
-    println!("{} passed, {} failed", tally.passed, tally.failed);
-    std::process::exit((tally.failed > 0) as i32);
+    checks.finish()
 }
 
 fn options() -> Result<Options, String> {
     let mut options = Options {
         program: None,
-        seed: 1,
+        seed: dice::own_seed(),
         runs: 640,
         only: None,
     };
@@ -89,16 +80,11 @@ fn options() -> Result<Options, String> {
     Ok(options)
 }
 
-/// The dice of one run, or of one search, of a seed.
-fn dice_of(seed: u64, index: u64) -> Dice {
-    let mixed = Dice::new(seed).any() ^ Dice::new(!index).any();
-    Dice::new(mixed)
-}
-
-fn all_runs(options: &Options, tally: &mut Tally) {
+fn all_runs(options: &Options, checks: &mut Checks) {
+    checks.part("runs");
     let mut coverage = Coverage::new();
     for index in 0..options.runs {
-        coverage.count(&one_run(index, options, tally));
+        coverage.count(&one_run(index, options, checks));
     }
     if options.program.is_some() {
         println!(
@@ -106,33 +92,35 @@ fn all_runs(options: &Options, tally: &mut Tally) {
             options.runs.min(THROUGH_PROGRAM)
         );
     }
+    checks.part("broken on purpose");
     println!("Broken on purpose, and the first run of the search that shows it:");
     for (index, breach) in (0..).zip(Breach::all()) {
         // Far from the indices of runs.
-        one_search(breach, &mut dice_of(options.seed, u64::MAX - index), tally);
+        one_search(breach, &mut Dice::of(options.seed, u64::MAX - index), checks);
     }
+    checks.part("coverage");
     println!("Coverage:");
-    for (name, count) in coverage.rows() {
-        println!("{count:>10}  {name}");
-        let faults = if *count == 0 {
+    for (name, times) in coverage.rows() {
+        println!("{times:>10}  {name}");
+        let faults = if *times == 0 {
             vec!["never met".to_string()]
         } else {
             Vec::new()
         };
-        tally.check(name, &faults);
+        count(checks, name, &faults);
     }
 }
 
 /// Makes and checks run `index` of the seed.
-fn one_run(index: u64, options: &Options, tally: &mut Tally) -> World {
-    let mut dice = dice_of(options.seed, index);
+fn one_run(index: u64, options: &Options, checks: &mut Checks) -> World {
+    let mut dice = Dice::of(options.seed, index);
     let plan = Plan::of_run(index, &mut dice);
     let world = world::run(plan, &mut dice);
     let mut faults: Vec<String> = Vec::new();
     for (premise, what) in premises::broken(&world.record) {
         faults.push(format!("the run breaks a premise, {premise:?}: {what}"));
     }
-    for failure in checks::failures(&world.record) {
+    for failure in demand3::failures(&world.record) {
         faults.push(format!("{:?}: {}", failure.check, failure.what));
     }
     if let (Some(program), true) = (&options.program, index < THROUGH_PROGRAM) {
@@ -142,11 +130,11 @@ fn one_run(index: u64, options: &Options, tally: &mut Tally) -> World {
             faults.push("the program's text of a final bundle is not the library's".to_string());
         }
     }
-    tally.check(&format!("run {index} of seed {}", options.seed), &faults);
+    count(checks, &format!("run {index} of seed {}", options.seed), &faults);
     world
 }
 
-fn one_search(breach: Breach, dice: &mut Dice, tally: &mut Tally) {
+fn one_search(breach: Breach, dice: &mut Dice, checks: &mut Checks) {
     let faults = match breach::search(breach, SEARCHED, dice) {
         Ok(found) => {
             println!("  {}: run {} fails, {}", found.breach.name(), found.runs, found.how);
@@ -154,7 +142,7 @@ fn one_search(breach: Breach, dice: &mut Dice, tally: &mut Tally) {
         }
         Err(fault) => vec![fault],
     };
-    tally.check(&breach.name(), &faults);
+    count(checks, &breach.name(), &faults);
 }
 
 /// Prints a run, for people.
@@ -167,18 +155,8 @@ fn print_run(world: &World) {
     );
     for event in &world.record.events {
         match event {
-            Event::Call(call) => println!("seat {:2}: {} -> {:?}", call.seat, written(&call.message), call.reply),
+            Event::Call(call) => println!("seat {:2}: {} -> {:?}", call.seat, call.message, call.reply),
             Event::Look { seat, closings } => println!("seat {seat:2}: {closings:?}"),
         }
-    }
-}
-
-fn written(message: &Message) -> String {
-    match message {
-        Message::Request(slip) => format!("request {}", checks::shown(slip)),
-        Message::Slip(slip) => format!("slip {}", checks::shown(slip)),
-        Message::Ack { seat, slip } => format!("ack from {seat} of {}", checks::shown(slip)),
-        Message::Ruling(slip) => format!("ruling {}", checks::shown(slip)),
-        Message::Question { account } => format!("question {account}"),
     }
 }

@@ -8,9 +8,8 @@
 use reference::book::Book;
 use reference::written::shown;
 use std::process::ExitCode;
-use std::time::{SystemTime, UNIX_EPOCH};
 use trials::checks::Checks;
-use trials::dice::Dice;
+use trials::dice::{self, Dice};
 use trials::tallies::{Tallies, CLASSES};
 use trials::{damage, daybook, edges, known, ledgers, openings, trial, waiting, wild};
 
@@ -34,7 +33,7 @@ impl Options {
         let mut options = Options {
             examples: String::new(),
             program: String::new(),
-            seed: own_seed(),
+            seed: dice::own_seed(),
             bundles: 20_000,
             only: None,
         };
@@ -58,18 +57,10 @@ impl Options {
     }
 }
 
-/// A seed from the clock and the process's number, short enough to be typed again.
-fn own_seed() -> u64 {
-    let clock = SystemTime::now()
-        .duration_since(UNIX_EPOCH)
-        .map_or(0, |time| time.as_nanos() as u64);
-    Dice::new(clock ^ u64::from(std::process::id()).rotate_left(40)).below(1_000_000_000)
-}
-
 /// The random bundle of this index: its class, a place in CLASSES, its bytes, and the dice as they are then, which
 /// decide how its waiting list is asked.
 fn random(seed: u64, index: u64) -> (usize, Vec<u8>, Dice) {
-    let mut dice = Dice::of_bundle(seed, index);
+    let mut dice = Dice::of(seed, index);
     let (class, bytes) = match dice.below(20) {
         0..=11 => {
             let messages = messages(&mut dice);

@@ -1,6 +1,6 @@
 //! What is broken on purpose, to show that the checks can fail: one premise, or the text that `daybook` printed.
 
-use super::checks::{self, Check};
+use super::demand3::{self, Check};
 use super::lies::Lie;
 use super::plan::Plan;
 use super::premises::{self, Premise};
@@ -111,7 +111,7 @@ fn attempt(breach: Breach, dice: &mut Dice) -> Result<Option<String>, String> {
     let plan = Plan::aimed(breach, dice);
     let record = world::run(plan, dice).record;
     let broken: Vec<Premise> = premises::broken(&record).into_keys().collect();
-    let failed = match checks::failures(&record).into_iter().next() {
+    let failed = match demand3::failures(&record).into_iter().next() {
         Some(failed) => failed,
         None => return Ok(None),
     };

@@ -1,6 +1,6 @@
 //! What the runs met, counted: a row that stays 0 shows that the runs prove too little.
 
-use super::checks::currents_of;
+use super::demand3::currents_of;
 use super::printed::Reply;
 use super::record::{Call, Event};
 use super::world::World;

@@ -2,9 +2,9 @@
 //! prints.
 
 pub mod breach;
-pub mod checks;
 pub mod council;
 pub mod coverage;
+pub mod demand3;
 pub mod lies;
 pub mod network;
 pub mod plan;

@@ -1,6 +1,5 @@
 //! Whether a recorded run keeps the premises of demand 3, read off the record alone and not off how it was made.
 
-use super::checks::shown;
 use super::record::{key_of, Call, Key, Record};
 use reference::book::{Message, Slip};
 use std::collections::{BTreeMap, HashMap, HashSet};
@@ -65,10 +64,7 @@ impl Walk {
 
     fn ack(&mut self, sender: u8, slip: Slip) {
         if !self.acked.contains(&(sender as usize, slip)) {
-            self.breaks(
-                Premise::OwnAcks,
-                format!("an ack of {} names seat {sender}", shown(&slip)),
-            );
+            self.breaks(Premise::OwnAcks, format!("an ack of {} names seat {sender}", slip));
         }
     }
 
@@ -77,24 +73,14 @@ impl Walk {
         let before = self.put_forward.get(&key).cloned().unwrap_or_default();
         let (first, before) = self.first.entry(key).or_insert((slip, before)).clone();
         if slip != first {
-            self.breaks(
-                Premise::OneRuling,
-                format!("rulings for {} and {}", shown(&first), shown(&slip)),
-            );
+            self.breaks(Premise::OneRuling, format!("rulings for {} and {}", first, slip));
         }
         if before.is_empty() {
-            self.breaks(
-                Premise::PutForwardFirst,
-                format!("a ruling for {} before any P", shown(&slip)),
-            );
+            self.breaks(Premise::PutForwardFirst, format!("a ruling for {} before any P", slip));
         }
         let all_equal = before.windows(2).all(|pair| pair[0] == pair[1]);
         if !before.is_empty() && all_equal && slip != before[0] {
-            let what = format!(
-                "a ruling for {}, only {} was put forward",
-                shown(&slip),
-                shown(&before[0])
-            );
+            let what = format!("a ruling for {}, only {} was put forward", slip, before[0]);
             self.breaks(Premise::OnlyOnePutForward, what);
         }
     }

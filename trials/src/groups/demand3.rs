@@ -43,9 +43,7 @@ fn agreement(record: &Record) -> Vec<String> {
         if first != slip {
             faults.push(format!(
                 "seat {seat} accepted {}, seat {} accepted {}",
-                shown(&first),
-                call.seat,
-                shown(&slip)
+                first, call.seat, slip
             ));
         }
     }
@@ -140,12 +138,4 @@ fn balances_of(closings: &[Closing]) -> Vec<u32> {
 
 pub fn currents_of(closings: &[Closing]) -> Vec<u32> {
     closings.iter().map(|closing| closing.current).collect()
-}
-
-/// A slip as document 01 writes it.
-pub fn shown(slip: &Slip) -> String {
-    format!(
-        "({}, {}, {}, {})",
-        slip.account, slip.number, slip.value, slip.recipient
-    )
 }

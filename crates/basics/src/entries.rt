@@ -1,4 +1,5 @@
-// An account's entry and the ledger's entries: made, read and changed here alone, so that a later field changes this file only.
+// An account's entry and the ledger's entries: made, read and changed here. Only settling makes an entry elsewhere, from its funds: a later field
+// changes these two files.
 use model::Account;
 use model::AckSlot;
 use model::Entry;

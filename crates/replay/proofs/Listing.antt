@@ -70,8 +70,8 @@ module _ (bytes : List ℕ) {before after : List ℕ} {r : ListReply} where
   list-not-opened a q same refused told kept = record { meets = rw (← same, refused) (told, kept) }
 
   -- and so does that of the check
-  pub list-sound : (m : ℕ) → checkBundle bytes ≡ Sound m → m ≡ entryCount bytes → SoundList bytes before r after → ListOf bytes before r after
-  list-sound m sound same h = record { meets = rw (sound, same) (h .meets) }
+  pub list-of-sound : (m : ℕ) → checkBundle bytes ≡ Sound m → m ≡ entryCount bytes → SoundList bytes before r after → ListOf bytes before r after
+  list-of-sound m sound same h = record { meets = rw (sound, same) (h .meets) }
 
-  pub list-refused : (q : Refusal) (i : ℕ) → checkBundle bytes ≡ BundleRefused q i → r ≡ ListRefused q → after ≡ before → ListOf bytes before r after
-  list-refused q i refused told kept = record { meets = rw refused (told, kept) }
+  pub list-of-refused : (q : Refusal) (i : ℕ) → checkBundle bytes ≡ BundleRefused q i → r ≡ ListRefused q → after ≡ before → ListOf bytes before r after
+  list-of-refused q i refused told kept = record { meets = rw refused (told, kept) }

@@ -3,7 +3,7 @@ use mathlib.Core.Path.{_≡_, refl, sym, _∙_}
 use Rattle.model.specs.declared.BundleReply.the-variants.{Sound}
 use Rattle.model.specs.Bundles.{checkBundle}
 use Rattle.replay.proofs.Sound.{sound-count}
-use Rattle.replay.proofs.Listing.{list-sound, list-refused}
+use Rattle.replay.proofs.Listing.{list-of-sound, list-of-refused}
 use borrow.Author.Needs.{needs}
 use Rattle.replay.proofs.list_after.Statement.{statement}
 use Rattle.replay.proofs.list_after.Tie as tie
@@ -30,11 +30,11 @@ same-length c = search needs
 returns : tie.Need-returns
 returns c =
     let told = c .before .before .before .before in
-    list-sound _ _ (sound told) (sound-count _ _ (sound told) .0) (c .before .before .list-sound .ensures)
+    list-of-sound _ _ (sound told) (sound-count _ _ (sound told) .0) (c .before .before .list-sound .ensures)
 
 returns-2 : tie.Need-returns-2
 returns-2 c =
-    list-refused _ _ _ (sym (c .before .before .before .check .ensures .meets) ∙ c .before .r .given .1) refl refl
+    list-of-refused _ _ _ (sym (c .before .before .before .check .ensures .meets) ∙ c .before .r .given .1) refl refl
 
 pub list-after-spec : {M : Type 1} → statement M
 list-after-spec =

@@ -49,6 +49,15 @@ struct Played {
     funds: [Funds; 32],
 }
 
+fn leave(filled: usize, funds: [Funds; 32]) -> Played
+    ensures { λ r. ⌜ r ≡ record { filled = filled; funds = funds } ⌝ }
+{
+    Played {
+        filled: filled,
+        funds: funds,
+    }
+}
+
 // Where the entry of a message's account stands. A message about an account behind the 32nd is refused at any entry, which it leaves as it is.
 fn place_of(m: Message) -> usize
     ensures { λ r. ⌜ (r < 32) × (payerOf m .0 < 32 → r ≡ payerOf m .0) ⌝ }
@@ -71,36 +80,28 @@ fn play(bytes: &[u8], l: Ledger, out: &mut [u8]) -> Played
     loop {
         let i = cursor.next;
         match read_page(bytes, cursor) {
-            Read::NoMore(_) => {
-                return Played {
-                    filled: filled,
-                    funds: funds,
-                };
-            }
+            Read::NoMore(_) => return leave(filled, funds),
             Read::Taken(c, next) => {
                 cursor = next;
-                match message_of(bytes, c) {
-                    Asked::Nothing => {}
-                    Asked::Asks(m) => {
-                        let at = place_of(m);
-                        let kept = entries[at];
-                        let paid = funds[at];
-                        let turn = take_turn(l, with_funds(kept, paid), m);
-                        let entry = turn.entry;
-                        entries[at] = entry;
-                        funds[at] = funds_of(entry);
-                        let verdict = turn.verdict;
-                        let reply = match verdict {
-                            Verdict::Replies(r) => r,
-                            Verdict::Accepts => {
-                                let s = settle_all(funds);
-                                let left = s.funds;
-                                funds = left;
-                                Reply::Accept(s.applied)
-                            }
-                        };
-                        filled = put_reply(out, filled, i as u32, reply);
-                    }
+                if let Asked::Asks(m) = message_of(bytes, c) {
+                    let at = place_of(m);
+                    let kept = entries[at];
+                    let paid = funds[at];
+                    let turn = take_turn(l, with_funds(kept, paid), m);
+                    let entry = turn.entry;
+                    entries[at] = entry;
+                    funds[at] = funds_of(entry);
+                    let verdict = turn.verdict;
+                    let reply = match verdict {
+                        Verdict::Replies(r) => r,
+                        Verdict::Accepts => {
+                            let s = settle_all(funds);
+                            let left = s.funds;
+                            funds = left;
+                            Reply::Accept(s.applied)
+                        }
+                    };
+                    filled = put_reply(out, filled, i as u32, reply);
                 }
             }
         }

@@ -45,37 +45,24 @@ read-page-requires c κs = search needs
 enum-told : tie.Need-enum-told Inv-loop μ-loop
 enum-told c = search needs
 
+leave-requires : tie.Need-leave-requires Inv-loop μ-loop
+leave-requires c κs = search needs
+
 same-length : tie.Need-same-length Inv-loop μ-loop
-same-length c = Text.same-length (c .before .before .before .loop .inv .2 .writes)
+same-length c = Text.same-length (c .before .before .before .before .loop .inv .2 .writes)
 
 returns : tie.Need-returns Inv-loop μ-loop
 returns c =
-    let read = c .before .before in
+    let read = c .before .before .before in
     let at = read .before .loop in
-    played-all _ _ _ (at .entries) _ (at .inv .2) (at .inv .0) (at .inv .1) (ended _ (at .cursor .next) (read .read-page .ensures) (c .enum-told .given .1))
+    rw (c .leave .ensures)
+    (played-all _ _ _ (at .entries) _ (at .inv .2) (at .inv .0) (at .inv .1) (ended _ (at .cursor .next) (read .read-page .ensures) (c .before .enum-told .given .1)))
 
 enum-known-c : tie.Need-enum-known-c Inv-loop μ-loop
 enum-known-c c = search needs
 
 message-of-requires : tie.Need-message-of-requires Inv-loop μ-loop
 message-of-requires c κs = search needs
-
-enum-told-2 : tie.Need-enum-told-2 Inv-loop μ-loop
-enum-told-2 c = search needs
-
-loop-less : tie.Need-loop-less Inv-loop μ-loop
-loop-less c =
-    let page = took _ (c .before .before .before .before .before .before .before .loop .cursor .next) (c .before .before .before .before .before .before .read-page .ensures) (c .before .before .before .before .c .given .1) in
-    omega (arith, page .0, page .2)
-
-loop-again : tie.Need-loop-again Inv-loop μ-loop
-loop-again c =
-    let at = c .before .before .before .before .before .before .before .loop in
-    let page = took _ (c .before .before .before .before .before .before .before .loop .cursor .next) (c .before .before .before .before .before .before .read-page .ensures) (c .before .before .before .before .c .given .1) in (
-      at .inv .0,
-      at .inv .1,
-      played-more _ _ _ (at .inv .2) _ page (c .before .before .before .before .before .before .before .before .before .before .before .before .pre .0) (entry-none (sym (c .before .before .message-of .ensures) ∙ ap asks (c .enum-told2 .given .1))),
-    )
 
 enum-known-m : tie.Need-enum-known-m Inv-loop μ-loop
 enum-known-m c = search needs
@@ -119,8 +106,8 @@ array-set-from-funds c = omega (arith, c .before .before .before .before .before
 enum-known-verdict : tie.Need-enum-known-verdict Inv-loop μ-loop
 enum-known-verdict c = search needs
 
-enum-told-3 : tie.Need-enum-told-3 Inv-loop μ-loop
-enum-told-3 c = search needs
+enum-told-2 : tie.Need-enum-told-2 Inv-loop μ-loop
+enum-told-2 c = search needs
 
 settle-all-requires : tie.Need-settle-all-requires Inv-loop μ-loop
 settle-all-requires c κs = search needs
@@ -131,13 +118,13 @@ cast-put-reply c = omega (arith, c .before .before .before .before .before .befo
 put-reply-requires : tie.Need-put-reply-requires Inv-loop μ-loop
 put-reply-requires c κs = search needs
 
-loop-less-2 : tie.Need-loop-less-2 Inv-loop μ-loop
-loop-less-2 c =
+loop-less : tie.Need-loop-less Inv-loop μ-loop
+loop-less c =
     let page = took _ (c .before .before .before .before .before .before .before .before .before .before .before .before .before .before .before .before .before .before .before .before .loop .cursor .next) (c .before .before .before .before .before .before .before .before .before .before .before .before .before .before .before .before .before .before .before .read-page .ensures) (c .before .before .before .before .before .before .before .before .before .before .before .before .before .before .before .before .before .c .given .1) in
     omega (arith, page .0, page .2)
 
-loop-again-2 : tie.Need-loop-again-2 Inv-loop μ-loop
-loop-again-2 c =
+loop-again : tie.Need-loop-again Inv-loop μ-loop
+loop-again c =
     let at = c .before .before .before .before .before .before .before .before .before .before .before .before .before .before .before .before .before .before .before .before .loop in
     let page = took _ (c .before .before .before .before .before .before .before .before .before .before .before .before .before .before .before .before .before .before .before .before .loop .cursor .next) (c .before .before .before .before .before .before .before .before .before .before .before .before .before .before .before .before .before .before .before .read-page .ensures) (c .before .before .before .before .before .before .before .before .before .before .before .before .before .before .before .before .before .c .given .1) in
     let start = c .before .before .before .before .before .before .before .before .before .before .before .before .before .before .before .before .before .before .before .before .before .before .before .before .before in
@@ -156,6 +143,23 @@ loop-again-2 c =
           (entry-some _ (sym (c .before .before .before .before .before .before .before .before .before .before .before .before .before .before .before .message-of .ensures) ∙ ap asks (c .before .before .before .before .before .before .before .before .before .before .before .before .before .m .given .1)) (done .0) (c .before .before .put-reply .ensures)),
     )
 
+enum-told-3 : tie.Need-enum-told-3 Inv-loop μ-loop
+enum-told-3 c = search needs
+
+loop-less-2 : tie.Need-loop-less-2 Inv-loop μ-loop
+loop-less-2 c =
+    let page = took _ (c .before .before .before .before .before .before .before .loop .cursor .next) (c .before .before .before .before .before .before .read-page .ensures) (c .before .before .before .before .c .given .1) in
+    omega (arith, page .0, page .2)
+
+loop-again-2 : tie.Need-loop-again-2 Inv-loop μ-loop
+loop-again-2 c =
+    let at = c .before .before .before .before .before .before .before .loop in
+    let page = took _ (c .before .before .before .before .before .before .before .loop .cursor .next) (c .before .before .before .before .before .before .read-page .ensures) (c .before .before .before .before .c .given .1) in (
+      at .inv .0,
+      at .inv .1,
+      played-more _ _ _ (at .inv .2) _ page (c .before .before .before .before .before .before .before .before .before .before .before .before .pre .0) (entry-none (sym (c .before .before .message-of .ensures) ∙ ap asks (c .enum-told3 .given .1))),
+    )
+
 pub play-spec : {M : Type 1} → statement M
 play-spec =
     tie.close
@@ -166,13 +170,11 @@ play-spec =
     loop-holds
     read-page-requires
     enum-told
+    leave-requires
     same-length
     returns
     enum-known-c
     message-of-requires
-    enum-told-2
-    loop-less
-    loop-again
     enum-known-m
     place-of-requires
     mul-kept
@@ -187,9 +189,12 @@ play-spec =
     mul-funds
     array-set-from-funds
     enum-known-verdict
-    enum-told-3
+    enum-told-2
     settle-all-requires
     cast-put-reply
     put-reply-requires
+    loop-less
+    loop-again
+    enum-told-3
     loop-less-2
     loop-again-2)

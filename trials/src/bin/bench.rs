@@ -8,7 +8,6 @@
 
 use reference::book::{Message, OpeningPage, Slip};
 use reference::bundle::write;
-use std::hint::black_box;
 use std::process::{Command, ExitCode};
 use std::time::{Duration, Instant};
 use trials::daybook::Replay;
@@ -121,14 +120,15 @@ fn instructions(program: &str, bundle: &[u8]) -> Result<u64, String> {
         .ok_or(format!("valgrind did not count {program}: {said}"))
 }
 
-/// The best of many rounds.
-fn best(run: &mut dyn FnMut()) -> Duration {
+/// The best time of many rounds, and how many bytes of text they made.
+fn best(round: &mut dyn FnMut() -> usize) -> (Duration, usize) {
+    let mut bytes = 0;
     let times = (0..ROUNDS).map(|_| {
         let start = Instant::now();
-        run();
+        bytes += round();
         start.elapsed()
     });
-    times.min().unwrap_or_default()
+    (times.min().unwrap_or_default(), bytes)
 }
 
 /// One row: how much of each a message takes, and how many times as much the first takes.
@@ -155,12 +155,11 @@ fn measure(load: &Load, programs: &[String; 2], replay: &mut Replay) -> Result<(
             (counts[0] - start[0]) as f64,
             (counts[1] - start[1]) as f64,
         );
-        let ours = best(&mut || {
-            black_box(replay.text(black_box(&bundle)).len());
-        });
-        let theirs = best(&mut || {
-            black_box(reference::daybook::printed(black_box(&bundle)).text.len());
-        });
+        let (ours, our_bytes) = best(&mut || replay.text(&bundle).len());
+        let (theirs, their_bytes) = best(&mut || reference::daybook::printed(&bundle).text.len());
+        if our_bytes != their_bytes {
+            return Err(format!("{}: the two texts differ in length", load.name));
+        }
         row(
             messages,
             "nanoseconds",

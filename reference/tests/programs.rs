@@ -1,20 +1,25 @@
 //! The two programs, run as a person runs them.
 
 use std::io::Write;
-use std::process::{Command, Output, Stdio};
+use std::process::{Child, Command, Output, Stdio};
 
 const BUNDLE: &str = env!("CARGO_BIN_EXE_bundle");
 const REFERENCE: &str = env!("CARGO_BIN_EXE_reference");
 
-/// Runs a program with these bytes on standard input.
-fn run(program: &str, arguments: &[&str], input: &[u8]) -> Output {
+/// Starts a program with pipes to and from it.
+fn started(program: &str, arguments: &[&str]) -> Child {
     let mut command = Command::new(program);
     command
         .args(arguments)
         .stdin(Stdio::piped())
         .stdout(Stdio::piped())
         .stderr(Stdio::piped());
-    let mut child = command.spawn().expect("the program starts");
+    command.spawn().expect("the program starts")
+}
+
+/// Runs a program with these bytes on standard input.
+fn run(program: &str, arguments: &[&str], input: &[u8]) -> Output {
+    let mut child = started(program, arguments);
     // a program that looks only at its arguments does not read
     let _ = child.stdin.take().expect("a pipe").write_all(input);
     child.wait_with_output().expect("the program ends")
@@ -124,13 +129,7 @@ fn a_closed_pipe() {
     text.push_str("repeat 900 question 0\n");
     let packed = run(BUNDLE, &["pack"], text.as_bytes()).stdout;
     for (program, arguments) in [(BUNDLE, &["show"][..]), (BUNDLE, &["unpack"]), (REFERENCE, &[])] {
-        let mut command = Command::new(program);
-        command
-            .args(arguments)
-            .stdin(Stdio::piped())
-            .stdout(Stdio::piped())
-            .stderr(Stdio::piped());
-        let mut child = command.spawn().expect("the program starts");
+        let mut child = started(program, arguments);
         drop(child.stdout.take());
         child
             .stdin

@@ -120,27 +120,36 @@ put-reply-requires c κs = search needs
 
 loop-less : tie.Need-loop-less Inv-loop μ-loop
 loop-less c =
-    let page = took _ (c .before .before .before .before .before .before .before .before .before .before .before .before .before .before .before .before .before .before .before .before .loop .cursor .next) (c .before .before .before .before .before .before .before .before .before .before .before .before .before .before .before .before .before .before .before .read-page .ensures) (c .before .before .before .before .before .before .before .before .before .before .before .before .before .before .before .before .before .c .given .1) in
+    let read = c .before .before .before .before .before .before .before .before .before .before .before .before .before .before .before .before .before .before .before in
+    let page = took _ (read .before .loop .cursor .next) (read .read-page .ensures) (c .before .before .before .before .before .before .before .before .before .before .before .before .before .before .before .before .before .c .given .1) in
     omega (arith, page .0, page .2)
 
 loop-again : tie.Need-loop-again Inv-loop μ-loop
 loop-again c =
-    let at = c .before .before .before .before .before .before .before .before .before .before .before .before .before .before .before .before .before .before .before .before .loop in
-    let page = took _ (c .before .before .before .before .before .before .before .before .before .before .before .before .before .before .before .before .before .before .before .before .loop .cursor .next) (c .before .before .before .before .before .before .before .before .before .before .before .before .before .before .before .before .before .before .before .read-page .ensures) (c .before .before .before .before .before .before .before .before .before .before .before .before .before .before .before .before .before .c .given .1) in
-    let start = c .before .before .before .before .before .before .before .before .before .before .before .before .before .before .before .before .before .before .before .before .before .before .before .before .before in
-    let m = c .before .before .before .before .before .before .before .before .before .before .before .before .before .before .before .message-of in
-    let met = c .before .before .before .before .match3 in
-    let place = c .before .before .before .before .before .before .before .before .before .before .before .place-of .ensures in
-    let kept = there (at .entries) (c .before .before .before .before .before .before .before .before .before .before .before .place-of .result) _ (freshEntry 0) (omega (arith, place .0, at .inv .0)) in
-    let paid = there (at .funds) (c .before .before .before .before .before .before .before .before .before .before .before .place-of .result) _ (fundsOf (freshEntry 0)) (omega (arith, place .0, at .inv .1)) in
+    let met = c .before .before .before .before in
+    let stored = met .before in
+    let turned = stored .before .before in
+    let filled = turned .before in
+    let placed = filled .before .before .before in
+    let asked = placed .before .before in
+    let told = asked .before .before in
+    let taken = told .before .before in
+    let read = taken .before .before in
+    let at = read .before .loop in
+    let start = read .before .before .before .before .before .before in
+    let place = placed .place-of .ensures in
+    let page = took _ (at .cursor .next) (read .read-page .ensures) (taken .c .given .1) in
+    let kept = there (at .entries) (placed .place-of .result) _ (freshEntry 0) (omega (arith, place .0, at .inv .0)) in
+    let paid = there (at .funds) (placed .place-of .result) _ (fundsOf (freshEntry 0)) (omega (arith, place .0, at .inv .1)) in
     let done =
-    turn-kept (start .args .l) (at .entries) (at .funds) (at .inv .0) (at .inv .1) (start .pre .1) _ _ (place .0) (place .1) _ _ kept _ paid (c .before .before .before .before .before .before .before .before .with-funds .ensures) _ (c .before .before .before .before .before .before .before .take-turn .ensures) _ (c .before .before .before .before .before .funds-of .ensures) (met .reply) (met .funds)
-    (⊎-elim (λ w. inl (_, w .1 .given .1, w .3, w .4)) (λ w. inr (w .2 .result, w .1 .given .1, w .2 .ensures, w .4, w .5)) (met .came))
+    turn-kept (start .args .l) (at .entries) (at .funds) (at .inv .0) (at .inv .1) (start .pre .1) _ _ (place .0) (place .1)
+    _ _ kept _ paid (filled .with-funds .ensures) _ (turned .take-turn .ensures) _ (stored .funds-of .ensures) (met .match3 .reply) (met .match3 .funds)
+    (⊎-elim (λ w. inl (_, w .1 .given .1, w .3, w .4)) (λ w. inr (w .2 .result, w .1 .given .1, w .2 .ensures, w .4, w .5)) (met .match3 .came))
     in (
       rw length-set (at .inv .0),
       done .1,
-      played-more _ _ _ (at .inv .2) _ page (c .before .before .before .before .before .before .before .before .before .before .before .before .before .before .before .before .before .before .before .before .before .before .before .before .before .pre .0)
-          (entry-some _ (sym (c .before .before .before .before .before .before .before .before .before .before .before .before .before .before .before .message-of .ensures) ∙ ap asks (c .before .before .before .before .before .before .before .before .before .before .before .before .before .m .given .1)) (done .0) (c .before .before .put-reply .ensures)),
+      played-more _ _ _ (at .inv .2) _ page (start .pre .0)
+          (entry-some _ (sym (told .message-of .ensures) ∙ ap asks (asked .m .given .1)) (done .0) (c .before .before .put-reply .ensures)),
     )
 
 enum-told-3 : tie.Need-enum-told-3 Inv-loop μ-loop
@@ -148,16 +157,21 @@ enum-told-3 c = search needs
 
 loop-less-2 : tie.Need-loop-less-2 Inv-loop μ-loop
 loop-less-2 c =
-    let page = took _ (c .before .before .before .before .before .before .before .loop .cursor .next) (c .before .before .before .before .before .before .read-page .ensures) (c .before .before .before .before .c .given .1) in
+    let read = c .before .before .before .before .before .before in
+    let page = took _ (read .before .loop .cursor .next) (read .read-page .ensures) (c .before .before .before .before .c .given .1) in
     omega (arith, page .0, page .2)
 
 loop-again-2 : tie.Need-loop-again-2 Inv-loop μ-loop
 loop-again-2 c =
-    let at = c .before .before .before .before .before .before .before .loop in
-    let page = took _ (c .before .before .before .before .before .before .before .loop .cursor .next) (c .before .before .before .before .before .before .read-page .ensures) (c .before .before .before .before .c .given .1) in (
+    let told = c .before .before in
+    let taken = told .before .before in
+    let read = taken .before .before in
+    let at = read .before .loop in
+    let start = read .before .before .before .before .before .before in
+    let page = took _ (at .cursor .next) (read .read-page .ensures) (taken .c .given .1) in (
       at .inv .0,
       at .inv .1,
-      played-more _ _ _ (at .inv .2) _ page (c .before .before .before .before .before .before .before .before .before .before .before .before .pre .0) (entry-none (sym (c .before .before .message-of .ensures) ∙ ap asks (c .enum-told3 .given .1))),
+      played-more _ _ _ (at .inv .2) _ page (start .pre .0) (entry-none (sym (told .message-of .ensures) ∙ ap asks (c .enum-told3 .given .1))),
     )
 
 pub play-spec : {M : Type 1} → statement M

@@ -49,6 +49,7 @@ struct Played {
     funds: [Funds; 32],
 }
 
+// What the last entry leaves.
 fn leave(filled: usize, funds: [Funds; 32]) -> Played
     ensures { λ r. ⌜ r ≡ record { filled = filled; funds = funds } ⌝ }
 {
@@ -66,8 +67,8 @@ fn place_of(m: Message) -> usize
     if a.0 < 32 { a.0 as usize } else { 0 }
 }
 
-// The entries behind the opening page, in their order. The ledger's 32 entries stand here and are changed in place; what settling changes of
-// them, their funds, is held apart, and put back at the end.
+// The entries behind the opening page, in their order. The ledger's 32 entries stand here and are changed in place; their funds, which settling
+// changes, are held apart, and tell all that is asked of the ledger at the end.
 fn play(bytes: &[u8], l: Ledger, out: &mut [u8]) -> Played
     requires { ⌜ entryCount (now bytes) ≤ 1_000 ⌝ }
     requires { ⌜ l .accounts ≤ 32 ⌝ }

@@ -1,6 +1,6 @@
 -- From a turn to the whole call: its entry is stored, and its verdict carried out.
 use mathlib.Core.Path.{_≡_, refl, ap, _∙_}
-use mathlib.Core.List.{map}
+use mathlib.Core.List.{List, map}
 use lib.ListN.{length}
 use Rattle.model.specs.declared.Account.{Account}
 use Rattle.model.specs.declared.Entry.{Entry}
@@ -50,9 +50,10 @@ module _ (l : Ledger) (a : Account) (t : Turn) (stored : Ledger) (stored-is : st
   finish-accepted r says h = by-accepting l a (x .due) (x .entry) (t .verdict) stored r (taken .0) says stored-so h
 
 -- settling, by the funds of the entries
-pub settled-so : (l : Ledger) (s : SettledFunds) → length (l .entries) ≡ 32 → SettlesAs (map fundsOf (l .entries)) s
-    → Meets (accepted l (settle (l .entries))) (record { reply = Accept (s .applied); ledger = withEntries l (withAllFunds (l .entries) (s .funds)) })
-settled-so l s places h = rw (settled-entries (l .entries) s places h) (refl, refl)
+pub settled-so : (l : Ledger) (s : SettledFunds) (left : List Entry) → length (l .entries) ≡ 32 → SettlesAs (map fundsOf (l .entries)) s
+    → left ≡ withAllFunds (l .entries) (s .funds)
+    → Meets (accepted l (settle (l .entries))) (record { reply = Accept (s .applied); ledger = withEntries l left })
+settled-so l s left places h left-is = rw (settled-entries (l .entries) s places h, left-is) (refl, refl)
 
 -- a turn at the account's entry, finished, is the message's answer
 pub called : (l : Ledger) (m : Message) (a : Account) (e : Entry) (t : Turn) (r : Answer) → a ≡ payerOf m → e ≡ entryOf l a → Takes (turnAt l e m) t

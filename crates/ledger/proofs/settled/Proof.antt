@@ -21,7 +21,7 @@ returns c =
     let l = c .before .before .before .before .before .args .l in
     let s = c .before .before .settle-all .result in
     let settles = subst (λ fs. SettlesAs fs s) (c .before .before .before .all-funds .ensures) (c .before .before .settle-all .ensures) in
-    rw (c .with-all-funds .ensures) (settled-so l s (entries-length l _ (c .before .before .before .before .before .good .0)) settles)
+    settled-so l s _ (entries-length l _ (c .before .before .before .before .before .good .0)) settles (c .with-all-funds .ensures)
 
 pub settled-spec : {M : Type 1} → statement M
 settled-spec =

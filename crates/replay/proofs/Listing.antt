@@ -17,6 +17,7 @@ use Rattle.model.specs.declared.BundleReply.the-variants.{Sound, BundleRefused}
 use Rattle.model.specs.Basics.{bit}
 use Rattle.model.specs.Records.{accountOf, freshEntry, entryOf}
 use Rattle.model.specs.Refusals.{firstRefusal, listRules}
+use Rattle.model.specs.Replies.{valuesOfList}
 use Rattle.model.specs.Settling.{isWaiting}
 use Rattle.model.specs.Calls.{ListsUnlessRefused}
 use Rattle.model.specs.Bundles.{entryCount, checkBundle}
@@ -63,15 +64,15 @@ module _ (bytes : List ℕ) {before after : List ℕ} {r : ListReply} where
   -- the answer of the opening page decides what follows
   pub list-opened : (a : OpenAnswer) → a ≡ opened bytes → a .reply ≡ Opened → ListedAs (ledgerFrom bytes (entryCount bytes - 1) 1 (a .ledger)) before r after
       → SoundList bytes before r after
-  list-opened a same opens h = record { meets = rw (← same, opens) (h .meets) }
+  list-opened a same opens h = record { meets = rw (← same, opens) h }
 
   pub list-not-opened : (a : OpenAnswer) (q : Refusal) → a ≡ opened bytes → a .reply ≡ OpenRefused q → r ≡ ListRefused q → after ≡ before
       → SoundList bytes before r after
-  list-not-opened a q same refused told kept = record { meets = rw (← same, refused) (told, kept) }
+  list-not-opened a q same refused told kept = record { meets = rw (← same, refused) (told, ap valuesOfList told, kept) }
 
   -- and so does that of the check
   pub list-of-sound : (m : ℕ) → checkBundle bytes ≡ Sound m → m ≡ entryCount bytes → SoundList bytes before r after → ListOf bytes before r after
   list-of-sound m sound same h = record { meets = rw (sound, same) (h .meets) }
 
   pub list-of-refused : (q : Refusal) (i : ℕ) → checkBundle bytes ≡ BundleRefused q i → r ≡ ListRefused q → after ≡ before → ListOf bytes before r after
-  list-of-refused q i refused told kept = record { meets = rw refused (told, kept) }
+  list-of-refused q i refused told kept = record { meets = rw refused (told, ap valuesOfList told, kept) }

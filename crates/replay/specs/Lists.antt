@@ -1,7 +1,7 @@
 -- The waiting list of the ledger that a bundle leaves. No bundle asks for it; a host may, behind the last entry.
 use Prim.Native.Nat.{ℕ, _-_}
 use mathlib.Core.Path.{_≡_}
-use mathlib.Core.List.{List}
+use mathlib.Core.List.{List, [], _∷_}
 use Rattle.model.specs.declared.Ledger.{Ledger}
 use Rattle.model.specs.declared.Refusal.{Refusal}
 use Rattle.model.specs.declared.ListReply.{ListReply}
@@ -10,17 +10,18 @@ use Rattle.model.specs.declared.OpenReply.{OpenReply}
 use Rattle.model.specs.declared.OpenReply.the-variants.{Opened, OpenRefused}
 use Rattle.model.specs.declared.BundleReply.{BundleReply}
 use Rattle.model.specs.declared.BundleReply.the-variants.{Sound, BundleRefused}
-use Rattle.model.specs.Calls.{Lists}
+use Rattle.model.specs.Replies.{codeOf, valuesOfList}
 use Rattle.model.specs.Bundles.{entryCount, checkBundle}
+use Rattle.ledger.specs.Promises.{ListedAs}
 use Rattle.replay.specs.Text.{ledgerFrom, opened}
 
--- a refusal leaves the buffer as it was
+-- a refusal is told by its code, and leaves the buffer as it was
 abbrev pub NoList : Refusal → List ℕ → ListReply → List ℕ → Type 0
-NoList r before reply after = (reply ≡ ListRefused r) × (after ≡ before)
+NoList r before reply after = (reply ≡ ListRefused r) × (valuesOfList reply ≡ codeOf r ∷ []) × (after ≡ before)
 
 abbrev pub OpenedList : List ℕ → ℕ → OpenReply → Ledger → List ℕ → ListReply → List ℕ → Type 0
 OpenedList bytes m (OpenRefused r) l before reply after = NoList r before reply after
-OpenedList bytes m Opened l before reply after = Lists (ledgerFrom bytes (m - 1) 1 l) before reply after
+OpenedList bytes m Opened l before reply after = ListedAs (ledgerFrom bytes (m - 1) 1 l) before reply after
 
 abbrev pub CheckedList : List ℕ → BundleReply → List ℕ → ListReply → List ℕ → Type 0
 CheckedList bytes (BundleRefused r i) before reply after = NoList r before reply after

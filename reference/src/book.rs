@@ -37,6 +37,18 @@ pub struct OpeningPage {
 }
 
 impl OpeningPage {
+    /// The page with these balances, at most 32, and as many accounts.
+    pub fn of(n: u8, f: u8, given: &[u32]) -> OpeningPage {
+        let mut balances = [0; 32];
+        balances[..given.len()].copy_from_slice(given);
+        OpeningPage {
+            n,
+            f,
+            k: given.len() as u8,
+            balances,
+        }
+    }
+
     /// The opening sum, which may be above the limit.
     pub fn sum(&self) -> u64 {
         self.balances.iter().map(|balance| u64::from(*balance)).sum()

@@ -16,19 +16,8 @@ const T: Slip = Slip {
 const U: Slip = Slip { value: 5, ..T };
 const V: Slip = Slip { value: 6, ..T };
 
-fn page(n: u8, f: u8, given: &[u32]) -> OpeningPage {
-    let mut balances = [0; 32];
-    balances[..given.len()].copy_from_slice(given);
-    OpeningPage {
-        n,
-        f,
-        k: given.len() as u8,
-        balances,
-    }
-}
-
 fn open(n: u8, f: u8, given: &[u32]) -> Book {
-    Book::open(&page(n, f, given)).expect("the page is not refused")
+    Book::open(&OpeningPage::of(n, f, given)).expect("the page is not refused")
 }
 
 fn slip(account: u8, number: u32, value: u32, recipient: u8) -> Slip {
@@ -72,25 +61,28 @@ fn acks_needed() {
 
 #[test]
 fn openings() {
-    let with_k = |k| OpeningPage { k, ..page(6, 1, &[1]) };
-    let too_much = page(1, 0, &[u32::MAX, 1]);
+    let with_k = |k| OpeningPage {
+        k,
+        ..OpeningPage::of(6, 1, &[1])
+    };
+    let too_much = OpeningPage::of(1, 0, &[u32::MAX, 1]);
     let cases = [
-        (page(5, 1, &[10, 5]), Err(1)),
-        (page(17, 0, &[10, 5]), Err(1)),
-        (page(0, 0, &[1]), Err(1)),
-        (page(16, 255, &[1]), Err(1)),
-        (page(16, 3, &[1]), Ok(1)),
-        (page(1, 0, &[0; 32]), Ok(32)),
+        (OpeningPage::of(5, 1, &[10, 5]), Err(1)),
+        (OpeningPage::of(17, 0, &[10, 5]), Err(1)),
+        (OpeningPage::of(0, 0, &[1]), Err(1)),
+        (OpeningPage::of(16, 255, &[1]), Err(1)),
+        (OpeningPage::of(16, 3, &[1]), Ok(1)),
+        (OpeningPage::of(1, 0, &[0; 32]), Ok(32)),
         (with_k(0), Err(2)),
         (with_k(33), Err(2)),
         (
             OpeningPage {
                 k: 1,
-                ..page(6, 1, &[10, 5])
+                ..OpeningPage::of(6, 1, &[10, 5])
             },
             Err(2),
         ),
-        (page(1, 0, &[u32::MAX - 1, 1]), Ok(2)),
+        (OpeningPage::of(1, 0, &[u32::MAX - 1, 1]), Ok(2)),
         (too_much.clone(), Err(3)),
         // codes rise
         (
@@ -137,7 +129,7 @@ fn tie() {
         .zip([T, T, T, U, U, U, V])
         .map(|(seat, slip)| ack(seat, slip))
         .collect();
-    let bytes = bundle::write(&page(8, 1, &[10, 3]), &messages);
+    let bytes = bundle::write(&OpeningPage::of(8, 1, &[10, 3]), &messages);
     let printed = daybook::printed(&bytes);
     assert_eq!(
         printed.free,
@@ -205,7 +197,7 @@ fn whole_output() {
     let mut messages = vec![Message::Slip(T)];
     messages.extend((0..5).map(|seat| ack(seat, T)));
     messages.push(Message::Question { account: 1 });
-    let bytes = bundle::write(&page(6, 1, &[10, 3]), &messages);
+    let bytes = bundle::write(&OpeningPage::of(6, 1, &[10, 3]), &messages);
     let due = "1 A\n2 N\n3 N\n4 N\n5 N\n6 K 1\n7 B 7\n= 0 6 1\n= 1 7 0\n";
     assert_eq!(daybook::printed(&bytes).text, due);
     assert_eq!(daybook::compare(&bytes, due.as_bytes()), Ok(()));
@@ -327,7 +319,10 @@ const DAMAGES: &[Damage] = &[
 
 #[test]
 fn faults_of_bundles() {
-    let sound = bundle::write(&page(1, 0, &[1]), &[Message::Question { account: 0 }, ack(3, T)]);
+    let sound = bundle::write(
+        &OpeningPage::of(1, 0, &[1]),
+        &[Message::Question { account: 0 }, ack(3, T)],
+    );
     assert_eq!((bundle::check(&sound), sound.len()), (Ok(3), 168));
     for (changes, length, code, entry) in DAMAGES {
         let mut bytes = sound.clone();
@@ -347,7 +342,7 @@ fn faults_of_bundles() {
 
 #[test]
 fn the_longest_bundle() {
-    let bytes = bundle::write(&page(1, 0, &[1]), &[Message::Request(slip(0, 1, 1, 0)); 999]);
+    let bytes = bundle::write(&OpeningPage::of(1, 0, &[1]), &[Message::Request(slip(0, 1, 1, 0)); 999]);
     assert_eq!(bytes.len(), bundle::LONGEST);
     assert_eq!(bundle::check(&bytes), Ok(bundle::MOST_ENTRIES));
     assert!(daybook::printed(&bytes).text.ends_with("\n999 C\n= 0 1 0\n"));
@@ -367,9 +362,9 @@ fn write_and_read() {
 #[test]
 fn refused_openings_print_their_code() {
     for (page, code) in [
-        (page(5, 1, &[1]), 1),
-        (page(6, 1, &[]), 2),
-        (page(6, 1, &[u32::MAX, 1]), 3),
+        (OpeningPage::of(5, 1, &[1]), 1),
+        (OpeningPage::of(6, 1, &[]), 2),
+        (OpeningPage::of(6, 1, &[u32::MAX, 1]), 3),
     ] {
         let bytes = bundle::write(&page, &[Message::Question { account: 0 }]);
         assert_eq!(daybook::printed(&bytes).text, format!("F {code} 0\n"));

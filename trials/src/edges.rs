@@ -32,7 +32,7 @@ pub fn one_of_each() -> Vec<u8> {
         Message::Ruling(t),
         Message::Question { account: 1 },
     ];
-    write(&opening(6, 1, &[10, 3]), &messages)
+    write(&OpeningPage::of(6, 1, &[10, 3]), &messages)
 }
 
 fn edge(name: &str, bytes: Vec<u8>, text: &str) -> Edge {
@@ -49,22 +49,10 @@ fn slip(account: u8, number: u32, value: u32, recipient: u8) -> Slip {
     }
 }
 
-/// As many accounts as there are balances.
-fn opening(n: u8, f: u8, given: &[u32]) -> OpeningPage {
-    let mut balances = [0; 32];
-    balances[..given.len()].copy_from_slice(given);
-    OpeningPage {
-        n,
-        f,
-        k: given.len() as u8,
-        balances,
-    }
-}
-
 /// One seat, one account with these portions, and 999 messages.
 fn full(balance: u32, message: impl Fn(u32) -> Message) -> Vec<u8> {
     let messages: Vec<Message> = (1..1000).map(message).collect();
-    write(&opening(1, 0, &[balance]), &messages)
+    write(&OpeningPage::of(1, 0, &[balance]), &messages)
 }
 
 /// The longest bundle: bodies of 10 bytes behind the opening page.
@@ -134,7 +122,7 @@ fn refused_by_m() -> Vec<Edge> {
 }
 
 fn sound() -> Vec<Edge> {
-    let shortest = write(&opening(1, 0, &[0]), &[]);
+    let shortest = write(&OpeningPage::of(1, 0, &[0]), &[]);
     let questions = full(7, |_| Message::Question { account: 0 });
     let balances = lines(|_| "B 7") + "= 0 7 0\n";
     let circulated = lines(|_| "C") + "= 0 1 0\n";
@@ -165,7 +153,11 @@ fn highest_number() -> Edge {
         Message::Ruling(slip),
     ];
     let text = "1 R 7\n2 R 7\n3 R 7\n4 R 7\n= 0 2 0\n= 1 0 0\n";
-    edge("number 4,294,967,295", write(&opening(1, 0, &[2, 0]), &messages), text)
+    edge(
+        "number 4,294,967,295",
+        write(&OpeningPage::of(1, 0, &[2, 0]), &messages),
+        text,
+    )
 }
 
 /// One account has all portions there can be, and pays them to another, which pays them to itself.
@@ -183,7 +175,7 @@ fn all_portions() -> Edge {
     let text = "1 K 0\n2 C\n3 A\n4 K 2\n5 B 4294967295\n6 R 11\n= 0 0 1\n= 1 4294967295 1\n";
     edge(
         "balances and values of 4,294,967,295",
-        write(&opening(1, 0, &[MAX, 0]), &messages),
+        write(&OpeningPage::of(1, 0, &[MAX, 0]), &messages),
         text,
     )
 }
@@ -197,7 +189,11 @@ fn chain() -> Edge {
     let waits: String = (1..32).map(|entry| format!("{entry} K 0\n")).collect();
     let others: String = (0..31).map(|account| format!("= {account} 0 1\n")).collect();
     let text = format!("{waits}32 K 32\n{others}= 31 5 1\n");
-    edge("a chain of 32", write(&opening(16, 3, &balances), &messages), &text)
+    edge(
+        "a chain of 32",
+        write(&OpeningPage::of(16, 3, &balances), &messages),
+        &text,
+    )
 }
 
 /// Every account waits for one portion more than it has.
@@ -209,7 +205,7 @@ fn all_wait() -> Edge {
     let accounts: String = (0..32).map(|account| format!("= {account} 1 0\n")).collect();
     edge(
         "every account waits",
-        write(&opening(1, 0, &[1; 32]), &messages),
+        write(&OpeningPage::of(1, 0, &[1; 32]), &messages),
         &(waits + &accounts),
     )
 }
@@ -218,7 +214,10 @@ fn all_wait() -> Edge {
 pub fn wait_of(account: u8) -> Edge {
     let mut balances = [1; 32];
     balances[usize::from(account)] = 0;
-    let bytes = write(&opening(1, 0, &balances), &[Message::Ruling(slip(account, 1, 31, 0))]);
+    let bytes = write(
+        &OpeningPage::of(1, 0, &balances),
+        &[Message::Ruling(slip(account, 1, 31, 0))],
+    );
     let lines: String = (0..32)
         .map(|other| format!("= {other} {} 0\n", u8::from(other != account)))
         .collect();
@@ -263,7 +262,7 @@ fn acks_of_one_seat() -> Edge {
     let text = lines(reply) + "= 0 2 0\n";
     edge(
         "999 acks, all but the first refused",
-        write(&opening(2, 0, &[2]), &messages),
+        write(&OpeningPage::of(2, 0, &[2]), &messages),
         &text,
     )
 }
@@ -285,5 +284,9 @@ fn longest_line() -> Edge {
     let others: String = (0..31).map(|account| format!("= {account} 0 0\n")).collect();
     let acks = "996 N\n997 N\n998 N\n999 P 31 996 4294967295 31\n";
     let text = format!("{rulings}{acks}{others}= 31 4294967295 995\n");
-    edge("the longest line", write(&opening(4, 0, &balances), &messages), &text)
+    edge(
+        "the longest line",
+        write(&OpeningPage::of(4, 0, &balances), &messages),
+        &text,
+    )
 }

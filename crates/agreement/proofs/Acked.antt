@@ -19,9 +19,9 @@ use Rattle.model.specs.Basics.{bit}
 use Rattle.model.specs.Records.{entryOf}
 use Rattle.model.specs.Transfers.{equal}
 use Rattle.model.specs.Refusals.{ackFrom}
-use Rattle.model.specs.Calls.{step, entryWithAck}
+use Rattle.model.specs.Calls.{step}
 use Rattle.model.proofs.Sums.{impossible, both}
-use Rattle.model.proofs.Steps.{Eligible, Recordable, Happens, happens}
+use Rattle.model.proofs.Steps.{Eligible, Recordable, entryWithAck, Happens, happens}
 
 -- the last number of an account that this entry has booked or acked
 abbrev lastNumber : Entry → ℕ

@@ -16,8 +16,7 @@ use Rattle.model.specs.Transfers.{sameNumber, equal}
 use Rattle.model.specs.Acks.{holds, conflicts, acksFor, enough}
 use Rattle.model.specs.Refusals.{outOfRange, waitsAlready, ackFrom}
 use Rattle.model.specs.Openings.{openLedger}
-use Rattle.model.specs.Settling.{settle, accept}
-use Rattle.model.specs.Calls.{entryWithAck}
+use Rattle.model.specs.Settling.{settle}
 use Rattle.model.proofs.Sums.{impossible, sum-set, sum-set-same}
 use Rattle.model.proofs.Equality.{equal-sound, equal-refl, Conflict, conflict-complete}
 use Rattle.model.proofs.Access.{no-acks-length, set-each, set-entry-length}
@@ -25,7 +24,7 @@ use Rattle.model.proofs.Booking.{SameButBalance, Cleared}
 use Rattle.model.proofs.Settles.{Bounded, NextWaits, settle-each, settle-sum, settle-length}
 use Rattle.model.proofs.Opened.{Group, opened-group}
 use Rattle.model.proofs.Witnesses.{fresh-sum}
-use Rattle.model.proofs.Steps.{Eligible, Recordable}
+use Rattle.model.proofs.Steps.{Eligible, Recordable, entryWithAck, acceptedIn}
 
 -- the group of an opening page that a run is about
 pub group : (o : Opening) → Opens o → Group o
@@ -344,7 +343,6 @@ waits-sound o l t e g ok same new = stored o l g ok (t .account) (withPending e 
 
 pub accept-sound : (o : Opening) (l : Ledger) (t : Transfer) (e : Entry) → Group o → Sound o l
     → e .balance ≡ entryOf l (t .account) .balance → SoundEntry o (t .account) (withPending e t)
-    → Sound o (withEntries l (accept (l .entries) e t .entries))
-unfolding accept
+    → Sound o (withEntries l (acceptedIn l e t .entries))
 accept-sound o l t e g ok same new =
     settled-sound o (withEntry l (t .account) (withPending e t)) g (waits-sound o l t e g ok same new)

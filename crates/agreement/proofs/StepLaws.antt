@@ -17,17 +17,17 @@ use Rattle.agreement.specs.Facts.{mustAccept}
 use Rattle.model.proofs.Opened.{Group}
 use Rattle.agreement.proofs.Soundness.{recorded-new, recorded-kept, SoundEntry, Sound, Admitted, admitted, marked-sound, stored, noted-entry, accepted-entry, ruled-entry, waits-sound, accept-sound}
 use Rattle.model.specs.Records.{withAcked, withProposed, withPending, entryAt, setEntry, withEntries, withEntry, entryOf}
-use Rattle.model.specs.Acks.{holds, conflicts, acksFor, acksRecorded, enough, twoConflict}
-use Rattle.model.specs.Refusals.{outOfRange, waitsAlready, ackFrom, rulesOf}
-use Rattle.model.specs.Settling.{settle, accept}
-use Rattle.model.specs.Calls.{Answers, mustPropose, entryWithAck}
+use Rattle.model.specs.Acks.{holds, conflicts, acksFor, acksRecorded, enough, twoConflict, mustPropose}
+use Rattle.model.specs.Refusals.{outOfRange, waitsAlready, ackFrom}
+use Rattle.model.specs.Settling.{settle}
+use Rattle.model.specs.Calls.{Answers}
 use Rattle.model.proofs.Sums.{impossible, both}
 use Rattle.model.proofs.Access.{entry-set-same, set-each, with-entry-same}
 use Rattle.model.proofs.Tallies.{most-sound}
 use Rattle.model.proofs.Booking.{SameButBalance, Cleared}
 use Rattle.model.proofs.Settles.{Turned, kept, booked, settle-entry}
-use Rattle.model.proofs.Refusing.{SomeHolds, some-holds, refused-by}
-use Rattle.model.proofs.Steps.{Eligible, Recordable, Happens, refused, circulated, acknowledged, accepted-by-acks, proposed, noted, accepted-by-ruling, told}
+use Rattle.model.proofs.Refusing.{SomeHolds, some-holds, rulesIn, refused-by}
+use Rattle.model.proofs.Steps.{Eligible, Recordable, entryWithAck, acceptedIn, Happens, refused, circulated, acknowledged, accepted-by-acks, proposed, noted, accepted-by-ruling, told}
 
 -- every call leaves a sound ledger
 pub step-sound : (o : Opening) (l next : Ledger) (m : Message) (r : Reply) → Group o → Sound o l → Happens l m r next → Sound o next
@@ -89,8 +89,7 @@ module _ (o : Opening) (l next : Ledger) (m : Message) (r : Reply) (g : Group o)
     put t x new = set-each J (l .entries) (t .account) x (puts t x new) each
 
     settled : (t : Transfer) (e : Entry) → Puts l m r t (withPending e t) → Sound o (withEntry l (t .account) (withPending e t))
-        → (a : Account) → J a (entryOf (withEntries l (accept (l .entries) e t .entries)) a)
-    unfolding accept
+        → (a : Account) → J a (entryOf (withEntries l (acceptedIn l e t .entries)) a)
     settled t e new sound a = go (settle-entry a (setEntry (l .entries) (t .account) (withPending e t)))
       where
         waits : Ledger
@@ -133,9 +132,8 @@ pub record Accepting (o : Opening) (l : Ledger) (r : Reply) (next : Ledger) (t :
 
 accepting : (o : Opening) (l next : Ledger) (r : Reply) (t : Transfer) (e : Entry) → Group o → Sound o l → Eligible l t
     → e .balance ≡ entryOf l (t .account) .balance → e .current ≡ entryOf l (t .account) .current → SoundEntry o (t .account) (withPending e t)
-    → r ≡ Accept (accept (l .entries) e t .applied) → next ≡ withEntries l (accept (l .entries) e t .entries)
+    → r ≡ Accept (acceptedIn l e t .applied) → next ≡ withEntries l (acceptedIn l e t .entries)
     → Accepting o l r next t
-unfolding accept
 accepting o l next r t e g ok fit balance current waits reply same =
     record {
       entry = e;
@@ -231,7 +229,8 @@ pub record Proposes (l : Ledger) (m : Message) (u : Transfer) : Type 0 where
   pub most : (v : Transfer) → acksFor v (entryWithAck l sender slip .acks) ≤ acksFor u (entryWithAck l sender slip .acks)
 
 -- "at least n - f seats' acks are recorded"
-n-f-recorded : (l : Ledger) (x : Entry) → mustPropose l x ≡ true → l .seats ≤ acksRecorded (x .acks) + l .faults
+n-f-recorded : (l : Ledger) (x : Entry) → mustPropose (l .seats) (l .faults) (acksRecorded (x .acks)) x ≡ true
+    → l .seats ≤ acksRecorded (x .acks) + l .faults
 n-f-recorded l x must =
     let enough-acks = leb (l .seats - l .faults) (acksRecorded (x .acks)) in
     let parts = both (enough-acks && twoConflict (x .acks)) (not (x .proposed)) must in
@@ -326,8 +325,7 @@ module _ (o : Opening) (l next : Ledger) (m : Message) (r : Reply) (g : Group o)
   put-held s t x fit new = inr (ap (λ (y : Entry). ackFrom y s) (with-entry-same l (t .account) x (admitted o l t g ok fit .inside)) ∙ new)
 
   accepted-held : (s : Seat) (t : Transfer) → Eligible l t → Recordable l s t
-      → Held s t (entryOf (withEntries l (accept (l .entries) (entryWithAck l s t) t .entries)) (t .account))
-  unfolding accept
+      → Held s t (entryOf (withEntries l (acceptedIn l (entryWithAck l s t) t .entries)) (t .account))
   accepted-held s t fit new = go (settle-entry (t .account) joined)
     where
       waits : Ledger
@@ -444,10 +442,9 @@ pub data AckRefused (l : Ledger) (s : Seat) (t : Transfer) (q : Refusal) : Type 
   conflicting : conflicts t (ackFrom (entryOf l (t .account)) s) ≡ true → AckRefused l s t q
 
 pub ack-refused : (l : Ledger) (s : Seat) (t : Transfer) (q : Refusal) → Answers l (Ack s t) (Refuse q) → AckRefused l s t q
-unfolding rulesOf
-ack-refused l s t q h = go (some-holds (rulesOf l (Ack s t)) q (refused-by l (Ack s t) q h))
+ack-refused l s t q h = go (some-holds (rulesIn l (Ack s t)) q (refused-by l (Ack s t) q h))
   where
-    go : SomeHolds q (rulesOf l (Ack s t)) → AckRefused l s t q
+    go : SomeHolds q (rulesIn l (Ack s t)) → AckRefused l s t q
     go (inl is) = unknown-seat (leb-true (l .seats) (s .0) (is .0))
     go (inr (inl is)) = out-of-range (is .0)
     go (inr (inr (inl is))) = past-number (leb-true (t .number) (entryOf l (t .account) .current) (is .0))

@@ -15,9 +15,9 @@ use Rattle.model.specs.Basics.{bit, count}
 use Rattle.model.specs.Records.{seatOf}
 use Rattle.model.specs.Acks.{holds, isFull, acksFor}
 use Rattle.model.specs.Refusals.{ackFrom}
-use Rattle.model.specs.Calls.{entryWithAck}
 use Rattle.model.proofs.Sums.{impossible}
 use Rattle.model.proofs.Equality.{equal-sound, equal-refl}
+use Rattle.model.proofs.Steps.{entryWithAck}
 
 -- the vote of each seat in an entry
 abbrev pub vote : Entry → ℕ → Slot

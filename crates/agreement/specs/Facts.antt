@@ -8,11 +8,10 @@ use Rattle.agreement.specs.Types.{Seat, Account, Transfer, Full, Ledger,
 use Rattle.agreement.specs.Runs.{Opens, Call, message, waitingList, Event, Run, _▹_, Within, happened, sameSeat, ledgerAt, Obeys, isAccept, isRefusal, acked, accepted, ruled, passes}
 use Rattle.agreement.specs.Slates.{slateAt}
 use Rattle.model.specs.Basics.{sumOf}
-use Rattle.model.specs.Records.{sumBalances, sumCurrents, entryOf}
+use Rattle.model.specs.Records.{withAck, sumBalances, sumCurrents, entryOf}
 use Rattle.model.specs.Transfers.{equal}
 use Rattle.model.specs.Acks.{holds, acksFor, enough}
 use Rattle.model.specs.Refusals.{ackFrom}
-use Rattle.model.specs.Calls.{entryWithAck}
 
 -- the call is answered K
 abbrev pub answeredK : Call → Bool
@@ -23,7 +22,7 @@ answeredK (waitingList before r after) = false
 abbrev pub mustAccept : Ledger → Call → Bool
 mustAccept l (message (Request t) r) = false
 mustAccept l (message (Circulated t) r) = false
-mustAccept l (message (Ack s t) r) = not (isRefusal r) && enough (l .seats) (l .faults) (acksFor t (entryWithAck l s t .acks))
+mustAccept l (message (Ack s t) r) = not (isRefusal r) && enough (l .seats) (l .faults) (acksFor t (withAck (entryOf l (t .account)) s t .acks))
 mustAccept l (message (Decision t) r) = not (isRefusal r)
 mustAccept l (message (Inquiry a) r) = false
 mustAccept l (waitingList before r after) = false

@@ -12,7 +12,7 @@ use Rattle.model.specs.declared.Answer.{Answer}
 use Rattle.model.specs.Records.{entryOf, withEntries, withEntry}
 use Rattle.model.specs.Replies.{Meets}
 use Rattle.model.specs.Settling.{settle}
-use Rattle.model.specs.Calls.{accepted}
+use Rattle.model.specs.Calls.{payerOf, Due, replied, accepts, Effect, turnAt, accepted, finishedBy, finished, step}
 use Rattle.model.proofs.Sums.{impossible}
 use Rattle.settling.specs.declared.SettledFunds.{SettledFunds}
 use Rattle.settling.specs.Funds.{fundsOf, withAllFunds, SettlesAs}
@@ -20,8 +20,7 @@ use Rattle.settling.proofs.FundsLaws.{settled-entries}
 use Rattle.turns.specs.declared.Verdict.{Verdict}
 use Rattle.turns.specs.declared.Verdict.the-variants.{Replies, Accepts}
 use Rattle.turns.specs.declared.Turn.{Turn}
-use Rattle.turns.specs.Turns.{payerOf, Due, replied, accepts, Taken, turnAt, finished, finishedBy, Permits, Takes}
-use Rattle.turns.proofs.Stepping.{step-is}
+use Rattle.turns.specs.Turns.{Permits, Takes}
 use Rattle.ledger.specs.Promises.{Answered}
 use Rattle.ledger.proofs.Promising.{answered}
 
@@ -39,7 +38,7 @@ by-accepting : (l : Ledger) (a : Account) (due : Due) (e : Entry) (v : Verdict) 
 by-accepting l a (replied c) e v stored r due says stored-is h = impossible (cc)
 by-accepting l a accepts e v stored r due says stored-is h = rw stored-is at h
 
-module _ (l : Ledger) (a : Account) (t : Turn) (stored : Ledger) (stored-is : stored ≡ withEntry l a (t .entry)) (x : Taken) (taken : Takes x t) where
+module _ (l : Ledger) (a : Account) (t : Turn) (stored : Ledger) (stored-is : stored ≡ withEntry l a (t .entry)) (x : Effect) (taken : Takes x t) where
   stored-so : stored ≡ withEntry l a (x .entry)
   stored-so = stored-is ∙ ap (withEntry l a) (taken .1)
 
@@ -57,7 +56,8 @@ settled-so l s left places h left-is = rw (settled-entries (l .entries) s places
 
 -- a turn at the account's entry, finished, is the message's answer
 pub called : (l : Ledger) (m : Message) (a : Account) (e : Entry) (t : Turn) (r : Answer) → a ≡ payerOf m → e ≡ entryOf l a → Takes (turnAt l e m) t
-    → ((x : Taken) → Takes x t → Meets (finished l a x) r) → Answered l m r
+    → ((x : Effect) → Takes x t → Meets (finished l a x) r) → Answered l m r
+unfolding step
 called l m a e t r a-is e-is taken finishes =
     let whole : Meets (finished l a (turnAt l e m)) r = finishes (turnAt l e m) taken in
-    answered l m r (rw (step-is l m) (rw (e-is, a-is) at whole))
+    answered l m r (rw (e-is, a-is) at whole)

@@ -26,8 +26,8 @@ use turns::take_turn;
 ghost use Rattle.model.specs.declared.Message.the-variants.{Request, Circulated, Ack, Decision, Inquiry};
 ghost use Rattle.model.specs.Replies.{Meets};
 ghost use Rattle.model.specs.Settling.{settle};
-ghost use Rattle.model.specs.Calls.{accepted};
-ghost use Rattle.turns.specs.Turns.{Taken, Takes, finished};
+ghost use Rattle.model.specs.Calls.{Effect, accepted, finished};
+ghost use Rattle.turns.specs.Turns.{Takes};
 ghost use Rattle.ledger.specs.Promises.{Answered, OpenedAs, ListedAs};
 
 // The opening: a ledger of the page, or the refusal and a ledger that refuses everything.
@@ -104,7 +104,7 @@ pub fn list_waiting(l: Ledger, buffer: &mut [u8]) -> ListReply
 
 // The turn's entry is stored, and its verdict carried out.
 fn finish(l: Ledger, a: Account, t: Turn) -> Answer
-    ensures { λ r. ⌜ ((x : Taken) → Takes x t → Meets (finished l a x) r) ⌝ }
+    ensures { λ r. ⌜ ((x : Effect) → Takes x t → Meets (finished l a x) r) ⌝ }
 {
     let e = t.entry;
     let verdict = t.verdict;

@@ -107,5 +107,9 @@ module _ (l : Ledger) where
   pub with-entry-same : (a : Account) (e : Entry) → a .0 < length (l .entries) → entryOf (withEntry l a e) a ≡ e
   with-entry-same a e h = entry-set-same (l .entries) a e h
 
+  -- storing an entry as it is changes nothing
+  pub with-entry-read : (a : Account) → withEntry l a (entryOf l a) ≡ l
+  with-entry-read a = ap (withEntries l) (set-entry-read (l .entries) a)
+
   pub with-entry-other : (a b : Account) (e : Entry) → b .0 ≢ a .0 → entryOf (withEntry l a e) b ≡ entryOf l b
   with-entry-other a b e h = entry-set-other (l .entries) a e b h

@@ -8,11 +8,10 @@ use Rattle.model.specs.Types.{Transfer, Request, Circulated, Decision, I
 use Rattle.model.specs.Basics.{every}
 use Rattle.model.specs.Records.{accountOf, noAcks}
 use Rattle.model.specs.Transfers.{equal, conflict}
-use Rattle.model.specs.Refusals.{rulesOf}
 use Rattle.model.specs.Openings.{openLedger}
 use Rattle.model.specs.Acks.{hasMost}
-use Rattle.model.specs.Settling.{lowestAffordable, apply, settleAtMost, settle, accept}
-use Rattle.model.specs.Calls.{effect, step}
+use Rattle.model.specs.Settling.{lowestAffordable, apply, settleAtMost, settle}
+use Rattle.model.specs.Calls.{step}
 use Rattle.model.specs.Bundles.{checkBundle}
 use Rattle.model.proofs.Rows.{slip, ackBy, pageWith, A, B, C, K, N, P, R, _gives_, everyKind, Row, acksNeeded, opens, runs, proposals, lists, sums, checks, counts, shows, showsOpening, reads, rowHolds}
 
@@ -180,5 +179,5 @@ format =
 
 -- Every row holds of the definitions: the checker computes each.
 pub facts : T (every rowHolds marked) × T (every rowHolds further) × T (every rowHolds format)
-unfolding marked further format noAcks equal conflict hasMost rulesOf openLedger lowestAffordable apply settleAtMost settle accept effect step checkBundle
+unfolding marked further format noAcks equal conflict hasMost openLedger lowestAffordable apply settleAtMost settle step checkBundle
 facts = (tt, tt, tt)

@@ -2,21 +2,21 @@
 use Prim.Native.Nat.{ℕ, _+_}
 use native.Mathlib.Omega.{arith}
 use borrow.Author.Tests.{leb-false, ltb-false}
-use mathlib.Core.Path.{_≡_, refl}
+use mathlib.Core.Path.{_≡_, refl, ap}
 use mathlib.Core.Logic.{_⊎_, inl, inr}
 use mathlib.Core.Bool.{Bool, true, false, cond}
 use mathlib.Core.List.{List, [], _∷_}
 use mathlib.Core.Option.{Option, none, some}
 use lib.Dec.{leb·zero}
-use Rattle.model.specs.Types.{Transfer, Entry, Ledger, Opening, Refusal, UnknownSeat, OutOfRange, Message, Request, Circulated, Ack, Decision, Inquiry, Note, Refuse, OpenRefused, ListRefused}
-use Rattle.model.specs.Records.{freshLedger, noLedger, withProposed, withEntry}
-use Rattle.model.specs.Replies.{Choice, proposes, Allows}
+use Rattle.model.specs.Types.{Account, Transfer, Entry, Ledger, Opening, Refusal, UnknownSeat, OutOfRange, Message, Request, Circulated, Ack, Decision, Inquiry, Note, Refuse, OpenRefused, ListRefused}
+use Rattle.model.specs.Records.{freshLedger, noLedger, withAck, withProposed, entryOf}
+use Rattle.model.specs.Replies.{Choice, exactly, proposes, Outcome, Allows}
 use Rattle.model.specs.Refusals.{Rule, firstRefusal, pastNumber, futureNumber, rulesOf, listRules}
 use Rattle.model.specs.Openings.{openRules, openAnswer, openLedger}
-use Rattle.model.specs.Acks.{acksFor, enough}
-use Rattle.model.specs.Settling.{accept}
-use Rattle.model.specs.Calls.{replies, unlessRefused, accepted, mustPropose, tallied, entryWithAck, effect, step, Answers, Lists, ListsUnlessRefused}
+use Rattle.model.specs.Acks.{acksFor, acksRecorded, enough, mustPropose}
+use Rattle.model.specs.Calls.{payerOf, replied, replies, waits, tallied, effect, unlessRefused, finished, step, Answers, Lists, ListsUnlessRefused}
 use Rattle.model.proofs.Sums.{impossible}
+use Rattle.model.proofs.Access.{with-entry-read}
 
 -- every test of the rules fails
 abbrev pub AllFail : List Rule → Type 0
@@ -55,46 +55,60 @@ next-number e t past future =
 abbrev NeverRefuses : Choice → Type 0
 NeverRefuses c = (r : Refusal) → Allows c (Refuse r) → ⊥
 
-tallied-never : (l : Ledger) (e : Entry) (t : Transfer) → NeverRefuses (tallied l e t .choice)
-tallied-never l e t = go (enough (l .seats) (l .faults) (acksFor t (e .acks))) (mustPropose l e)
+tallied-never : (l : Ledger) (a : Account) (e : Entry) (t : Transfer) → NeverRefuses (finished l a (tallied l e t) .choice)
+tallied-never l a e t =
+    go (enough (l .seats) (l .faults) (acksFor t (e .acks))) (mustPropose (l .seats) (l .faults) (acksRecorded (e .acks)) e)
   where
     go : (full conflicting : Bool)
         → NeverRefuses
-        (cond full (accepted l (accept (l .entries) e t))
-        (cond conflicting (record { choice = proposes (e .acks); next = withEntry l (t .account) (withProposed e) })
-        (replies Note (withEntry l (t .account) e))) .choice)
+        (finished l a
+        (cond full (waits e t)
+        (cond conflicting (record { due = replied (proposes (e .acks)); entry = withProposed e }) (replies Note e))) .choice)
     go true c r h = impossible (cc)
     go false true r h = impossible (cc (h .1))
     go false false r h = impossible (cc)
 
-effect-never : (l : Ledger) (m : Message) → NeverRefuses (effect l m .choice)
-unfolding effect
-effect-never l (Request t) r h = impossible (cc)
-effect-never l (Circulated t) r h = impossible (cc)
-effect-never l (Ack s t) r h = tallied-never l (entryWithAck l s t) t r h
-effect-never l (Decision t) r h = impossible (cc)
-effect-never l (Inquiry a) r h = impossible (cc)
+effect-never : (l : Ledger) (a : Account) (e : Entry) (m : Message) → NeverRefuses (finished l a (effect l e m) .choice)
+effect-never l a e (Request t) r h = impossible (cc)
+effect-never l a e (Circulated t) r h = impossible (cc)
+effect-never l a e (Ack s t) r h = tallied-never l a (withAck e s t) t r h
+effect-never l a e (Decision t) r h = impossible (cc)
+effect-never l a e (Inquiry b) r h = impossible (cc)
+
+-- the rules that a message meets in a ledger, and the outcome of a refusal
+abbrev pub rulesIn : Ledger → Message → List Rule
+rulesIn l m = rulesOf l (entryOf l (payerOf m)) m
+
+abbrev pub refusal : Refusal → Ledger → Outcome
+refusal r l = record { choice = exactly (Refuse r); next = l }
 
 -- a reply R names the first rule that holds
-pub refused-by : (l : Ledger) (m : Message) (r : Refusal) → Answers l m (Refuse r) → firstRefusal (rulesOf l m) ≡ some r
+pub refused-by : (l : Ledger) (m : Message) (r : Refusal) → Answers l m (Refuse r) → firstRefusal (rulesIn l m) ≡ some r
 unfolding step
-refused-by l m r h = go (firstRefusal (rulesOf l m)) h
+refused-by l m r h = go (firstRefusal (rulesIn l m)) h
   where
-    go : (o : Option Refusal) → Allows (unlessRefused o l (effect l m) .choice) (Refuse r) → o ≡ some r
-    go none h = absurd (effect-never l m r h)
+    a : Account
+    a = payerOf m
+
+    e : Entry
+    e = entryOf l a
+
+    go : (o : Option Refusal) → Allows (finished l a (unlessRefused o e (effect l e m)) .choice) (Refuse r) → o ≡ some r
+    go none h = absurd (effect-never l a e m r h)
     go (some q) h = cc
 
 -- a message that a rule refuses replies its code and changes nothing
-pub refuses : (l : Ledger) (m : Message) (r : Refusal) → firstRefusal (rulesOf l m) ≡ some r → step l m ≡ replies (Refuse r) l
+pub refuses : (l : Ledger) (m : Message) (r : Refusal) → firstRefusal (rulesIn l m) ≡ some r → step l m ≡ refusal r l
 unfolding step
-refuses l m r e = rw e
+refuses l m r e = rw e (ap (refusal r) (with-entry-read l (payerOf m)))
 
 -- a refusal changes nothing
 pub refusal-keeps : (l : Ledger) (m : Message) (r : Refusal) → Answers l m (Refuse r) → step l m .next ≡ l
 refusal-keeps l m r h = rw (refuses l m r (refused-by l m r h))
 
 -- a message that no rule refuses has its effect
-pub not-refused : (l : Ledger) (m : Message) → firstRefusal (rulesOf l m) ≡ none → step l m ≡ effect l m
+pub not-refused : (l : Ledger) (m : Message) → firstRefusal (rulesIn l m) ≡ none
+    → step l m ≡ finished l (payerOf m) (effect l (entryOf l (payerOf m)) m)
 unfolding step
 not-refused l m e = rw e
 
@@ -108,11 +122,10 @@ open-refused o r h = go (firstRefusal (openRules o)) h
     go (some q) h = refl
 
 -- and that ledger refuses every message: acks with 4, all others with 5
-pub no-ledger-refuses : (m : Message) → (r : Refusal) × (step noLedger m ≡ replies (Refuse r) noLedger)
-unfolding rulesOf
+pub no-ledger-refuses : (m : Message) → (r : Refusal) × (step noLedger m ≡ refusal r noLedger)
 no-ledger-refuses m = (first m .0, refuses noLedger m (first m .0) (first m .1))
   where
-    first : (m : Message) → (r : Refusal) × (firstRefusal (rulesOf noLedger m) ≡ some r)
+    first : (m : Message) → (r : Refusal) × (firstRefusal (rulesIn noLedger m) ≡ some r)
     first (Request t) = (OutOfRange, rw (leb·zero (t .account .0)))
     first (Circulated t) = (OutOfRange, rw (leb·zero (t .account .0)))
     first (Ack s t) = (UnknownSeat, rw (leb·zero (s .0)))

@@ -9,10 +9,10 @@ use mathlib.Core.List.{List}
 use mathlib.Core.Option.{Option, none, some, Option·map}
 use lib.ListN.{length, List·getD-eq-default}
 use borrow.Author.Tests.{leb-true}
-use Rattle.model.specs.Types.{Account, Transfer, Slot, Empty, Full, Entry, Settled}
+use Rattle.model.specs.Types.{Account, Transfer, Slot, Empty, Full, Entry}
 use Rattle.model.specs.Records.{accountOf, freshEntry, entryAt, sumBalances, sumCurrents}
 use Rattle.model.specs.Basics.{firstWhere}
-use Rattle.model.specs.Settling.{affordable, lowestAffordable, waiting, apply, oneMore, settleAtMost, settle}
+use Rattle.model.specs.Settling.{Settled, affordable, lowestAffordable, waiting, apply, oneMore, settleAtMost, settle}
 use Rattle.model.proofs.Sums.{Found, first-found, first-none, impossible}
 use Rattle.model.proofs.Booking.{SameButBalance, Cleared, cleared-kept, Affordable, apply-waiting, apply-currents, apply-sum, apply-length, apply-clears, apply-others}
 

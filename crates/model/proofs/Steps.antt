@@ -8,16 +8,16 @@ use mathlib.Core.List.{List}
 use mathlib.Core.Option.{Option, none, some}
 use lib.Dec.{eqb, ltb}
 use borrow.Author.Tests.{leb-false}
-use Rattle.model.specs.Types.{Seat, Account, Transfer, Entry, Ledger, Settled, Refusal, Message, Request, Circulated, Ack, Decision, Inquiry, Reply, Circulate, Acknowledge, Accept, Propose, Note, Balance, Refuse}
-use Rattle.model.specs.Records.{entryOf, withEntry, withEntries, withAcked, withProposed}
-use Rattle.model.specs.Replies.{Allows}
-use Rattle.model.specs.Refusals.{firstRefusal, waitsAlready, ackFrom, rulesOf, outOfRange, unknownAccount}
-use Rattle.model.specs.Acks.{holds, conflicts, acksFor, enough, hasMost}
-use Rattle.model.specs.Settling.{accept}
-use Rattle.model.specs.Calls.{unlessRefused, mustPropose, entryWithAck, tallied, effect, step, Answers}
+use Rattle.model.specs.Types.{Seat, Account, Transfer, Entry, Ledger, Refusal, Message, Request, Circulated, Ack, Decision, Inquiry, Reply, Circulate, Acknowledge, Accept, Propose, Note, Balance, Refuse}
+use Rattle.model.specs.Records.{entryOf, setEntry, withEntry, withEntries, withAcked, withAck, withProposed, withPending}
+use Rattle.model.specs.Replies.{Outcome, Allows}
+use Rattle.model.specs.Refusals.{firstRefusal, waitsAlready, ackFrom, outOfRange, unknownAccount}
+use Rattle.model.specs.Acks.{holds, conflicts, acksFor, acksRecorded, enough, mustPropose, hasMost}
+use Rattle.model.specs.Settling.{Settled, settle}
+use Rattle.model.specs.Calls.{payerOf, tallied, effect, finished, step, Answers}
 use Rattle.model.proofs.Sums.{neither}
-use Rattle.model.proofs.Access.{SameGroup, with-entries}
-use Rattle.model.proofs.Refusing.{AllFail, none-holds, next-number}
+use Rattle.model.proofs.Access.{SameGroup, with-entries, with-entry-read}
+use Rattle.model.proofs.Refusing.{AllFail, none-holds, next-number, rulesIn, refuses, not-refused}
 
 -- what a slip is that 5 to 8 do not refuse
 pub record Eligible (l : Ledger) (t : Transfer) : Type 0 where
@@ -53,9 +53,13 @@ pub record Recordable (l : Ledger) (s : Seat) (t : Transfer) : Type 0 where
   pub not-equal : holds t (ackFrom (entryOf l (t .account)) s) ≡ false
   pub not-conflicting : conflicts t (ackFrom (entryOf l (t .account)) s) ≡ false
 
--- the account's entry and what was accepted in it
-abbrev acceptedIn : Ledger → Entry → Transfer → Settled
-acceptedIn l e t = accept (l .entries) e t
+-- the account's entry with the ack recorded: what K and P rest on
+abbrev pub entryWithAck : Ledger → Seat → Transfer → Entry
+entryWithAck l s t = withAck (entryOf l (t .account)) s t
+
+-- what settling leaves where a slip is accepted, and so waits, in this entry of its account
+abbrev pub acceptedIn : Ledger → Entry → Transfer → Settled
+acceptedIn l e t = settle (setEntry (l .entries) (t .account) (withPending e t))
 
 -- What happened: the message, the reply, the ledger after it, and why.
 pub data Happens (l : Ledger) (m : Message) (r : Reply) (next : Ledger) : Type 0 where
@@ -73,7 +77,7 @@ pub data Happens (l : Ledger) (m : Message) (r : Reply) (next : Ledger) : Type 0
   proposed : (s : Seat) (t u : Transfer)
       → m ≡ Ack s t → r ≡ Propose u → Eligible l t → Recordable l s t
       → enough (l .seats) (l .faults) (acksFor t (entryWithAck l s t .acks)) ≡ false
-      → mustPropose l (entryWithAck l s t) ≡ true
+      → mustPropose (l .seats) (l .faults) (acksRecorded (entryWithAck l s t .acks)) (entryWithAck l s t) ≡ true
       → hasMost (entryWithAck l s t .acks) u ≡ true
       → next ≡ withEntry l (t .account) (withProposed (entryWithAck l s t))
       → Happens l m r next
@@ -90,30 +94,33 @@ pub data Happens (l : Ledger) (m : Message) (r : Reply) (next : Ledger) : Type 0
 
 -- what the tally makes of a recorded ack
 tally-happens : (l : Ledger) (s : Seat) (t : Transfer) (r : Reply) → Eligible l t → Recordable l s t
-    → Allows (tallied l (entryWithAck l s t) t .choice) r → Happens l (Ack s t) r (tallied l (entryWithAck l s t) t .next)
-tally-happens l s t r ok new h =
-    go
-    (enough (l .seats) (l .faults) (acksFor t (e .acks))) refl
-    (mustPropose l e) refl
-    h
+    → Allows (finished l (t .account) (tallied l (entryWithAck l s t) t) .choice) r
+    → Happens l (Ack s t) r (finished l (t .account) (tallied l (entryWithAck l s t) t) .next)
+tally-happens l s t r ok new h = go (enough (l .seats) (l .faults) (acksFor t (e .acks))) refl (must e) refl h
   where
     e : Entry
     e = entryWithAck l s t
 
+    must : Entry → Bool
+    must e = mustPropose (l .seats) (l .faults) (acksRecorded (e .acks)) e
+
     go : (full : Bool) → enough (l .seats) (l .faults) (acksFor t (e .acks)) ≡ full
-        → (split : Bool) → mustPropose l e ≡ split
-        → Allows (tallied l e t .choice) r → Happens l (Ack s t) r (tallied l e t .next)
+        → (split : Bool) → must e ≡ split
+        → Allows (finished l (t .account) (tallied l e t) .choice) r → Happens l (Ack s t) r (finished l (t .account) (tallied l e t) .next)
     go true full split must h = accepted-by-acks s t refl (rw full at h) ok new full (rw full)
     go false full true must h =
         let free = rw (full, must) at h in
         proposed s t (free .0) refl (free .1) ok new full must (free .2) (rw (full, must))
     go false full false must h = noted s t refl (rw (full, must) at h) ok new full (rw (full, must))
 
+-- the effect of a message in a ledger
+abbrev effectIn : Ledger → Message → Outcome
+effectIn l m = finished l (payerOf m) (effect l (entryOf l (payerOf m)) m)
+
 -- what a message does that no rule refuses
-effect-happens : (l : Ledger) (m : Message) (r : Reply) → AllFail (rulesOf l m) → Allows (effect l m .choice) r
-    → Happens l m r (effect l m .next)
-unfolding effect rulesOf
-effect-happens l (Request t) r fail h = circulated t refl h refl
+effect-happens : (l : Ledger) (m : Message) (r : Reply) → AllFail (rulesIn l m) → Allows (effectIn l m .choice) r
+    → Happens l m r (effectIn l m .next)
+effect-happens l (Request t) r fail h = circulated t refl h (with-entry-read l (t .account))
 effect-happens l (Circulated t) r fail h =
     let next = next-number (entryOf l (t .account)) t (fail .1 .0) (fail .1 .1 .0) in
     acknowledged t refl h (eligible l t (fail .0) next (fail .1 .1 .1 .0)) (fail .1 .1 .1 .1 .0) refl
@@ -129,17 +136,15 @@ effect-happens l (Ack s t) r fail h =
 effect-happens l (Decision t) r fail h =
     let next = next-number (entryOf l (t .account)) t (fail .1 .0) (fail .1 .1 .0) in
     accepted-by-ruling t refl h (eligible l t (fail .0) next (fail .1 .1 .1 .0)) refl
-effect-happens l (Inquiry a) r fail h = told a refl h refl
+effect-happens l (Inquiry a) r fail h = told a refl h (with-entry-read l a)
 
 -- every message that is answered, whatever the ledger
 pub happens : (l : Ledger) (m : Message) (r : Reply) → Answers l m r → Happens l m r (step l m .next)
-unfolding step
-happens l m r h = go (firstRefusal (rulesOf l m)) refl h
+happens l m r h = go (firstRefusal (rulesIn l m)) refl
   where
-    go : (o : Option Refusal) → firstRefusal (rulesOf l m) ≡ o → Allows (unlessRefused o l (effect l m) .choice) r
-        → Happens l m r (unlessRefused o l (effect l m) .next)
-    go none e h = effect-happens l m r (none-holds (rulesOf l m) e) h
-    go (some q) e h = refused q h refl
+    go : (o : Option Refusal) → firstRefusal (rulesIn l m) ≡ o → Happens l m r (step l m .next)
+    go none e = rw (not-refused l m e) (effect-happens l m r (none-holds (rulesIn l m) e) (rw (not-refused l m e) at h))
+    go (some q) e = rw (refuses l m q e) (refused q (rw (refuses l m q e) at h) refl)
 
 -- no message changes n, f, k or the opening sum
 pub step-group : (l : Ledger) (m : Message) (r : Reply) → Answers l m r → SameGroup (step l m .next) l

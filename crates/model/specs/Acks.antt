@@ -1,9 +1,9 @@
 -- Document 01, "Ack": the running tally of one number, read off the acks that are recorded for it.
-use Prim.Native.Nat.{ℕ, _+_, _*_}
-use mathlib.Core.Bool.{Bool, true, false}
+use Prim.Native.Nat.{ℕ, _+_, _*_, _-_}
+use mathlib.Core.Bool.{Bool, true, false, not, _&&_}
 use mathlib.Core.List.{List}
 use lib.Dec.{leb, ltb}
-use Rattle.model.specs.Types.{Transfer, Slot, Empty, Full, AckSlot}
+use Rattle.model.specs.Types.{Transfer, Slot, Empty, Full, AckSlot, Entry}
 use Rattle.model.specs.Basics.{count, any, every}
 use Rattle.model.specs.Transfers.{equal, conflict}
 
@@ -41,6 +41,11 @@ conflictsWithAny acks (Full t) = any (λ a. conflicts t (a .slot)) acks
 -- "two of them conflict"
 abbrev pub twoConflict : List AckSlot → Bool
 twoConflict acks = any (λ a. conflictsWithAny acks (a .slot)) acks
+
+-- "if at least n - f seats' acks are recorded, two of them conflict, and nothing was put forward for this number": of the account's entry, and of how
+-- many acks are recorded in it
+abbrev pub mustPropose : ℕ → ℕ → ℕ → Entry → Bool
+mustPropose n f recorded e = leb (n - f) recorded && twoConflict (e .acks) && not (e .proposed)
 
 -- the slip in this place, if any, has no more than c of the acks
 abbrev pub noMoreThan : ℕ → List AckSlot → Slot → Bool

@@ -1,68 +1,95 @@
--- Document 01, "What each message does": for each kind of call the reply and the ledger after it.
-use Prim.Native.Nat.{ℕ, _-_}
+-- Document 01, "What each message does": for each kind of call the reply and the ledger after it. A message is about one account. What it comes to
+-- is said of that account's entry (`turnAt`), which is then stored and, where its slip is accepted, settled (`step`).
+use Prim.Native.Nat.{ℕ}
 use mathlib.Core.Path.{_≡_}
-use mathlib.Core.Bool.{Bool, not, cond, _&&_}
+use mathlib.Core.Bool.{cond}
 use mathlib.Core.List.{List, _++_}
 use mathlib.Core.Option.{Option, none, some}
-use lib.Dec.{leb, eqb}
+use lib.Dec.{eqb}
 use lib.ListN.{length, drop}
-use Rattle.model.specs.Types.{Seat, Transfer, Entry, Ledger, Settled, Refusal, Message, Request, Circulated, Ack, Decision, Inquiry, Reply, Circulate, Acknowledge, Accept, Note, Balance, Refuse, ListReply, Listed, ListRefused}
+use Rattle.model.specs.Types.{Account, Transfer, Entry, Ledger, Refusal, Message, Request, Circulated, Ack, Decision, Inquiry, Reply, Circulate, Acknowledge, Accept, Note, Balance, Refuse, ListReply, Listed, ListRefused}
 use Rattle.model.specs.Basics.{bit, count}
-use Rattle.model.specs.Records.{accountOf, entryOf, withEntry, withEntries, withAcked, withAck, withProposed}
-use Rattle.model.specs.Replies.{exactly, proposes, Outcome, Allows}
+use Rattle.model.specs.Records.{accountOf, entryOf, setEntry, withEntry, withEntries, withAcked, withAck, withProposed, withPending}
+use Rattle.model.specs.Replies.{Choice, exactly, proposes, Outcome, Allows}
 use Rattle.model.specs.Refusals.{firstRefusal, rulesOf, listRules}
-use Rattle.model.specs.Acks.{acksFor, acksRecorded, enough, twoConflict}
-use Rattle.model.specs.Settling.{isWaiting, accept}
+use Rattle.model.specs.Acks.{acksFor, acksRecorded, enough, mustPropose}
+use Rattle.model.specs.Settling.{isWaiting, Settled, settle}
 
--- this reply, and this ledger after it
-abbrev pub replies : Reply → Ledger → Outcome
-replies r l = record { choice = exactly r; next = l }
+-- the account that a message is about: who pays, or the account asked for
+abbrev pub payerOf : Message → Account
+payerOf (Request t) = t .account
+payerOf (Circulated t) = t .account
+payerOf (Ack s t) = t .account
+payerOf (Decision t) = t .account
+payerOf (Inquiry a) = a
 
--- "K carries how many slips this call booked"
-abbrev pub accepted : Ledger → Settled → Outcome
-accepted l s = replies (Accept (s .applied)) (withEntries l (s .entries))
+-- what is due: a reply; or K, since the slip is accepted, and its count is for settling to tell
+pub data Due : Type 0 where
+  replied : Choice → Due
+  accepts : Due
 
--- "at least n - f seats' acks are recorded, two of them conflict, and nothing was put forward for this number"
-abbrev pub mustPropose : Ledger → Entry → Bool
-mustPropose l e = leb (l .seats - l .faults) (acksRecorded (e .acks)) && twoConflict (e .acks) && not (e .proposed)
+-- What a message comes to at the entry of its account: what is due, and the entry after it.
+pub record Effect : Type 0 where
+  pub due : Due
+  pub entry : Entry
 
--- the account's entry with the ack recorded: what K and P rest on
-abbrev pub entryWithAck : Ledger → Seat → Transfer → Entry
-entryWithAck l s t = withAck (entryOf l (t .account)) s t
+-- this reply, and this entry after it
+abbrev pub replies : Reply → Entry → Effect
+replies r e = record { due = replied (exactly r); entry = e }
+
+-- "its slip is accepted: reply K": "An accepted slip waits"
+abbrev pub waits : Entry → Transfer → Effect
+waits e t = record { due = accepts; entry = withPending e t }
 
 -- "If twice the count of acks equal to this slip exceeds n + 3f, the slip is accepted: reply K. Otherwise, if .. reply P ..
 -- Otherwise reply N": what follows from the account's entry in which the ack is recorded
-abbrev pub tallied : Ledger → Entry → Transfer → Outcome
+abbrev pub tallied : Ledger → Entry → Transfer → Effect
 tallied l e t =
     cond
     (enough (l .seats) (l .faults) (acksFor t (e .acks)))
-    (accepted l (accept (l .entries) e t))
+    (waits e t)
     (cond
-    (mustPropose l e)
-    (record { choice = proposes (e .acks); next = withEntry l (t .account) (withProposed e) })
-    (replies Note (withEntry l (t .account) e)))
+    (mustPropose (l .seats) (l .faults) (acksRecorded (e .acks)) e)
+    (record { due = replied (proposes (e .acks)); entry = withProposed e })
+    (replies Note e))
 
 -- What a message does that is not refused.
-unfoldable pub effect : Ledger → Message → Outcome
+abbrev pub effect : Ledger → Entry → Message → Effect
 -- Request: "reply C (circulate it). The book stays the same."
-effect l (Request t) = replies Circulate l
+effect l e (Request t) = replies Circulate e
 -- Slip: "reply A (ack it). This seat has now acked that number."
-effect l (Circulated t) = replies Acknowledge (withEntry l (t .account) (withAcked (entryOf l (t .account))))
+effect l e (Circulated t) = replies Acknowledge (withAcked e)
 -- Ack: "it is recorded", then the tally decides
-effect l (Ack s t) = tallied l (entryWithAck l s t) t
+effect l e (Ack s t) = tallied l (withAck e s t) t
 -- Ruling: "its slip is accepted: reply K."
-effect l (Decision t) = accepted l (accept (l .entries) (entryOf l (t .account)) t)
+effect l e (Decision t) = waits e t
 -- Balance question: "reply B and the balance."
-effect l (Inquiry a) = replies (Balance (entryOf l a .balance)) l
+effect l e (Inquiry a) = replies (Balance (e .balance)) e
 
 -- "A refusal replies its code and changes nothing."
-abbrev pub unlessRefused : Option Refusal → Ledger → Outcome → Outcome
-unlessRefused none l o = o
-unlessRefused (some r) l o = replies (Refuse r) l
+abbrev pub unlessRefused : Option Refusal → Entry → Effect → Effect
+unlessRefused none e x = x
+unlessRefused (some r) e x = replies (Refuse r) e
+
+-- Any message at the entry of its account.
+abbrev pub turnAt : Ledger → Entry → Message → Effect
+turnAt l e m = unlessRefused (firstRefusal (rulesOf l e m)) e (effect l e m)
+
+-- "K carries how many slips this call booked"
+abbrev pub accepted : Ledger → Settled → Outcome
+accepted l s = record { choice = exactly (Accept (s .applied)); next = withEntries l (s .entries) }
+
+-- the entry is stored; where its slip is accepted, "then settling begins"
+abbrev pub finishedBy : Ledger → Account → Due → Entry → Outcome
+finishedBy l a (replied c) e = record { choice = c; next = withEntry l a e }
+finishedBy l a accepts e = accepted l (settle (setEntry (l .entries) a e))
+
+abbrev pub finished : Ledger → Account → Effect → Outcome
+finished l a x = finishedBy l a (x .due) (x .entry)
 
 -- The outcome of a message, for every ledger and every message.
 unfoldable pub step : Ledger → Message → Outcome
-step l m = unlessRefused (firstRefusal (rulesOf l m)) l (effect l m)
+step l m = finished l (payerOf m) (turnAt l (entryOf l (payerOf m)) m)
 
 -- The replies that a message may get: one, save for P on a tie.
 abbrev pub Answers : Ledger → Message → Reply → Type 0

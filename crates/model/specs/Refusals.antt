@@ -6,7 +6,6 @@ use mathlib.Core.Option.{Option, none, some}
 use lib.Dec.{leb, ltb, eqb}
 use lib.ListN.{length, getD}
 use Rattle.model.specs.Types.{Seat, Account, Transfer, Slot, Empty, Full, Entry, Ledger, Message, Request, Circulated, Ack, Decision, Inquiry, Refusal, UnknownSeat, OutOfRange, PastNumber, FutureNumber, AlreadyAccepted, AckRepeated, AckConflicting, InsufficientFunds, AlreadyAcked, ShortBuffer}
-use Rattle.model.specs.Records.{entryOf}
 use Rattle.model.specs.Transfers.{sameNumber}
 use Rattle.model.specs.Acks.{holds, conflicts}
 
@@ -86,13 +85,13 @@ decisionRules l e t = transferRules l e t
 abbrev pub inquiryRules : Ledger → Account → List Rule
 inquiryRules l a = (unknownAccount l a, OutOfRange) ∷ []
 
--- the rules of any message, in their order
-unfoldable pub rulesOf : Ledger → Message → List Rule
-rulesOf l (Request t) = requestRules l (entryOf l (t .account)) t
-rulesOf l (Circulated t) = circulatedRules l (entryOf l (t .account)) t
-rulesOf l (Ack s t) = ackRules l (entryOf l (t .account)) s t
-rulesOf l (Decision t) = decisionRules l (entryOf l (t .account)) t
-rulesOf l (Inquiry a) = inquiryRules l a
+-- the rules of any message, in their order, given the entry of its account
+abbrev pub rulesOf : Ledger → Entry → Message → List Rule
+rulesOf l e (Request t) = requestRules l e t
+rulesOf l e (Circulated t) = circulatedRules l e t
+rulesOf l e (Ack s t) = ackRules l e s t
+rulesOf l e (Decision t) = decisionRules l e t
+rulesOf l e (Inquiry a) = inquiryRules l a
 
 -- the waiting list: 17, a buffer under 32 bytes
 abbrev pub listRules : List ℕ → List Rule

@@ -1,13 +1,13 @@
--- Document 01: an accepted slip waits, then settling begins; and what booking does.
+-- Document 01: settling, and what booking does.
 use Prim.Native.Nat.{ℕ, zero, suc, _+_, _-_, _%_}
 use mathlib.Core.Bool.{Bool, false}
 use mathlib.Core.List.{List}
 use mathlib.Core.Option.{Option, none, some, Option·map}
 use lib.Dec.{leb}
 use lib.ListN.{length}
-use Rattle.model.specs.Types.{Account, Transfer, Slot, Empty, Full, Entry, Settled}
+use Rattle.model.specs.Types.{Account, Transfer, Slot, Empty, Full, Entry}
 use Rattle.model.specs.Basics.{count, firstWhere}
-use Rattle.model.specs.Records.{accountOf, entryAt, setEntry, withBalance, withBooked, withPending}
+use Rattle.model.specs.Records.{accountOf, entryAt, setEntry, withBalance, withBooked}
 use Rattle.model.specs.Acks.{isFull}
 
 -- an accepted slip of the account waits
@@ -51,6 +51,11 @@ applySlot es a (Full t) = credit (setEntry es a (debited (entryAt es a) t)) (t .
 unfoldable pub apply : List Entry → Account → List Entry
 apply es a = applySlot es a (entryAt es a .pending)
 
+-- what settling leaves: how many slips it booked, and the entries
+pub record Settled : Type 0 where
+  pub applied : ℕ
+  pub entries : List Entry
+
 abbrev pub oneMore : Settled → Settled
 oneMore s = record { applied = suc (s .applied); entries = s .entries }
 
@@ -66,7 +71,3 @@ settleAtMost (suc n) es =
 
 unfoldable pub settle : List Entry → Settled
 settle es = settleAtMost (waiting es) es
-
--- "An accepted slip waits, then settling begins." The account's entry is handed in as the call has it.
-unfoldable pub accept : List Entry → Entry → Transfer → Settled
-accept es e t = settle (setEntry es (t .account) (withPending e t))

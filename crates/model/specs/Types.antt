@@ -20,7 +20,6 @@ pub use Rattle.model.specs.declared.OpenReply.the-variants.{Opened, Open
 pub use Rattle.model.specs.declared.OpenAnswer.{OpenAnswer}
 pub use Rattle.model.specs.declared.ListReply.{ListReply}
 pub use Rattle.model.specs.declared.ListReply.the-variants.{Listed, ListRefused}
-pub use Rattle.model.specs.declared.Settled.{Settled}
 pub use Rattle.model.specs.declared.ContentsEntry.{ContentsEntry}
 pub use Rattle.model.specs.declared.BundleReply.{BundleReply}
 pub use Rattle.model.specs.declared.BundleReply.the-variants.{Sound, BundleRefused}

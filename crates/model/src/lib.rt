@@ -133,12 +133,6 @@ pub enum ListReply {
     ListRefused(Refusal),
 }
 
-// What settling leaves: how many transfers it applied, and the entries.
-pub struct Settled {
-    pub applied: u32,
-    pub entries: [Entry; 32],
-}
-
 // One entry of a bundle's contents.
 pub struct ContentsEntry {
     pub kind: u8,

@@ -12,14 +12,14 @@ use Rattle.model.specs.declared.Reply.{Reply}
 use Rattle.model.specs.declared.Reply.the-variants.{Accept}
 use Rattle.model.specs.Records.{accountOf, freshEntry, withEntries, withEntry}
 use Rattle.model.specs.Replies.{Meets}
-use Rattle.model.specs.Calls.{step}
+use Rattle.model.specs.Calls.{payerOf, turnAt, finished, step}
 use Rattle.settling.specs.declared.Funds.{Funds}
 use Rattle.settling.specs.declared.SettledFunds.{SettledFunds}
 use Rattle.settling.specs.Funds.{fundsOf, withFunds, withAllFunds, SettlesAs}
 use Rattle.settling.proofs.FundsLaws.{entry-with-funds, stored-with-funds}
 use Rattle.turns.specs.declared.Verdict.the-variants.{Replies, Accepts}
 use Rattle.turns.specs.declared.Turn.{Turn}
-use Rattle.turns.specs.Turns.{payerOf, turnAt, finished, Takes}
+use Rattle.turns.specs.Turns.{Takes}
 use Rattle.turns.proofs.Stepping.{step-at, turn-head}
 use Rattle.ledger.proofs.Finishing.{finish-reply, finish-accepted}
 use Rattle.replay.specs.Promises.{fundsAt, live}

@@ -6,11 +6,10 @@ use mathlib.Core.Option.{some}
 use lib.ListN.{set, replicate}
 use Rattle.model.specs.Records.{noAcks}
 use Rattle.model.specs.Transfers.{equal, conflict}
-use Rattle.model.specs.Refusals.{rulesOf}
 use Rattle.model.specs.Openings.{openLedger}
 use Rattle.model.specs.Acks.{hasMost}
-use Rattle.model.specs.Settling.{lowestAffordable, apply, settleAtMost, settle, accept}
-use Rattle.model.specs.Calls.{effect, step}
+use Rattle.model.specs.Settling.{lowestAffordable, apply, settleAtMost, settle}
+use Rattle.model.specs.Calls.{step}
 use Rattle.model.specs.Bundles.{checkBundle}
 use Rattle.text.specs.Lines.{decimal}
 use Rattle.text.proofs.Facts.{bytesOf}
@@ -69,7 +68,7 @@ pub facts : (fixedText case ≡ some nineLines)
     × (fixedText zeros ≡ some (bytesOf "F 1 0\n"))
     × (fixedText (set case 200 1) ≡ some (bytesOf "F 16 1\n"))
     × (fixedText [] ≡ some (bytesOf "F 13 0\n"))
-unfolding case funds zeros decimal noAcks equal conflict hasMost rulesOf openLedger lowestAffordable apply settleAtMost settle accept effect step checkBundle
+unfolding case funds zeros decimal noAcks equal conflict hasMost openLedger lowestAffordable apply settleAtMost settle step checkBundle
 facts = (refl, refl, refl, refl, refl)
 
 -- document 01's nine lines are the text of its case, and nothing else is

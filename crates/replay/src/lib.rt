@@ -33,7 +33,7 @@ ghost use mathlib.Core.Path.{_≡_};
 ghost use Prim.Native.Nat.{_-_, _≤_, _<_};
 ghost use Rattle.model.specs.declared.BundleReply.the-variants.{Sound};
 ghost use Rattle.model.specs.Bundles.{entryCount};
-ghost use Rattle.turns.specs.Turns.{payerOf};
+ghost use Rattle.model.specs.Calls.{payerOf};
 ghost use Rattle.text.specs.Outputs.{Writes};
 ghost use Rattle.ledger.specs.Promises.{ListedAs};
 ghost use Rattle.replay.specs.Text.{ledgerFrom, LinesFrom, opened, CheckedText};

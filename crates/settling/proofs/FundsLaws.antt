@@ -7,9 +7,8 @@ use mathlib.Core.List.{List, [], _∷_, map}
 use lib.ListN.{length, getD, set, replicate}
 use lib.Seq.{set-getD}
 use Rattle.model.specs.declared.Entry.{Entry}
-use Rattle.model.specs.declared.Settled.{Settled}
 use Rattle.model.specs.Records.{freshEntry}
-use Rattle.model.specs.Settling.{isWaiting, waiting, settle}
+use Rattle.model.specs.Settling.{isWaiting, waiting, Settled, settle}
 use Rattle.model.proofs.Settles.{settle-waiting}
 use Rattle.basics.proofs.Counting.{count-most}
 use Rattle.settling.specs.declared.Funds.{Funds}

@@ -10,8 +10,8 @@ ghost use mathlib.Core.Path.{_≡_};
 ghost use mathlib.Core.Bool.{true};
 ghost use Prim.Native.Nat.{_+_, _<_, _≤_};
 ghost use Rattle.model.specs.Basics.{bit, any};
-ghost use Rattle.model.specs.Acks.{conflicts, acksFor, enough, conflictsWithAny, twoConflict, noMoreThan, hasMost};
-ghost use Rattle.tally.specs.Results.{tallyOf, counted, proposesWith};
+ghost use Rattle.model.specs.Acks.{conflicts, acksFor, enough, conflictsWithAny, twoConflict, mustPropose, noMoreThan, hasMost};
+ghost use Rattle.tally.specs.Results.{tallyOf, counted};
 
 // The running tally of one number, for one transfer.
 pub struct Tally {
@@ -155,7 +155,7 @@ pub fn most_acked(acks: [AckSlot; 16], first: Transfer) -> Transfer
 
 // At least n - f acks are recorded, two conflict, and nothing was put forward for this number. The dear test comes last.
 pub fn must_propose(seats: u8, faults: u8, recorded: u8, e: Entry) -> bool
-    ensures { λ r. ⌜ r ≡ proposesWith seats faults recorded e ⌝ }
+    ensures { λ r. ⌜ r ≡ mustPropose seats faults recorded e ⌝ }
 {
     let acks = e.acks;
     if e.proposed {

@@ -27,7 +27,8 @@ ghost use Rattle.model.specs.declared.Reply.the-variants.{Refuse};
 ghost use Rattle.model.specs.Records.{withPending};
 ghost use Rattle.turns.specs.declared.Turn.{Turn};
 ghost use Rattle.turns.specs.declared.Verdict.the-variants.{Replies, Accepts};
-ghost use Rattle.turns.specs.Turns.{payerOf, talliedAt, turnAt, Takes};
+ghost use Rattle.model.specs.Calls.{payerOf, tallied, turnAt};
+ghost use Rattle.turns.specs.Turns.{Takes};
 
 mod checks;
 
@@ -147,7 +148,7 @@ fn inquire(l: Ledger, e: Entry, a: Account) -> Turn
 
 // What follows from the account's entry in which the ack is recorded: K, P or N.
 fn by_tally(l: Ledger, e: Entry, t: Transfer) -> Turn
-    ensures { λ r. ⌜ Takes (talliedAt l e t) r ⌝ }
+    ensures { λ r. ⌜ Takes (tallied l e t) r ⌝ }
 {
     let acks = e.acks;
     let y = tally_of(t, acks);

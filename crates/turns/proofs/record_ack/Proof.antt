@@ -1,7 +1,8 @@
 -- Refused by its rules, or recorded; then the tally decides.
 use mathlib.Core.Path.{subst}
 use Rattle.model.specs.declared.Message.the-variants.{Ack}
-use Rattle.turns.specs.Turns.{talliedAt, Takes}
+use Rattle.model.specs.Calls.{tallied}
+use Rattle.turns.specs.Turns.{Takes}
 use Rattle.turns.proofs.Taking.{refused, served}
 use borrow.Author.Needs.{needs}
 use Rattle.turns.proofs.record_ack.Statement.{statement}
@@ -34,7 +35,7 @@ returns-2 : tie.Need-returns-2
 returns-2 c =
     let a = c .before .before .before .before .before .args in
     served (a .l) (a .e) (Ack (a .s) (a .t)) _ (c .before .before .before .before .ack-check .ensures) _ (c .before .before .enum-told .given .1)
-    (subst (λ e. Takes (talliedAt (a .l) e (a .t)) (c .by-tally .result)) (c .before .with-ack .ensures) (c .by-tally .ensures))
+    (subst (λ e. Takes (tallied (a .l) e (a .t)) (c .by-tally .result)) (c .before .with-ack .ensures) (c .by-tally .ensures))
 
 pub record-ack-spec : {M : Type 1} → statement M
 record-ack-spec =

@@ -7,7 +7,7 @@ use mathlib.Core.Path.{_≡_, refl, ap}
 use mathlib.Core.Bool.{Bool, true, false, _&&_, _||_, or-true}
 use mathlib.Core.List.{List, [], _∷_}
 use mathlib.Core.Option.{none, some}
-use lib.ListN.{length, getD, set}
+use lib.ListN.{length, getD, take, set}
 use Rattle.model.specs.Basics.{sumOf, any, every, firstWhere}
 
 module _ {A : Type 0} (f : A → ℕ) where
@@ -28,6 +28,15 @@ module _ {A : Type 0} (f : A → ℕ) where
   sum-at-least [] i d h = absurd (not-suc-le-zero h)
   sum-at-least (y ∷ ys) zero d h = omega arith
   sum-at-least (y ∷ ys) (suc i) d h = omega (arith, sum-at-least ys i d (le-of-suc-le-suc h))
+
+  -- where no element behind the first k has a number, the first k have the whole sum
+  pub sum-front : (xs : List A) (d : A) (k : ℕ) → ((i : ℕ) → k ≤ i → f (getD xs i d) ≡ 0) → sumOf f (take k xs) ≡ sumOf f xs
+  sum-front [] d zero none-behind = refl
+  sum-front [] d (suc k) none-behind = refl
+  sum-front (x ∷ xs) d zero none-behind =
+      omega (arith, none-behind 0 (omega arith), sum-front xs d zero (λ i above. none-behind (suc i) (omega arith)))
+  sum-front (x ∷ xs) d (suc k) none-behind =
+      ap (λ (n : ℕ). f x + n) (sum-front xs d k (λ i above. none-behind (suc i) (omega arith)))
 
 -- from two numbers that differ, anything
 pub impossible : {A : Type 0} → _≡_ {A = ℕ} 0 1 → A

@@ -68,6 +68,12 @@ pub neither : (a b : Bool) → (a || b) ≡ false → (a ≡ false) × (b ≡ fa
 neither true b e = impossible (cc)
 neither false b e = (refl, e)
 
+-- a test that no element passes, nor what is read behind the last
+pub any-none : {A : Type 0} (p : A → Bool) (xs : List A) (d : A) → any p xs ≡ false → p d ≡ false → (i : ℕ) → p (getD xs i d) ≡ false
+any-none p [] d e last i = last
+any-none p (x ∷ xs) d e last zero = neither (p x) (any p xs) e .0
+any-none p (x ∷ xs) d e last (suc i) = any-none p xs d (neither (p x) (any p xs) e .1) last i
+
 -- a test that all elements pass, and another that each passes which passes the first
 pub every-all : {A : Type 0} (p : A → Bool) (xs : List A) → ((x : A) → p x ≡ true) → every p xs ≡ true
 every-all p [] h = refl

@@ -13,6 +13,7 @@ use Rattle.agreement.proofs.Places.{before, happened-found, happened-ho
 use Rattle.agreement.proofs.Deeds.{that-slip, deed-found}
 use Rattle.agreement.proofs.Soundness.{opened-entry, next-waits, group, Sound}
 use Rattle.agreement.proofs.Reachable.{sound, stays, everywhere, past-calls}
+use Rattle.agreement.proofs.Accounts.{behind, accounts-sum}
 use Rattle.agreement.proofs.StepLaws.{answer-exactly, BookedOrWaits, current-rises, stays-settled, just-settled, Turn, keeps, accepts, turn}
 use Rattle.agreement.proofs.Slated.{slated}
 use Rattle.agreement.proofs.Reasons.{all-reasons, decided-accepted}
@@ -160,6 +161,8 @@ always o run opens obeys =
       sums = λ p s w.
           let ok = sound o opens s p (obeys-before o obeys w) in
           (ok .sum-same, rw (ok .sum-same) (group o opens .sum-fits));
+      behind = λ p s a w. behind o opens s p (obeys-before o obeys w) a;
+      accounts-sum = λ p s w. accounts-sum o opens s p (obeys-before o obeys w);
       plain = λ p s a w.
           let match = slated o opens s p (obeys-before o obeys w) in
           (match .balance-is a, match .count-is a);

@@ -4,6 +4,7 @@ use Prim.Native.Nat.{ℕ, _+_, _≤_, _<_}
 use mathlib.Core.Path.{_≡_}
 use mathlib.Core.Bool.{Bool, true, false, not, _&&_, _||_}
 use mathlib.Core.Option.{some}
+use lib.ListN.{take}
 use Rattle.agreement.specs.Types.{Seat, Account, Transfer, Full, Ledger, Opening, Message, Request, Circulated, Ack, Decision, Inquiry, Accept}
 use Rattle.agreement.specs.Runs.{Opens, Call, message, waitingList, Event, Run, _▹_, Within, happened, sameSeat, ledgerAt, Obeys, isAccept, isRefusal, acked, accepted, ruled, passes}
 use Rattle.agreement.specs.Slates.{slateAt}
@@ -45,6 +46,12 @@ pub record Facts (o : Opening) (run : Run) : Type 0 where
   -- "Balances always add up to the opening sum", which is below 2^32
   pub sums : (p : Run) (s : Seat) → Within p run
       → (sumBalances (ledgerAt o s p .entries) ≡ sumOf (λ b. b) (o .balances)) × (sumBalances (ledgerAt o s p .entries) < 4_294_967_296)
+  -- behind the k-th account every balance and current number stays 0
+  pub behind : (p : Run) (s : Seat) (a : Account) → Within p run → o .accounts ≤ a .0
+      → (entryOf (ledgerAt o s p) a .balance ≡ 0) × (entryOf (ledgerAt o s p) a .current ≡ 0)
+  -- so the balances of the k accounts, which `daybook` prints, add up to the opening sum
+  pub accounts-sum : (p : Run) (s : Seat) → Within p run
+      → sumBalances (take (o .accounts) (ledgerAt o s p .entries)) ≡ sumOf (λ b. b) (o .balances)
   -- each balance is the slate's, in plain numbers, so no sum ever reached the modulus; and each current number is the slate's count
   pub plain : (p : Run) (s : Seat) (a : Account) → Within p run
       → (entryOf (ledgerAt o s p) a .balance ≡ slateAt o s p .balance a) × (entryOf (ledgerAt o s p) a .current ≡ slateAt o s p .count a)

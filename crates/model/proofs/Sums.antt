@@ -8,7 +8,7 @@ use mathlib.Core.Bool.{Bool, true, false, _&&_, _||_, or-true}
 use mathlib.Core.List.{List, [], _∷_}
 use mathlib.Core.Option.{none, some}
 use lib.ListN.{length, getD, take, set}
-use Rattle.model.specs.Basics.{sumOf, any, every, firstWhere}
+use Rattle.model.specs.Basics.{bit, sumOf, count, any, every, firstWhere}
 
 module _ {A : Type 0} (f : A → ℕ) where
   -- one element is replaced: the sum changes by the difference of the two
@@ -57,6 +57,15 @@ pub any-holds : {A : Type 0} (p : A → Bool) (xs : List A) (d : A) (i : ℕ) �
 any-holds p [] d i h e = absurd (not-suc-le-zero h)
 any-holds p (x ∷ xs) d zero h e = rw e
 any-holds p (x ∷ xs) d (suc i) h e = rw (any-holds p xs d i (le-of-suc-le-suc h) e) (or-true (p x))
+
+-- a count that is not 0 counts some element
+pub some-counted : {A : Type 0} (p : A → Bool) (xs : List A) (d : A) → 1 ≤ count p xs → (i : ℕ) × (p (getD xs i d) ≡ true)
+some-counted p [] d h = absurd (omega arith)
+some-counted p (x ∷ xs) d h = go (p x) refl (some-counted p xs d)
+  where
+    go : (b : Bool) → p x ≡ b → (1 ≤ count p xs → (i : ℕ) × (p (getD xs i d) ≡ true)) → (i : ℕ) × (p (getD (x ∷ xs) i d) ≡ true)
+    go true e rest = (0, e)
+    go false e rest = let found = rest (omega (arith, ap bit e)) in (suc (found .0), found .1)
 
 -- both parts of a test that passes
 pub both : (a b : Bool) → (a && b) ≡ true → (a ≡ true) × (b ≡ true)

@@ -6,14 +6,15 @@ use mathlib.Core.Logic.{_⊎_, inl, inr}
 use mathlib.Core.Bool.{Bool, true, false, _&&_, _||_, or-true}
 use mathlib.Core.Option.{some}
 use borrow.Author.Tests.{leb-false}
-use Rattle.agreement.specs.Types.{Seat, Account, Transfer, Slot, Empty, Full, Ledger, Opening, Message, Request, Circulated, Ack, Decision, Inquiry, Reply, Accept}
-use Rattle.agreement.specs.Runs.{Opens, Call, message, waitingList, Event, Run, _▹_, Within, sameSeat, ledgerAt, Conforms, Obeys, accepted, ruled, passes}
+use Rattle.agreement.specs.Types.{Seat, Account, Transfer, Slot, Empty, Full, Ledger, Opening, Message, Request, Circulated, Ack, Decision, Inquiry, Reply, Accept, Propose}
+use Rattle.agreement.specs.Runs.{Opens, Call, message, waitingList, Event, Run, _▹_, Within, sameSeat, ledgerAt, Conforms, Obeys, accepted, proposed, ruled, passes}
 use Rattle.agreement.specs.Facts.{answeredK, mustAccept, acceptedBy, taken, ruledFor, Always}
 use Rattle.agreement.proofs.Places.{before, happened-found, happened-holds, obeys-before, obeys-at, ledger-after}
-use Rattle.agreement.proofs.Deeds.{that-slip, deed-found}
+use Rattle.agreement.proofs.Deeds.{proposed-is, that-slip, deed-found}
 use Rattle.agreement.proofs.Soundness.{opened-entry, next-waits, group, Sound}
 use Rattle.agreement.proofs.Reachable.{sound, stays, everywhere, past-calls}
-use Rattle.agreement.proofs.StepLaws.{answer-exactly, BookedOrWaits, current-rises, stays-settled, just-settled, Turn, keeps, accepts, turn}
+use Rattle.agreement.proofs.Accounts.{behind, accounts-sum}
+use Rattle.agreement.proofs.StepLaws.{answer-propose, proposes-for, answer-exactly, BookedOrWaits, none-eligible, current-rises, stays-settled, just-settled, Turn, keeps, accepts, turn}
 use Rattle.agreement.proofs.Slated.{slated}
 use Rattle.agreement.proofs.Reasons.{all-reasons, decided-accepted}
 use Rattle.agreement.proofs.Acked.{acked-once}
@@ -82,6 +83,19 @@ module _ (o : Opening) (opens : Opens o) (s : Seat) where
       past-calls o opens s SettledCall (λ l b a q t is. impossible (cc))
       (λ l m q ok h. just-settled o l (step l m .next) m q (group o opens) ok h)
       (λ l m q c ok h old t this. stays-settled o l (step l m .next) m q (group o opens) ok h t (t .account) (old t this))
+
+  -- so nothing is put forward for its number: what P carries is of an eligible slip's account and number
+  none-proposed : (p q : Run) (e d : Event) (t u : Transfer) → Obeys o (q ▹ d) → Within (p ▹ e) q → e .at ≡ s → d .at ≡ s
+      → accepted (e .call) ≡ some t → proposed (d .call) ≡ some u → t .account ≡ u .account → t .number ≡ u .number → ⊥
+  none-proposed p q e d t u obeys w there here is puts account number =
+      let l = ledgerAt o s q in
+      let ok = sound o opens s q (obeys .0) in
+      let call = proposed-is (d .call) u puts in
+      let answer = happens l (call .0) (Propose u) (rw (here, call .1) at (obeys .1)) in
+      let found = answer-propose l _ (call .0) (Propose u) u refl answer in
+      let same = proposes-for o l (call .0) u (group o opens) ok found in
+      none-eligible o l t (found .slip) (group o opens) ok (all-settled q (obeys .0) p e w there t is)
+      (account ∙ same .0) (number ∙ same .1) (found .records .eligible)
 
   -- a slip of the next number that was accepted waits
   accepted-waits : (r : Run) → Obeys o r → (t : Transfer) → t .number ≡ entryOf (ledgerAt o s r) (t .account) .current + 1
@@ -160,12 +174,15 @@ always o run opens obeys =
       sums = λ p s w.
           let ok = sound o opens s p (obeys-before o obeys w) in
           (ok .sum-same, rw (ok .sum-same) (group o opens .sum-fits));
+      behind = λ p s a w. behind o opens s p (obeys-before o obeys w) a;
+      accounts-sum = λ p s w. accounts-sum o opens s p (obeys-before o obeys w);
       plain = λ p s a w.
           let match = slated o opens s p (obeys-before o obeys w) in
           (match .balance-is a, match .count-is a);
       currents-rise = λ p q s a w v. never-falls o opens s a (obeys-before o obeys v) w;
       count-is-rise = λ p e m c w is. run-count o run p e m c opens obeys w is;
       acked-once = acked-once o opens run obeys;
+      none-proposed-after = λ p q e d t u w v same. none-proposed o opens (d .at) p q e d t u (obeys-before o obeys v) w same refl;
       accepts-exactly = λ p e w. call-accepts (ledgerAt o (e .at) p) (e .call) (obeys-at o obeys w);
       accepted-exactly = λ p s t w next. accepted-iff o opens s p (obeys-before o obeys w) t next;
       booked-accepted = λ p s a m w. all-reasons o opens s p (obeys-before o obeys w) a .why-booked m;

@@ -1,6 +1,6 @@
 -- The third point of demand 3: counts determine balances. What an account has, and has paid for its numbers up to its count, is what
 -- it opened with and what the numbers of all accounts up to their counts brought it; and by agreement one slip answers to each number.
-use Prim.Native.Nat.{ℕ, zero, suc, _+_, _≤_, _<_}
+use Prim.Native.Nat.{ℕ, zero, suc, _+_, _<_}
 use native.Mathlib.Decide.{ℕ-discrete, decLt}
 use native.Mathlib.Omega.{arith}
 use mathlib.Core.Path.{_≡_, refl, ap, sym, _∙_}
@@ -14,9 +14,10 @@ use borrow.Author.Tests.{eq-eqb, ne-eqb}
 use Rattle.agreement.specs.Types.{Seat, Account, Transfer, Full, Entry, Ledger, Opening, Message, Reply}
 use Rattle.agreement.specs.Runs.{Opens, message, Event, Run, start, _▹_, Within, at-end, ledgerAt, Obeys, accepted}
 use Rattle.agreement.proofs.Places.{before, within-trans, nothing-yet, last-or-sooner, obeys-before}
-use Rattle.agreement.proofs.Soundness.{opened-entry, next-waits, group, SoundEntry, Sound, bounded}
-use Rattle.agreement.proofs.Reachable.{run-induction, everywhere}
-use Rattle.agreement.proofs.StepLaws.{Turn, keeps, accepts, turn, puts-current, each-entry}
+use Rattle.agreement.proofs.Soundness.{opened-entry, next-waits, group, Sound, bounded}
+use Rattle.agreement.proofs.Reachable.{run-induction}
+use Rattle.agreement.proofs.Accounts.{behind}
+use Rattle.agreement.proofs.StepLaws.{Turn, keeps, accepts, turn}
 use Rattle.agreement.proofs.Agree.{same-number, number-same}
 use Rattle.model.specs.Transfers.{sameAccount}
 use Rattle.model.specs.Records.{accountOf, withPending, entryAt, setEntry, withEntry, entryOf}
@@ -207,28 +208,6 @@ module _ (slipOf : Account → ℕ → Option Transfer) (o : Opening) where
       turn-balanced l (step l m .next) m q opens ok (turn o l (step l m .next) m q (group o opens) ok h)
       (λ t this. slips r _ t w this) (bal (before w)))
 
--- an account behind the k-th never books anything
-behind : (o : Opening) → Opens o → (s : Seat) (r : Run) → Obeys o r → (a : Account) → o .accounts ≤ a .0 → entryOf (ledgerAt o s r) a .current ≡ 0
-behind o opens s r obeys = all r obeys
-  where
-    Unused : Account → Entry → Type 0
-    Unused a e = o .accounts ≤ a .0 → e .current ≡ 0
-
-    none-waits : (a : Account) (e : Entry) (t : Transfer) → SoundEntry o a e → e .pending ≡ Full t → o .accounts ≤ a .0 → ⊥
-    none-waits a e t stands waits above =
-        let found = stands .pending-stands t waits in
-        omega (arith, found .2, ap (λ (b : Account). b .0) (found .0))
-
-    all : (r : Run) → Obeys o r → (a : Account) → Unused a (entryOf (ledgerAt o s r) a)
-    all =
-        everywhere o opens s (λ l. (a : Account) → Unused a (entryOf l a))
-        (λ l m q ok h old.
-        each-entry o l (step l m .next) m q (group o opens) ok Unused
-        (λ a e e′ same was above. ap (λ (x : Entry). x .current) same ∙ was above)
-        (λ a e e′ t stands waits clear was above. absurd (none-waits a e t stands waits above))
-        old (λ t x put above. puts-current l m q t x put ∙ old (t .account) above) h)
-        (λ a above. rw (opened-entry o opens a) refl)
-
 -- The slip that a run accepted for an account and number, by whichever seat.
 isOf : Account → ℕ → Transfer → Bool
 isOf a m t = sameAccount (t .account) a && eqb (t .number) m
@@ -301,5 +280,5 @@ counts-balances o run opens obeys agree p q s z w v equal b =
         go : Dec (a .0 < o .accounts) → entryOf (ledgerAt o s p) a .current ≡ entryOf (ledgerAt o z q) a .current
         go (yes known) = equal a known
         go (no above) =
-            behind o opens s p (obeys-before o obeys w) a (omega arith)
-            ∙ sym (behind o opens z q (obeys-before o obeys v) a (omega arith))
+            behind o opens s p (obeys-before o obeys w) a (omega arith) .1
+            ∙ sym (behind o opens z q (obeys-before o obeys v) a (omega arith) .1)

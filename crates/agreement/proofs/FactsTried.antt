@@ -1,5 +1,5 @@
 -- The whole-run facts, Theorem 1 and demand 3, tried on runs: what their definitions say at single places, computed, and that they
--- say something of the runs of Examples.antt and of two more.
+-- say something of the runs of Examples.antt and of a few more.
 use Prim.Native.Nat.{ℕ, zero, suc, _≤_, _<_}
 use mathlib.Core.Path.{_≡_, refl}
 use mathlib.Core.Bool.{Bool, true, false, Bool·beq, false≢true}
@@ -8,7 +8,7 @@ use native.Mathlib.Omega.{arith}
 use lib.Dec.{lit≤, lit<}
 use borrow.Author.Tests.{le-ltb}
 use Rattle.agreement.specs.Types.{Seat, Transfer, Opening, Ack, Inquiry, Accept, Propose, Note, Balance, Refuse}
-use Rattle.agreement.specs.Runs.{Opens, FewBad, honest, Event, Run, start, _▹_, at-end, sooner, throughout, atHonest, ledgerAt, Obeys, proposed}
+use Rattle.agreement.specs.Runs.{Opens, FewBad, honest, Event, Run, start, _▹_, Within, at-end, sooner, throughout, atHonest, ledgerAt, Obeys, proposed}
 use Rattle.agreement.specs.Premises.{ackedBy, Premises}
 use Rattle.agreement.specs.Slates.{leaveAtMost, leaveAll, slateAt}
 use Rattle.agreement.specs.Claims.{SameCounts, Claim}
@@ -335,4 +335,57 @@ facts-say-too = (
   λ f. f .accepted-exactly oneWaits (seatOf 0) (slip 0 1 5 1) at-end refl,
   λ f. f .acks-stand oneLacks (seatOf 0) (seatOf 3) (accountOf 0) t at-end refl,
   λ f. f .sums start (seatOf 0) at-end .1,
+)
+
+-- .. and the accounts: behind the two all is 0; of the second, which has 5 and has booked one slip, that is not said; and the two have the
+-- opening sum.
+pub accounts-say : Facts single alone
+    → (2 ≤ 2 → (0 is 0) × (0 is 0))
+    × (2 ≤ 1 → (5 is 0) × (1 is 0))
+    × (13 is 13)
+unfolding ledgerAt noAcks equal conflict hasMost openLedger lowestAffordable apply settleAtMost settle step
+accounts-say f = (
+  f .behind alone (seatOf 0) (accountOf 2) at-end,
+  f .behind alone (seatOf 0) (accountOf 1) at-end,
+  f .accounts-sum alone (seatOf 0) at-end,
+)
+
+-- Two seats, n 2 and f 0: two acks accept, and two that conflict put forward. Seat 0 accepts t. Afterwards seat 1 puts t forward, and then
+-- accepts it by a ruling. For the next number seat 0 puts t2 forward.
+abbrev twoSeats : Opening
+twoSeats = pageWith 2 0 (10 ∷ 3 ∷ [])
+
+abbrev acceptedThere : Run
+acceptedThere = start ▹ ack 0 0 t Note ▹ ack 0 1 t (Accept 1) ▹ ack 1 0 t Note
+
+abbrev nextNumber : Run
+nextNumber = acceptedThere ▹ ack 1 1 u (Propose t) ▹ ruling 1 t (Accept 1) ▹ ack 0 0 t2 Note
+
+abbrev disputed : Run
+disputed = nextNumber ▹ ack 0 1 (slip 0 2 5 1) (Propose t2)
+
+pub disputed-obeys : Obeys twoSeats disputed
+unfolding ledgerAt noAcks equal conflict hasMost openLedger lowestAffordable apply settleAtMost settle step
+disputed-obeys = tt then refl then refl then refl then (t, refl, refl) then refl then refl then (t2, refl, refl)
+
+-- "Once a slip is accepted, this seat puts nothing forward for that number." It is not said of another seat, nor of the next number, nor
+-- of what came before. And a run in which seat 0 did so would break the facts, also with another slip.
+pub proposals-say :
+    (Facts twoSeats disputed → seatOf 0 ≡ seatOf 1 → ⊥)
+    × (Facts twoSeats disputed → 1 is 2 → ⊥)
+    × (Facts twoSeats disputed → Within (acceptedThere ▹ ack 1 1 u (Propose t) ▹ ruling 1 t (Accept 1)) acceptedThere → ⊥)
+    × (Facts twoSeats (start ▹ ruling 0 t (Accept 1) ▹ ack 0 1 u (Propose u)) → ⊥)
+proposals-say = (
+  λ f same.
+      f .none-proposed-after (start ▹ ack 0 0 t Note) acceptedThere (ack 0 1 t (Accept 1)) (ack 1 1 u (Propose t)) t t
+      (sooner at-end) (sooner (sooner (sooner at-end))) same refl refl refl refl,
+  λ f.
+      f .none-proposed-after (start ▹ ack 0 0 t Note) nextNumber (ack 0 1 t (Accept 1)) (ack 0 1 (slip 0 2 5 1) (Propose t2)) t t2
+      (sooner (sooner (sooner (sooner at-end)))) at-end refl refl refl refl,
+  λ f after.
+      f .none-proposed-after (acceptedThere ▹ ack 1 1 u (Propose t)) acceptedThere (ruling 1 t (Accept 1)) (ack 1 1 u (Propose t)) t t
+      after (sooner (sooner (sooner at-end))) refl refl refl refl refl,
+  λ f.
+      f .none-proposed-after start (start ▹ ruling 0 t (Accept 1)) (ruling 0 t (Accept 1)) (ack 0 1 u (Propose u)) t u
+      at-end at-end refl refl refl refl refl,
 )

@@ -4,6 +4,7 @@ pub mod Deeds
 pub mod Soundness
 pub mod StepLaws
 pub mod Reachable
+pub mod Accounts
 pub mod SlateSettles
 pub mod Slated
 pub mod Quorums

@@ -327,6 +327,13 @@ module _ (o : Opening) (l : Ledger) (s : Seat) (t : Transfer) (g : Group o) (ok 
       accepted-sound o (t .account) old s t (g .seats-fit) (ok .each (t .account)) refl (fit .is-next) known-seat free-place
       (found .none-waits) (found .payer-known) (found .recipient-known)
 
+  -- and every ack in it is from one of the n seats, and of the slip's account and number
+  pub recorded-stands : (z : Seat) (u : Transfer) → ackFrom (entryWithAck l s t) z ≡ Full u
+      → (z .0 < o .seats) × (u .account ≡ t .account) × (u .number ≡ t .number)
+  recorded-stands z u h =
+      let stands = accepted-entry .acks-stand z u h in
+      (stands .0, stands .1, stands .2 ∙ sym (fit .is-next))
+
 -- and the entry with a ruling's slip
 pub ruled-entry : (o : Opening) (l : Ledger) (t : Transfer) → Group o → Sound o l → Eligible l t
     → SoundEntry o (t .account) (withPending (entryOf l (t .account)) t)

@@ -10,18 +10,19 @@ use mathlib.Core.Bool.{true, false, not, _&&_}
 use lib.Dec.{leb}
 use borrow.Author.Tests.{leb-true, ltb-true}
 use mathlib.Core.Option.{none, some}
-use Rattle.agreement.specs.Types.{Seat, Account, Transfer, Full, Entry, Ledger, Opening, Refusal, Message, Request, Circulated, Ack, Decision, Inquiry, Reply, Acknowledge, Accept, Propose, Balance, Refuse}
+use Rattle.agreement.specs.Types.{Seat, Account, Transfer, Slot, Empty, Full, Entry, Ledger, Opening, Refusal, Message, Request, Circulated, Ack, Decision, Inquiry, Reply, Acknowledge, Accept, Propose, Balance, Refuse}
 use Rattle.model.specs.declared.Refusal.the-variants.{FutureNumber}
 use Rattle.agreement.specs.Runs.{isRefusal, message, isAccept, accepted}
 use Rattle.agreement.specs.Facts.{mustAccept}
 use Rattle.model.proofs.Opened.{Group}
-use Rattle.agreement.proofs.Soundness.{recorded-new, recorded-kept, SoundEntry, Sound, Admitted, admitted, marked-sound, stored, noted-entry, accepted-entry, ruled-entry, waits-sound, accept-sound}
-use Rattle.model.specs.Records.{withAcked, withProposed, withPending, entryAt, setEntry, withEntries, withEntry, entryOf}
+use Rattle.agreement.proofs.Soundness.{recorded-new, recorded-kept, recorded-counted, recorded-stands, SoundEntry, Sound, Admitted, admitted, marked-sound, stored, noted-entry, accepted-entry, ruled-entry, waits-sound, accept-sound}
+use Rattle.model.specs.Records.{seatOf, withAcked, withProposed, withPending, entryAt, setEntry, withEntries, withEntry, entryOf}
 use Rattle.model.specs.Acks.{holds, conflicts, acksFor, acksRecorded, enough, twoConflict, mustPropose}
 use Rattle.model.specs.Refusals.{outOfRange, waitsAlready, ackFrom}
 use Rattle.model.specs.Settling.{settle}
 use Rattle.model.specs.Calls.{Answers}
-use Rattle.model.proofs.Sums.{impossible, both}
+use Rattle.model.proofs.Sums.{impossible, some-counted, both}
+use Rattle.model.proofs.Equality.{equal-sound, equal-refl}
 use Rattle.model.proofs.Access.{entry-set-same, set-each, with-entry-same}
 use Rattle.model.proofs.Tallies.{most-sound}
 use Rattle.model.proofs.Booking.{SameButBalance, Cleared}
@@ -256,6 +257,29 @@ answer-propose l next m r u reply (noted s t e f fit new few same) = impossible 
 answer-propose l next m r u reply (accepted-by-ruling t e f fit same) = impossible (cc)
 answer-propose l next m r u reply (told a e f same) = impossible (cc)
 
+-- and u has the account and number of that ack's slip: with it this slip has an ack, so u has one too
+pub proposes-for : (o : Opening) (l : Ledger) (m : Message) (u : Transfer) → Group o → Sound o l → (p : Proposes l m u)
+    → (u .account ≡ p .slip .account) × (u .number ≡ p .slip .number)
+proposes-for o l m u g ok p = go (ackFrom x (seatOf (one .0))) refl (one .1)
+  where
+    t : Transfer
+    t = p .slip
+
+    x : Entry
+    x = entryWithAck l (p .sender) t
+
+    one : (i : ℕ) × (holds u (ackFrom x (seatOf i)) ≡ true)
+    one =
+        let more = recorded-counted o l (p .sender) t g ok (p .records .eligible) (p .records .recordable) t in
+        some-counted (λ k. holds u (k .slot)) (x .acks) (record { slot = Empty }) (omega (arith, rw (equal-refl t) at more, p .most t))
+
+    go : (s : Slot) → ackFrom x (seatOf (one .0)) ≡ s → holds u s ≡ true → (u .account ≡ t .account) × (u .number ≡ t .number)
+    go Empty h e = impossible (cc)
+    go (Full v) h e =
+        let stands = recorded-stands o l (p .sender) t g ok (p .records .eligible) (p .records .recordable) (seatOf (one .0)) v h in
+        let same = equal-sound v u e in
+        (cc, cc)
+
 -- B means: the account's balance.
 pub answer-balance : (l next : Ledger) (m : Message) (r : Reply) (a : Account) (b : ℕ)
     → m ≡ Inquiry a → r ≡ Balance b → Happens l m r next → b ≡ entryOf l a .balance
@@ -372,6 +396,14 @@ module _ (o : Opening) (l next : Ledger) (m : Message) (r : Reply) (g : Group o)
 -- What a call keeps of each entry: current numbers never fall, and a slip that has been booked or waits stays so.
 abbrev pub BookedOrWaits : Transfer → Entry → Type 0
 BookedOrWaits t e = (t .number ≤ e .current) ⊎ (e .pending ≡ Full t)
+
+-- then no slip of its account and number is eligible
+pub none-eligible : (o : Opening) (l : Ledger) (t v : Transfer) → Group o → Sound o l → BookedOrWaits t (entryOf l (t .account))
+    → t .account ≡ v .account → t .number ≡ v .number → Eligible l v → ⊥
+none-eligible o l t v g ok (inl past) account number fit =
+    omega (arith, fit .is-next, ap (λ (a : Account). entryOf l a .current) account)
+none-eligible o l t v g ok (inr waits) account number fit =
+    impossible (cc (admitted o l v g ok fit .none-waits, ap (λ (a : Account). entryOf l a .pending) account))
 
 module _ (o : Opening) (l next : Ledger) (m : Message) (r : Reply) (g : Group o) (ok : Sound o l) (h : Happens l m r next) where
   pub current-rises : (a : Account) → entryOf l a .current ≤ entryOf next a .current

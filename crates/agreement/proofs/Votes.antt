@@ -1,5 +1,5 @@
 -- The acks that K and P rest on, as votes of the seats: how they are counted, and that two tallies of one number agree off the bad seats.
-use Prim.Native.Nat.{ℕ, zero, suc, _+_, _-_, _*_, _≤_, _<_}
+use Prim.Native.Nat.{ℕ, _+_, _*_, _≤_, _<_}
 use native.Mathlib.Omega.{arith}
 use mathlib.Core.Path.{_≡_, refl, ap, sym, _∙_}
 use mathlib.Core.Bool.{Bool, true, false}
@@ -8,15 +8,13 @@ use borrow.Author.Tests.{lt-ltb}
 use Rattle.agreement.specs.Types.{Seat, Account, Transfer, Slot, Empty, Full, AckSlot, Entry, Ledger, Opening, Message}
 use Rattle.agreement.specs.Runs.{Opens, countBelow, FewBad, honest, Run, Obeys}
 use Rattle.agreement.proofs.Quorums.{count-places, count-more, two-quorums, quorum-most}
-use Rattle.agreement.proofs.Soundness.{group, Sound, accepted-entry, recorded-counted}
-use Rattle.agreement.proofs.StepLaws.{Recording, Proposes}
+use Rattle.agreement.proofs.Soundness.{group, Sound, accepted-entry, recorded-stands}
+use Rattle.agreement.proofs.StepLaws.{Recording, Proposes, proposes-for}
 use Rattle.agreement.proofs.Acked.{FromSenders, acked-by-once}
-use Rattle.model.specs.Basics.{bit, count}
+use Rattle.model.specs.Basics.{count}
 use Rattle.model.specs.Records.{seatOf}
 use Rattle.model.specs.Acks.{holds, isFull, acksFor}
 use Rattle.model.specs.Refusals.{ackFrom}
-use Rattle.model.proofs.Sums.{impossible}
-use Rattle.model.proofs.Equality.{equal-sound, equal-refl}
 use Rattle.model.proofs.Steps.{entryWithAck}
 
 -- the vote of each seat in an entry
@@ -40,9 +38,7 @@ module _ (o : Opening) (bad : Seat → Bool) (run : Run) (opens : Opens o) where
       let entry = accepted-entry o l s t (group o opens) ok (new .eligible) (new .recordable) in
       record {
         size = entry .acks-size;
-        stands = λ z u h.
-            let stand = entry .acks-stand z u h in
-            (stand .0, stand .1, stand .2 ∙ sym (new .eligible .is-next));
+        stands = recorded-stands o l s t (group o opens) ok (new .eligible) (new .recordable);
         from = from;
       }
 
@@ -71,15 +67,6 @@ module _ (o : Opening) (bad : Seat → Bool) (run : Run) (opens : Opens o) where
       let two = second .stands (seatOf i) u hu in
       acked-by-once o opens run obeys (seatOf i) t u (first .from (seatOf i) t ht honestly) (second .from (seatOf i) u hu honestly)
       (one .1 ∙ sym (two .1)) (one .2 ∙ sym (two .2))
-
--- a count that is not 0 counts some number
-some-counted : (p : ℕ → Bool) (n : ℕ) → 1 ≤ countBelow p n → (i : ℕ) × (p i ≡ true)
-some-counted p zero h = absurd (omega arith)
-some-counted p (suc n) h = go (p n) refl (some-counted p n)
-  where
-    go : (b : Bool) → p n ≡ b → (1 ≤ countBelow p n → (i : ℕ) × (p i ≡ true)) → (i : ℕ) × (p i ≡ true)
-    go true e rest = (n, e)
-    go false e rest = rest (omega (arith, ap bit e))
 
 -- More than (n + 3f)/2 votes for a slip.
 pub record Quorum (o : Opening) (bad : Seat → Bool) (run : Run) (t : Transfer) : Type 0 where
@@ -123,6 +110,7 @@ module _ (o : Opening) (bad : Seat → Bool) (run : Run) (opens : Opens o) (l : 
   pub propose-majority : (m : Message) (u : Transfer) (p : Proposes l m u) → FromSenders o bad run (entryWithAck l (p .sender) (p .slip))
       → Majority o bad run u
   propose-majority m u p from =
+      let found = proposes-for o l m u (group o opens) ok p in
       record {
         entry = x;
         tally = same-tally o bad run opens _ _ _ _ x (sym (found .0)) (sym (found .1)) tally;
@@ -142,24 +130,3 @@ module _ (o : Opening) (bad : Seat → Bool) (run : Run) (opens : Opens o) (l : 
       counted : (test : Slot → Bool) → test Empty ≡ false
           → count (λ (k : AckSlot). test (k .slot)) (x .acks) ≡ countBelow (λ i. test (vote x i)) (o .seats)
       counted = votes-counted o bad run opens (t .account) (t .number) x tally
-
-      -- the ack of this call is one, so the slip with the most has one
-      has-one : 1 ≤ acksFor u (x .acks)
-      has-one =
-          let fit = p .records .eligible in
-          let new = p .records .recordable in
-          let more = recorded-counted o l (p .sender) t (group o opens) ok fit new t in
-          omega (arith, rw (equal-refl t) at more, p .most t)
-
-      -- and its account and number are the tally's
-      found : (u .account ≡ t .account) × (u .number ≡ t .number)
-      found =
-          let one = some-counted (λ i. holds u (vote x i)) (o .seats) (omega (arith, has-one, counted (holds u) refl)) in
-          go (one .0) (vote x (one .0)) refl (one .1)
-        where
-          go : (i : ℕ) (s : Slot) → vote x i ≡ s → holds u s ≡ true → (u .account ≡ t .account) × (u .number ≡ t .number)
-          go i Empty h e = impossible (cc)
-          go i (Full v) h e =
-              let stands = tally .stands (seatOf i) v h in
-              let same = equal-sound v u e in
-              (ap (λ (w : Transfer). w .account) (sym same) ∙ stands .1, ap (λ (w : Transfer). w .number) (sym same) ∙ stands .2)

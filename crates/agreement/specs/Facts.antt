@@ -4,8 +4,9 @@ use Prim.Native.Nat.{ℕ, _+_, _≤_, _<_}
 use mathlib.Core.Path.{_≡_}
 use mathlib.Core.Bool.{Bool, true, false, not, _&&_, _||_}
 use mathlib.Core.Option.{some}
+use lib.ListN.{take}
 use Rattle.agreement.specs.Types.{Seat, Account, Transfer, Full, Ledger, Opening, Message, Request, Circulated, Ack, Decision, Inquiry, Accept}
-use Rattle.agreement.specs.Runs.{Opens, Call, message, waitingList, Event, Run, _▹_, Within, happened, sameSeat, ledgerAt, Obeys, isAccept, isRefusal, acked, accepted, ruled, passes}
+use Rattle.agreement.specs.Runs.{Opens, Call, message, waitingList, Event, Run, _▹_, Within, happened, sameSeat, ledgerAt, Obeys, isAccept, isRefusal, acked, accepted, proposed, ruled, passes}
 use Rattle.agreement.specs.Slates.{slateAt}
 use Rattle.model.specs.Basics.{sumOf}
 use Rattle.model.specs.Records.{withAck, sumBalances, sumCurrents, entryOf}
@@ -44,6 +45,12 @@ pub record Facts (o : Opening) (run : Run) : Type 0 where
   -- "Balances always add up to the opening sum", which is below 2^32
   pub sums : (p : Run) (s : Seat) → Within p run
       → (sumBalances (ledgerAt o s p .entries) ≡ sumOf (λ b. b) (o .balances)) × (sumBalances (ledgerAt o s p .entries) < 4_294_967_296)
+  -- behind the k-th account every balance and current number stays 0
+  pub behind : (p : Run) (s : Seat) (a : Account) → Within p run → o .accounts ≤ a .0
+      → (entryOf (ledgerAt o s p) a .balance ≡ 0) × (entryOf (ledgerAt o s p) a .current ≡ 0)
+  -- so the balances of the k accounts, which `daybook` prints, add up to the opening sum
+  pub accounts-sum : (p : Run) (s : Seat) → Within p run
+      → sumBalances (take (o .accounts) (ledgerAt o s p .entries)) ≡ sumOf (λ b. b) (o .balances)
   -- each balance is the slate's, in plain numbers, so no sum ever reached the modulus; and each current number is the slate's count
   pub plain : (p : Run) (s : Seat) (a : Account) → Within p run
       → (entryOf (ledgerAt o s p) a .balance ≡ slateAt o s p .balance a) × (entryOf (ledgerAt o s p) a .current ≡ slateAt o s p .count a)
@@ -56,6 +63,9 @@ pub record Facts (o : Opening) (run : Run) : Type 0 where
   -- a seat acks at most one slip per account and number
   pub acked-once : (p q : Run) (e d : Event) (t u : Transfer) → Within (p ▹ e) run → Within (q ▹ d) run → e .at ≡ d .at
       → acked (e .call) ≡ some t → acked (d .call) ≡ some u → t .account ≡ u .account → t .number ≡ u .number → t ≡ u
+  -- "Once a slip is accepted, this seat puts nothing forward for that number."
+  pub none-proposed-after : (p q : Run) (e d : Event) (t u : Transfer) → Within (p ▹ e) q → Within (q ▹ d) run → e .at ≡ d .at
+      → accepted (e .call) ≡ some t → proposed (d .call) ≡ some u → t .account ≡ u .account → t .number ≡ u .number → ⊥
   -- a call accepts exactly if it is an ack that makes enough or a ruling, and is not refused: no other call does
   pub accepts-exactly : (p : Run) (e : Event) → Within (p ▹ e) run → answeredK (e .call) ≡ mustAccept (ledgerAt o (e .at) p) (e .call)
   -- at any place, a slip with its account's next number has been accepted exactly if twice its recorded acks exceed n + 3f or a ruling

@@ -135,6 +135,13 @@ module _ (es : List Entry) (a : Account) (at : Affordable es a) where
   apply-others b other =
       rw apply-is (rw (entry-set-other es a paid b other) at (credit-keeps taken (t .recipient) b (t .value)))
 
+  -- and nothing at all in one that is neither payer nor recipient
+  pub apply-apart : (b : Account) → b .0 ≢ a .0 → b .0 ≢ at .transfer .recipient .0 → entryAt (apply es a) b ≡ entryAt es b
+  unfolding taken paid t
+  apply-apart b not-payer not-recipient =
+      rw (apply-is, entry-set-other taken (t .recipient) (credited (entryAt taken (t .recipient)) (t .value)) b not-recipient)
+      (entry-set-other es a paid b not-payer)
+
   pub apply-length : length (apply es a) ≡ length es
   unfolding taken
   apply-length = rw apply-is (simp length-set)

@@ -1,25 +1,42 @@
 -- What an opening page that is not refused has, and the ledger that it yields.
-use Prim.Native.Nat.{_*_, _≤_, _<_}
+use Prim.Native.Nat.{ℕ, zero, suc, _+_, _-_, _*_, _≤_, _<_}
 use native.Mathlib.Omega.{arith}
-use mathlib.Core.Path.{_≡_, refl}
-use mathlib.Core.Bool.{_||_}
+use mathlib.Core.Path.{_≡_, refl, ap, sym, _∙_}
+use mathlib.Core.Bool.{false, not, _||_}
+use mathlib.Core.List.{List}
 use mathlib.Core.Option.{Option, none, some}
-use lib.Dec.{leb, ltb}
-use borrow.Author.Tests.{leb-false, ltb-false}
+use lib.Dec.{leb, ltb, eqb}
+use lib.ListN.{getD, drop}
+use lib.Seq.{getD-drop}
+use borrow.Author.Tests.{leb-false, ltb-false, ne-eqb}
 use Rattle.model.specs.Types.{Opening, Refusal, Opened}
-use Rattle.model.specs.Basics.{sumOf}
+use Rattle.model.specs.Basics.{any, sumOf}
 use Rattle.model.specs.Records.{freshLedger}
 use Rattle.model.specs.Refusals.{firstRefusal}
 use Rattle.model.specs.Openings.{openRules, openAnswer, openLedger}
-use Rattle.model.proofs.Sums.{impossible, neither}
+use Rattle.model.proofs.Sums.{impossible, any-none, neither}
 use Rattle.model.proofs.Refusing.{none-holds}
 
 pub record Group (o : Opening) : Type 0 where
   pub seats-fit : o .seats ≤ 16
   pub few-faults : 5 * o .faults < o .seats
   pub accounts-fit : o .accounts ≤ 32
+  -- behind the k-th every balance is 0
+  pub rest-zero : (i : ℕ) → o .accounts ≤ i → getD (o .balances) i 0 ≡ 0
   pub sum-fits : sumOf (λ b. b) (o .balances) < 4_294_967_296
   pub opened : openLedger o .ledger ≡ freshLedger o
+
+-- where no balance behind the first k differs from 0, each of them is 0
+all-zero : (bs : List ℕ) (k i : ℕ) → any (λ b. not (eqb b 0)) (drop k bs) ≡ false → k ≤ i → getD bs i 0 ≡ 0
+all-zero bs k i none-else above =
+    let place : k + (i - k) ≡ i = omega arith in
+    ap (λ (j : ℕ). getD bs j 0) (sym place)
+    ∙ sym (getD-drop k bs (i - k) 0)
+    ∙ is-zero (getD (drop k bs) (i - k) 0) (any-none (λ b. not (eqb b 0)) (drop k bs) 0 none-else refl (i - k))
+  where
+    is-zero : (b : ℕ) → not (eqb b 0) ≡ false → b ≡ 0
+    is-zero zero e = refl
+    is-zero (suc b) e = impossible (cc (rw (ne-eqb (suc b) 0 (omega arith)) at e))
 
 pub opened-group : (o : Opening) → openLedger o .reply ≡ Opened → Group o
 unfolding openLedger
@@ -30,11 +47,13 @@ opened-group o opens = go (firstRefusal (openRules o)) refl opens
         let fail = none-holds (openRules o) e in
         let seats = neither (ltb (o .seats) 1 || ltb 16 (o .seats)) (leb (o .seats) (5 * o .faults)) (fail .0) in
         let size = neither (ltb (o .seats) 1) (ltb 16 (o .seats)) (seats .0) in
-        let accounts = neither (ltb (o .accounts) 1) (ltb 32 (o .accounts)) (neither _ _ (fail .1 .0) .0) in
+        let page = neither (ltb (o .accounts) 1 || ltb 32 (o .accounts)) (any (λ b. not (eqb b 0)) (drop (o .accounts) (o .balances))) (fail .1 .0) in
+        let accounts = neither (ltb (o .accounts) 1) (ltb 32 (o .accounts)) (page .0) in
         record {
           seats-fit = ltb-false 16 (o .seats) (size .1);
           few-faults = omega (arith, leb-false (o .seats) (5 * o .faults) (seats .1));
           accounts-fit = ltb-false 32 (o .accounts) (accounts .1);
+          rest-zero = λ i above. all-zero (o .balances) (o .accounts) i (page .1) above;
           sum-fits = omega (arith, ltb-false 4_294_967_295 (sumOf (λ b. b) (o .balances)) (fail .1 .1 .0));
           opened = rw e;
         }

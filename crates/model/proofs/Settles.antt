@@ -14,7 +14,7 @@ use Rattle.model.specs.Records.{accountOf, freshEntry, entryAt, sumBalan
 use Rattle.model.specs.Basics.{firstWhere}
 use Rattle.model.specs.Settling.{Settled, affordable, lowestAffordable, waiting, apply, oneMore, settleAtMost, settle}
 use Rattle.model.proofs.Sums.{Found, first-found, first-none, impossible}
-use Rattle.model.proofs.Booking.{SameButBalance, Cleared, cleared-kept, Affordable, apply-waiting, apply-currents, apply-sum, apply-length, apply-clears, apply-others}
+use Rattle.model.proofs.Booking.{SameButBalance, Cleared, cleared-kept, Affordable, apply-waiting, apply-currents, apply-sum, apply-length, apply-clears, apply-others, apply-apart}
 
 -- the search for the lowest affordable account finds one that is affordable, and none below it is
 pub record Lowest (es : List Entry) (a : Account) : Type 0 where
@@ -208,6 +208,20 @@ settle-each I on-balance on-booked es each a = go (settle-entry a es)
     go : Turned (entryAt es a) (entryAt (settle es .entries) a) → I a (entryAt (settle es .entries) a)
     go (kept same) = on-balance a (entryAt es a) _ same (each a)
     go (booked t waits clear) = on-booked a (entryAt es a) _ t waits clear (each a)
+
+-- account b is neither payer nor recipient of a waiting slip
+abbrev pub Apart : Account → List Entry → Type 0
+Apart b es = (a : Account) (t : Transfer) → entryAt es a .pending ≡ Full t → (b .0 ≢ a .0) × (b .0 ≢ t .recipient .0)
+
+-- then settling leaves its entry as it is
+pub settle-apart : (b : Account) (es : List Entry) → Apart b es → entryAt (settle es .entries) b ≡ entryAt es b
+settle-apart b =
+    settle-induction (λ es s. Apart b es → entryAt (s .entries) b ≡ entryAt es b)
+    (λ es e apart. refl)
+    (λ es a at rest apart.
+    let once = at .affords-it in
+    let not-this = apart a (once .transfer) (once .waits) in
+    rest (λ c t h. apart c t (waited es a once c t h .1)) ∙ apply-apart es a once b (not-this .0) (not-this .1))
 
 -- each waiting slip has its account's next number
 abbrev pub NextWaits : List Entry → Type 0

@@ -7,8 +7,8 @@ use mathlib.Core.Path.{_≡_, refl, ap}
 use mathlib.Core.Bool.{Bool, true, false, _&&_, _||_, or-true}
 use mathlib.Core.List.{List, [], _∷_}
 use mathlib.Core.Option.{none, some}
-use lib.ListN.{length, getD, set}
-use Rattle.model.specs.Basics.{sumOf, any, every, firstWhere}
+use lib.ListN.{length, getD, take, set}
+use Rattle.model.specs.Basics.{bit, sumOf, count, any, every, firstWhere}
 
 module _ {A : Type 0} (f : A → ℕ) where
   -- one element is replaced: the sum changes by the difference of the two
@@ -28,6 +28,15 @@ module _ {A : Type 0} (f : A → ℕ) where
   sum-at-least [] i d h = absurd (not-suc-le-zero h)
   sum-at-least (y ∷ ys) zero d h = omega arith
   sum-at-least (y ∷ ys) (suc i) d h = omega (arith, sum-at-least ys i d (le-of-suc-le-suc h))
+
+  -- where no element behind the first k has a number, the first k have the whole sum
+  pub sum-front : (xs : List A) (d : A) (k : ℕ) → ((i : ℕ) → k ≤ i → f (getD xs i d) ≡ 0) → sumOf f (take k xs) ≡ sumOf f xs
+  sum-front [] d zero none-behind = refl
+  sum-front [] d (suc k) none-behind = refl
+  sum-front (x ∷ xs) d zero none-behind =
+      omega (arith, none-behind 0 (omega arith), sum-front xs d zero (λ i above. none-behind (suc i) (omega arith)))
+  sum-front (x ∷ xs) d (suc k) none-behind =
+      ap (λ (n : ℕ). f x + n) (sum-front xs d k (λ i above. none-behind (suc i) (omega arith)))
 
 -- from two numbers that differ, anything
 pub impossible : {A : Type 0} → _≡_ {A = ℕ} 0 1 → A
@@ -49,6 +58,15 @@ any-holds p [] d i h e = absurd (not-suc-le-zero h)
 any-holds p (x ∷ xs) d zero h e = rw e
 any-holds p (x ∷ xs) d (suc i) h e = rw (any-holds p xs d i (le-of-suc-le-suc h) e) (or-true (p x))
 
+-- a count that is not 0 counts some element
+pub some-counted : {A : Type 0} (p : A → Bool) (xs : List A) (d : A) → 1 ≤ count p xs → (i : ℕ) × (p (getD xs i d) ≡ true)
+some-counted p [] d h = absurd (omega arith)
+some-counted p (x ∷ xs) d h = go (p x) refl (some-counted p xs d)
+  where
+    go : (b : Bool) → p x ≡ b → (1 ≤ count p xs → (i : ℕ) × (p (getD xs i d) ≡ true)) → (i : ℕ) × (p (getD (x ∷ xs) i d) ≡ true)
+    go true e rest = (0, e)
+    go false e rest = let found = rest (omega (arith, ap bit e)) in (suc (found .0), found .1)
+
 -- both parts of a test that passes
 pub both : (a b : Bool) → (a && b) ≡ true → (a ≡ true) × (b ≡ true)
 both true b e = (refl, e)
@@ -58,6 +76,12 @@ both false b e = impossible (cc)
 pub neither : (a b : Bool) → (a || b) ≡ false → (a ≡ false) × (b ≡ false)
 neither true b e = impossible (cc)
 neither false b e = (refl, e)
+
+-- a test that no element passes, nor what is read behind the last
+pub any-none : {A : Type 0} (p : A → Bool) (xs : List A) (d : A) → any p xs ≡ false → p d ≡ false → (i : ℕ) → p (getD xs i d) ≡ false
+any-none p [] d e last i = last
+any-none p (x ∷ xs) d e last zero = neither (p x) (any p xs) e .0
+any-none p (x ∷ xs) d e last (suc i) = any-none p xs d (neither (p x) (any p xs) e .1) last i
 
 -- a test that all elements pass, and another that each passes which passes the first
 pub every-all : {A : Type 0} (p : A → Bool) (xs : List A) → ((x : A) → p x ≡ true) → every p xs ≡ true

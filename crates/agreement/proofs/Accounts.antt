@@ -15,8 +15,8 @@ use Rattle.model.proofs.Sums.{sum-front}
 use Rattle.model.proofs.Access.{entry-set-other}
 use Rattle.model.proofs.Settles.{Apart, settle-apart}
 
--- nothing was ever booked there: no balance, and current 0
-abbrev Unused : Entry → Type 0
+-- an account that has nothing, and has booked nothing
+abbrev pub Unused : Entry → Type 0
 Unused e = (e .balance ≡ 0) × (e .current ≡ 0)
 
 module _ (o : Opening) where
@@ -37,8 +37,8 @@ module _ (o : Opening) where
       rw (done .entries-are, settle-apart b joined (apart-behind _ b (done .waits-soundly) above), other) old
 
   module _ (opens : Opens o) (s : Seat) where
-    pub behind : (r : Run) → Obeys o r → (a : Account) → o .accounts ≤ a .0
-        → (entryOf (ledgerAt o s r) a .balance ≡ 0) × (entryOf (ledgerAt o s r) a .current ≡ 0)
+    -- and it is so at every place of a run
+    pub behind : (r : Run) → Obeys o r → (a : Account) → o .accounts ≤ a .0 → Unused (entryOf (ledgerAt o s r) a)
     behind =
         everywhere o opens s (λ l. (a : Account) → o .accounts ≤ a .0 → Unused (entryOf l a))
         (λ l m q ok h old a above.

@@ -397,7 +397,7 @@ module _ (o : Opening) (l next : Ledger) (m : Message) (r : Reply) (g : Group o)
 abbrev pub BookedOrWaits : Transfer → Entry → Type 0
 BookedOrWaits t e = (t .number ≤ e .current) ⊎ (e .pending ≡ Full t)
 
--- then no slip of its account and number is eligible
+-- where a slip has been booked or waits, none of its account and number is eligible
 pub none-eligible : (o : Opening) (l : Ledger) (t v : Transfer) → Group o → Sound o l → BookedOrWaits t (entryOf l (t .account))
     → t .account ≡ v .account → t .number ≡ v .number → Eligible l v → ⊥
 none-eligible o l t v g ok (inl past) account number fit =

@@ -47,7 +47,8 @@ opened-group o opens = go (firstRefusal (openRules o)) refl opens
         let fail = none-holds (openRules o) e in
         let seats = neither (ltb (o .seats) 1 || ltb 16 (o .seats)) (leb (o .seats) (5 * o .faults)) (fail .0) in
         let size = neither (ltb (o .seats) 1) (ltb 16 (o .seats)) (seats .0) in
-        let page = neither (ltb (o .accounts) 1 || ltb 32 (o .accounts)) (any (λ b. not (eqb b 0)) (drop (o .accounts) (o .balances))) (fail .1 .0) in
+        let some-else = any (λ b. not (eqb b 0)) (drop (o .accounts) (o .balances)) in
+        let page = neither (ltb (o .accounts) 1 || ltb 32 (o .accounts)) some-else (fail .1 .0) in
         let accounts = neither (ltb (o .accounts) 1) (ltb 32 (o .accounts)) (page .0) in
         record {
           seats-fit = ltb-false 16 (o .seats) (size .1);

@@ -64,13 +64,13 @@ pub data Puts (l : Ledger) (m : Message) (r : Reply) (t : Transfer) (x : Entry) 
   puts-ruled : (c : ℕ) → m ≡ Decision t → r ≡ Accept c → Eligible l t → x ≡ withPending (entryOf l (t .account)) t → Puts l m r t x
 
 -- it is for an eligible slip, and the current number stays
-pub puts-eligible : (l : Ledger) (m : Message) (r : Reply) (t : Transfer) (x : Entry) → Puts l m r t x → Eligible l t
+puts-eligible : (l : Ledger) (m : Message) (r : Reply) (t : Transfer) (x : Entry) → Puts l m r t x → Eligible l t
 puts-eligible l m r t x (puts-mark e f fit is) = fit
 puts-eligible l m r t x (puts-ack s e fit new is) = fit
 puts-eligible l m r t x (puts-accepted s c e f fit new full is) = fit
 puts-eligible l m r t x (puts-ruled c e f fit is) = fit
 
-pub puts-current : (l : Ledger) (m : Message) (r : Reply) (t : Transfer) (x : Entry) → Puts l m r t x → x .current ≡ entryOf l (t .account) .current
+puts-current : (l : Ledger) (m : Message) (r : Reply) (t : Transfer) (x : Entry) → Puts l m r t x → x .current ≡ entryOf l (t .account) .current
 puts-current l m r t x (puts-mark e f fit is) = ap (λ (y : Entry). y .current) is
 puts-current l m r t x (puts-ack s e fit new (inl is)) = ap (λ (y : Entry). y .current) is
 puts-current l m r t x (puts-ack s e fit new (inr is)) = ap (λ (y : Entry). y .current) is

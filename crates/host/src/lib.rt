@@ -16,6 +16,7 @@ ghost use Rattle.model.specs.Bundles.{openingOf, bodySum};
 ghost use Rattle.model.specs.Openings.{openRules};
 ghost use Rattle.model.specs.Refusals.{firstRefusal};
 ghost use Rattle.ledger.specs.Promises.{codeIfAny};
+ghost use Rattle.replay.specs.Text.{TextOf};
 ghost use Rattle.replay.specs.Promises.{Replayed};
 ghost use Rattle.host.specs.Quorums.{Fewest};
 ghost use Rattle.host.specs.Waiting.{WaitingTold};
@@ -52,7 +53,7 @@ pub extern "C" fn ledger_is_enough(seats: u8, faults: u8, acks: u8) -> bool
 // The text that `daybook` writes for these bytes, at the front of a buffer of 36,828 bytes, which every text fits; its length is returned.
 #[no_mangle]
 pub extern "C" fn daybook_text(bytes: &[u8], text: &mut [u8; TEXT_SIZE]) -> usize
-    ensures { λ r. ⌜ Replayed (now (bytes .entry)) (now (text .entry)) (now (text .exit)) r ⌝ }
+    ensures { λ r. ⌜ Replayed (TextOf (now (bytes .entry))) (now (text .entry)) (now (text .exit)) r ⌝ }
 {
     replay(bytes, text)
 }

@@ -1,5 +1,4 @@
 -- Laws of a reading that holds its bundle.
 pub mod Pages
 mod Held
-mod Passing
 mod Taking

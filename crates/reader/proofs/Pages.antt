@@ -5,13 +5,13 @@ use mathlib.Core.Path.{_≡_, refl, sym, ap, _∙_}
 use mathlib.Core.Bool.{Bool, true, false, cond}
 use mathlib.Core.List.{List, []}
 use lib.Dec.{ltb}
-use borrow.Author.Tests.{lt-ltb, ltb-true, ltb-false, leb-true, leb-false}
+use borrow.Author.Tests.{lt-ltb, ltb-true, ltb-false}
 use Rattle.model.specs.Bundles.{entryCount, contentsAt, pageAt}
 use Rattle.bundle.specs.declared.Read.{Read}
 use Rattle.bundle.specs.declared.Read.the-variants.{Taken, NoMore}
 use Rattle.bundle.specs.Promises.{readOf, ReadAs}
 use Rattle.bundle.proofs.Reading.{reads-page, reads-none}
-use Rattle.reader.specs.Promises.{nextOf, placeAfter, lastBody, noneLeft, openingBody}
+use Rattle.reader.specs.Promises.{nextOf, placeAfter, lastBody, openingBody}
 
 module _ (bytes : List ℕ) where
   -- up to the last page a reading that was asked k times stands at entry k, and from there on behind the last
@@ -37,14 +37,6 @@ module _ (bytes : List ℕ) where
   -- "After the last page it replies that there are no more, and stays there."
   pub stays-at-end : (k : ℕ) → entryCount bytes ≤ k → readOf bytes (placeAfter bytes k) ≡ NoMore (record { next = entryCount bytes })
   stays-at-end k over = rw (stands-behind k over) (sym (reads-none bytes (entryCount bytes) (omega arith) .meets))
-
-  -- no page is left exactly where it replies that there are no more
-  pub none-left-exactly : (i : ℕ) → readOf bytes i ≡ cond (noneLeft bytes i) (NoMore (record { next = i })) (Taken (contentsAt bytes i) (record { next = i + 1 }))
-  none-left-exactly i = go (noneLeft bytes i) refl
-    where
-      go : (b : Bool) → noneLeft bytes i ≡ b → readOf bytes i ≡ cond b (NoMore (record { next = i })) (Taken (contentsAt bytes i) (record { next = i + 1 }))
-      go true over = sym (reads-none bytes i (leb-true (entryCount bytes) i over) .meets)
-      go false inside = sym (reads-page bytes i (leb-false (entryCount bytes) i inside) refl .meets)
 
   -- "What a page shows is that body's own bytes in the bundle": when page k was taken, its body
   pub shows-taken : (k : ℕ) → k < entryCount bytes → lastBody bytes (placeAfter bytes (suc k)) ≡ pageAt bytes k .body

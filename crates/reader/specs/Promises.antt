@@ -1,8 +1,8 @@
 -- What a reading that holds its bundle promises, by document 01's definitions in the model.
 use Prim.Native.Nat.{ℕ, zero, suc}
-use mathlib.Core.Bool.{Bool, cond}
+use mathlib.Core.Bool.{cond}
 use mathlib.Core.List.{List, []}
-use lib.Dec.{ltb, leb}
+use lib.Dec.{ltb}
 use Rattle.model.specs.Bundles.{entryCount, pageAt}
 use Rattle.bundle.specs.declared.Read.{Read}
 use Rattle.bundle.specs.declared.Read.the-variants.{Taken, NoMore}
@@ -27,10 +27,6 @@ placeAfter bytes (suc k) = nextOf (readOf bytes (placeAfter bytes k))
 abbrev pub lastBody : List ℕ → ℕ → List ℕ
 lastBody bytes zero = []
 lastBody bytes (suc i) = pageAt bytes i .body
-
--- no page is left: the next entry would be the m-th or a later one
-abbrev pub noneLeft : List ℕ → ℕ → Bool
-noneLeft bytes i = leb (entryCount bytes) i
 
 -- what a reading shows that has taken its first page, if there is one: "page 0 is the opening page"
 abbrev pub openingBody : List ℕ → List ℕ

@@ -5,10 +5,9 @@ use bundle::Read;
 use bundle::read_next;
 use pages::contents::body;
 use pages::contents::contents_at;
-use pages::contents::entry_count;
 ghost use mathlib.Core.Path.{_≡_};
 ghost use Rattle.bundle.specs.Promises.{ReadAs};
-ghost use Rattle.reader.specs.Promises.{nextOf, goneOn, lastBody, noneLeft, openingBody};
+ghost use Rattle.reader.specs.Promises.{nextOf, goneOn, lastBody, openingBody};
 
 // The bundle, and the entry behind the page last taken.
 pub struct Reader<'a> {
@@ -36,13 +35,6 @@ fn body_before<'a>(bundle: &'a [u8], next: u16) -> &'a [u8]
     body(bundle, contents_at(bundle, next - 1))
 }
 
-// This entry is behind the last.
-fn is_past_end(bundle: &[u8], next: u16) -> bool
-    ensures { λ r. ⌜ r ≡ noneLeft (now (bundle .entry)) next ⌝ }
-{
-    entry_count(bundle) <= next
-}
-
 // A reading that has taken no page yet. It reads a bundle that `check` found sound; of other bytes it reads what is there.
 pub fn start<'a>(bundle: &'a [u8]) -> Reader<'a>
     ensures { λ r. ⌜ (r .bundle ≡ bundle .entry) × (r .next ≡ 0) ⌝ }
@@ -64,13 +56,6 @@ pub fn shown<'a>(r: Reader<'a>) -> &'a [u8]
     ensures { λ s. ⌜ now s ≡ lastBody (now (r .entry .bundle)) (r .entry .next) ⌝ }
 {
     body_before(r.bundle, r.next)
-}
-
-// No page is left.
-pub fn none_left<'a>(r: Reader<'a>) -> bool
-    ensures { λ b. ⌜ b ≡ noneLeft (now (r .entry .bundle)) (r .entry .next) ⌝ }
-{
-    is_past_end(r.bundle, r.next)
 }
 
 // One page by plain parameters: a reading is taken up at this place, and takes the next page.

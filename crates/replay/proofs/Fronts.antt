@@ -1,30 +1,37 @@
--- Reading no more than 18,124 bytes of the input gives the same text as the whole input: a longer bundle is refused, and by its front.
-use Prim.Native.Nat.{_<_}
-use native.Mathlib.Omega.{arith}
+-- As much of an input as the longest bundle has, and one byte more, gives the text of the whole: a longer bundle is refused, and by its front.
+use Prim.Native.Nat.{ℕ, _<_}
 use mathlib.Core.Path.{_≡_, refl}
-use lib.ListN.{take}
+use mathlib.Core.List.{List}
+use lib.ListN.{length, take}
 use Rattle.model.specs.declared.BundleReply.{BundleReply}
 use Rattle.model.specs.declared.BundleReply.the-variants.{Sound, BundleRefused}
 use Rattle.model.specs.Bundles.{checkBundle}
 use Rattle.bundle.proofs.Longest.{front, read-front}
 use Rattle.bundle.specs.Promises.{longest}
-use Rattle.replay.specs.Text.{CheckedText}
-use Rattle.replay.specs.Promises.{bytesTaken, SameText}
-
--- one byte more than the longest bundle has
-takes-enough : longest < bytesTaken
-takes-enough = omega arith
+use Rattle.replay.specs.Text.{CheckedText, TextOf}
+use Rattle.replay.specs.Promises.{Replayed, InputText, SameText}
 
 pub same-text : SameText
-same-text bytes text =
+same-text n large bytes text =
     let same = go (checkBundle bytes) refl in
-    let checks = front bytes bytesTaken takes-enough in
+    let checks = front bytes n large in
     (λ h. same .0 (rw checks at h), λ h. rw checks (same .1 h))
   where
     Both : BundleReply → Type 0
-    Both r =
-        (CheckedText (take bytesTaken bytes) r text → CheckedText bytes r text) × (CheckedText bytes r text → CheckedText (take bytesTaken bytes) r text)
+    Both r = (CheckedText (take n bytes) r text → CheckedText bytes r text) × (CheckedText bytes r text → CheckedText (take n bytes) r text)
 
     go : (r : BundleReply) → checkBundle bytes ≡ r → Both r
-    go (Sound m) e = rw (read-front bytes bytesTaken m takes-enough e) (λ h. h, λ h. h)
+    go (Sound m) e = rw (read-front bytes n m large e) (λ h. h, λ h. h)
     go (BundleRefused q i) e = (λ h. h, λ h. h)
+
+-- so the text of what was read into a buffer of more bytes than the longest bundle has is that of the input
+pub text-of-input : (input : List ℕ) (read n : ℕ) {before after : List ℕ} {r : ℕ} → longest < length input → take n input ≡ take read input
+    → Replayed (TextOf (take n input)) before after r → Replayed (InputText input read) before after r
+text-of-input input read n large all w =
+    record {
+      text = w .text;
+      right = λ whole first. same-text (length input) large whole (w .text) .0 (rw (first, ← all) (w .right));
+      front = w .front;
+      size = w .size;
+      fits = w .fits;
+    }

@@ -62,15 +62,15 @@ module _ (bytes : List ℕ) {before : List ℕ} where
         → Writes before 0 (refusalLine (codeOf q) i) 24 after r → Wrote (TextOf bytes) before after r
     wrote-refused q i refused w = single-line (refusalLine (codeOf q) i) (rw refused refl) (omega arith) w
 
-    -- every text fits
-    pub replayed : length before ≡ textMost → Wrote (TextOf bytes) before after r → Replayed bytes before after r
-    replayed size w =
-        let fits : length (w .text) ≤ length before = omega (arith, w .writes .short) in
-        let all = whole (w .writes) fits in
-        record { text = w .text; right = w .right; front = all .0; size = all .1; fits = fits }
+-- every text fits
+pub replayed : {P : List ℕ → Type 0} {before after : List ℕ} {r : ℕ} → length before ≡ textMost → Wrote P before after r → Replayed P before after r
+replayed {before = before} size w =
+    let fits : length (w .text) ≤ length before = omega (arith, w .writes .short) in
+    let all = whole (w .writes) fits in
+    record { text = w .text; right = w .right; front = all .0; size = all .1; fits = fits }
 
 -- the text stands inside the buffer, and the part of it that is replied is the text
-module _ {bytes before after : List ℕ} {r : ℕ} (w : Replayed bytes before after r) where
+module _ {P : List ℕ → Type 0} {before after : List ℕ} {r : ℕ} (w : Replayed P before after r) where
   pub inside : r ≤ length after
   inside = rw (w .front, w .size, length-append) (omega arith)
 

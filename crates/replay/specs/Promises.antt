@@ -1,5 +1,5 @@
 -- What replaying promises.
-use Prim.Native.Nat.{ℕ, zero, suc, _+_, _-_, _*_, _≤_}
+use Prim.Native.Nat.{ℕ, zero, suc, _+_, _-_, _*_, _≤_, _<_}
 use mathlib.Core.Path.{_≡_}
 use mathlib.Core.List.{List, [], _++_}
 use lib.ListN.{length, getD, take, drop}
@@ -7,6 +7,7 @@ use Rattle.model.specs.declared.Entry.{Entry}
 use Rattle.model.specs.declared.Ledger.{Ledger}
 use Rattle.model.specs.Records.{freshEntry, withEntries}
 use Rattle.model.specs.Bundles.{entryCount}
+use Rattle.bundle.specs.Promises.{longest}
 use Rattle.settling.specs.declared.Funds.{Funds}
 use Rattle.settling.specs.Funds.{fundsOf, withAllFunds}
 use Rattle.text.specs.Lines.{accountLine}
@@ -25,24 +26,27 @@ closingMost = 27 * 32
 abbrev pub textMost : ℕ
 textMost = linesMost + closingMost
 
--- The whole of it: the buffer's front is the text of these bytes, what stands behind it is as it was, and the reply is the text's length.
--- The text fits, whatever the bytes are.
-pub record Replayed (bytes before after : List ℕ) (r : ℕ) : Type 0 where
+-- The whole of it: the buffer's front is a text that is right, what stands behind it is as it was, and the reply is the text's length. The text
+-- fits, whatever the bytes are.
+pub record Replayed (Right : List ℕ → Type 0) (before after : List ℕ) (r : ℕ) : Type 0 where
   pub text : List ℕ
-  pub right : TextOf bytes text
+  pub right : Right text
   pub front : after ≡ text ++ drop (length text) before
   pub size : r ≡ length text
   pub fits : length text ≤ length before
 
--- how many bytes of its input `daybook` takes
-abbrev pub bytesTaken : ℕ
-bytesTaken = 18_124
+-- The text of every input of which these bytes were read: its first ones, or the whole of it if it is shorter than the buffer. A count above
+-- the buffer's size counts as that size.
+abbrev pub InputText : List ℕ → ℕ → List ℕ → Type 0
+InputText input read text = (whole : List ℕ) → take (length input) whole ≡ take read input → TextOf whole text
 
--- That it takes no more makes no difference: these bytes have the text of the whole input, and no other.
+-- Of an input, one byte more than the longest bundle has is enough: its first n bytes have the texts of the whole, and no others.
 abbrev pub SameText : Type 0
 SameText =
-    (bytes text : List ℕ)
-    → (TextOf (take bytesTaken bytes) text → TextOf bytes text) × (TextOf bytes text → TextOf (take bytesTaken bytes) text)
+    (n : ℕ)
+    → longest < n
+    → (bytes text : List ℕ)
+    → (TextOf (take n bytes) text → TextOf bytes text) × (TextOf bytes text → TextOf (take n bytes) text)
 
 -- A text of which this holds stands at the buffer's front.
 pub record Wrote (Right : List ℕ → Type 0) (before after : List ℕ) (r : ℕ) : Type 0 where

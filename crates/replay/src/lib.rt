@@ -36,12 +36,15 @@ ghost use Rattle.model.specs.Bundles.{entryCount};
 ghost use Rattle.model.specs.Calls.{payerOf};
 ghost use Rattle.text.specs.Outputs.{Writes};
 ghost use Rattle.ledger.specs.Promises.{ListedAs};
-ghost use Rattle.replay.specs.Text.{ledgerFrom, LinesFrom, opened, CheckedText};
+ghost use Rattle.replay.specs.Text.{ledgerFrom, LinesFrom, opened, CheckedText, TextOf};
 ghost use Rattle.replay.specs.Lists.{SoundList, ListOf};
-ghost use Rattle.replay.specs.Promises.{closingMost, closingBy, Replayed, Wrote, PlayedAll};
+ghost use Rattle.replay.specs.Promises.{closingMost, closingBy, Replayed, InputText, Wrote, PlayedAll};
 
 // The longest text: 999 lines of a proposed transfer, 36 bytes each, and 32 lines of an account, 27 bytes each: 36,828 bytes.
 pub const TEXT_SIZE: usize = 36 * 999 + 27 * 32;
+
+// How much of its input `daybook` reads: one byte more than the longest bundle has, 18,124 bytes.
+pub const INPUT_SIZE: usize = 2 + 8 * 1_000 + 131 + 999 * 10 + 1;
 
 // How much of the buffer's front is written, and the accounts' funds after the entries.
 struct Played {
@@ -160,12 +163,26 @@ fn replay_sound(bytes: &[u8], out: &mut [u8]) -> usize
 
 // The text that `daybook` writes for these bytes, at the buffer's front; its length is replied.
 pub fn replay(bytes: &[u8], out: &mut [u8; TEXT_SIZE]) -> usize
-    ensures { λ r. ⌜ Replayed (now (bytes .entry)) (now (out .entry)) (now (out .exit)) r ⌝ }
+    ensures { λ r. ⌜ Replayed (TextOf (now (bytes .entry))) (now (out .entry)) (now (out .exit)) r ⌝ }
 {
     match check(bytes) {
         BundleReply::Sound(_) => replay_sound(bytes, out),
         BundleReply::BundleRefused(r, i) => put_refusal(out, 0, code_of(r), i),
     }
+}
+
+// The text for an input of which these bytes were read: the first of it, or the whole if it is shorter than the buffer. A count above the
+// buffer's size counts as that size.
+pub fn replay_input(input: &[u8; INPUT_SIZE], read: usize, out: &mut [u8; TEXT_SIZE]) -> usize
+    ensures { λ r. ⌜ Replayed (InputText (now (input .entry)) read) (now (out .entry)) (now (out .exit)) r ⌝ }
+{
+    let bytes: &[u8] = input;
+    let given = if read < bytes.len() {
+        read
+    } else {
+        bytes.len()
+    };
+    replay(&bytes[..given], out)
 }
 
 // The waiting list of the ledger that an opened ledger's entries leave. The text goes nowhere; what waits is told by the funds.

@@ -12,20 +12,14 @@ slice-aggregate-read-full c = search needs
 read-full-requires : tie.Need-read-full-requires
 read-full-requires c κs = search needs
 
-array-share-prefix-input : tie.Need-array-share-prefix-input
-array-share-prefix-input c = search needs
-
-slice-aggregate-replay : tie.Need-slice-aggregate-replay
-slice-aggregate-replay c = search needs
-
-replay-requires : tie.Need-replay-requires
-replay-requires c κs = search needs
+replay-input-requires : tie.Need-replay-input-requires
+replay-input-requires c κs = search needs
 
 array-share-prefix-text : tie.Need-array-share-prefix-text
-array-share-prefix-text c = inside (c .replay .ensures)
+array-share-prefix-text c = inside (c .replay-input .ensures)
 
 slice-aggregate-write-all : tie.Need-slice-aggregate-write-all
-slice-aggregate-write-all c = sym (length-take-le _ _ (inside (c .before .replay .ensures)))
+slice-aggregate-write-all c = sym (length-take-le _ _ (inside (c .before .replay-input .ensures)))
 
 write-all-requires : tie.Need-write-all-requires
 write-all-requires c κs = search needs
@@ -39,9 +33,7 @@ main-spec =
     (tie.spec
     slice-aggregate-read-full
     read-full-requires
-    array-share-prefix-input
-    slice-aggregate-replay
-    replay-requires
+    replay-input-requires
     array-share-prefix-text
     slice-aggregate-write-all
     write-all-requires

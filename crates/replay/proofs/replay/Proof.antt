@@ -33,12 +33,12 @@ put-refusal-requires c κs = search needs
 returns : tie.Need-returns
 returns c =
     let told = c .before .before in
-    replayed _ (search needs) (wrote-sound _ (sound told) (sound-count _ _ (sound told) .0) (c .replay-sound .ensures))
+    replayed (search needs) (wrote-sound _ (sound told) (sound-count _ _ (sound told) .0) (c .replay-sound .ensures))
 
 returns-2 : tie.Need-returns-2
 returns-2 c =
     let told = c .before .before .before .before in
-    replayed _ (search needs)
+    replayed (search needs)
     (wrote-refused _ _ _ (sym (told .before .before .check .ensures .meets) ∙ told .r .given .1) (rw (c .before .code-of .ensures) at (c .put-refusal .ensures)))
 
 pub replay-spec : {M : Type 1} → statement M

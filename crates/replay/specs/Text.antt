@@ -6,6 +6,7 @@ use mathlib.Core.List.{List, [], _++_}
 use mathlib.Core.Option.{Option, none, some}
 use Rattle.model.specs.declared.Ledger.{Ledger}
 use Rattle.model.specs.declared.Message.{Message}
+use Rattle.model.specs.declared.Opening.{Opening}
 use Rattle.model.specs.declared.Reply.{Reply}
 use Rattle.model.specs.declared.OpenAnswer.{OpenAnswer}
 use Rattle.model.specs.declared.OpenReply.{OpenReply}
@@ -59,8 +60,11 @@ OpenedText bytes m (OpenRefused r) l text = text ≡ refusalLine (codeOf r) 0
 OpenedText bytes m Opened l text = LinesFrom bytes (m - 1) 1 l text
 
 -- "page 0 is the opening page"
+abbrev pub openingPage : List ℕ → Opening
+openingPage bytes = openingOf (pageAt bytes 0 .body)
+
 abbrev pub opened : List ℕ → OpenAnswer
-opened bytes = openLedger (openingOf (pageAt bytes 0 .body))
+opened bytes = openLedger (openingPage bytes)
 
 -- the text of the check's answer: nothing is opened before the whole bundle is checked
 abbrev pub CheckedText : List ℕ → BundleReply → List ℕ → Type 0

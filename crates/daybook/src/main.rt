@@ -1,5 +1,5 @@
-// The program `daybook`: reads a bundle from standard input, replays it, and writes its text to standard output. It reads one byte more than
-// the longest bundle has, 18,124 bytes, and by the contract of `replay_input` writes what the whole input gives.
+// The program `daybook`: reads a bundle from standard input, replays it, and writes its text to standard output. It reads at most 18,124 bytes,
+// one more than the longest bundle has: by the contract of `replay_input` they give the text of the whole input.
 use libc::STDIN_FILENO;
 use libc::STDOUT_FILENO;
 use replay::INPUT_SIZE;

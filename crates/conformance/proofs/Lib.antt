@@ -1,0 +1,2 @@
+-- The links, proved: `works-obeys` in Operations.antt.
+pub mod Operations

@@ -1,2 +1,3 @@
 -- The links, proved: `works-obeys` in Operations.antt.
 pub mod Operations
+pub mod Texts

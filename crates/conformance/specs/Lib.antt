@@ -3,3 +3,4 @@
 -- Operations: a group whose seats hand on their ledgers from operation to operation makes runs that obey (`WorksObeys`), and all of them
 -- (`ObeysWorks`); so demand 3 and the facts hold of what they do (`WorksDemand3`, `WorksFacts`).
 pub mod Operations
+pub mod Texts

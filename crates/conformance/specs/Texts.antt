@@ -1,0 +1,112 @@
+-- The lines of a text that `daybook` writes are a run at one seat. The proofs are in proofs/Texts.antt.
+use Prim.Native.Nat.{ℕ, zero, suc, _-_, _<_}
+use mathlib.Core.Path.{_≡_}
+use mathlib.Core.List.{List, [], _∷_, _++_, map}
+use mathlib.Core.Option.{Option, some}
+use lib.ListN.{length, getD}
+use Rattle.model.specs.declared.BundleReply.the-variants.{Sound}
+use Rattle.model.specs.Bundles.{entryCount, pageAt, openingOf, messageOf, checkBundle}
+use Rattle.model.specs.Basics.{sumOf}
+use Rattle.agreement.specs.Types.{Seat, Account, Opening, Message, Inquiry, Reply, Circulate, Acknowledge, Accept, Propose, Note, Balance, Refuse, Opened}
+use Rattle.agreement.specs.Runs.{message, Run, start, _▹_, ledgerAt, Obeys}
+use Rattle.agreement.specs.Slates.{slateAt}
+use Rattle.agreement.specs.Facts.{Facts}
+use Rattle.text.specs.Lines.{replyLine, accountLine}
+use Rattle.replay.specs.Text.{closing, opened, TextOf}
+
+-- a message with its reply
+pub record Exchange : Type 0 where
+  pub asked : Message
+  pub reply : Reply
+
+-- the run that goes on with these exchanges at one seat, in their order
+abbrev pub runFrom : Seat → Run → List Exchange → Run
+runFrom s run [] = run
+runFrom s run (x ∷ xs) = runFrom s (run ▹ record { at = s; call = message (x .asked) (x .reply) }) xs
+
+abbrev pub runOf : Seat → List Exchange → Run
+runOf s xs = runFrom s start xs
+
+-- what the `left` entries from i on ask
+abbrev pub asksFrom : List ℕ → ℕ → ℕ → List (Option Message)
+asksFrom bytes zero i = []
+asksFrom bytes (suc left) i = messageOf (pageAt bytes i) ∷ asksFrom bytes left (suc i)
+
+-- "one line per entry from 1: entry, reply letter, and what it carries": the lines of these replies, the first of which is entry i's
+abbrev pub replyLines : ℕ → List Exchange → List ℕ
+replyLines i [] = []
+replyLines i (x ∷ xs) = replyLine i (x .reply) ++ replyLines (suc i) xs
+
+-- "page 0 is the opening page"
+abbrev pub openingPage : List ℕ → Opening
+openingPage bytes = openingOf (pageAt bytes 0 .body)
+
+-- A run of seat s that a bundle's text tells: each entry from 1 is one of its calls, and no other is; it obeys the definitions; and the
+-- text is the lines of its replies and the closing lines of its last ledger.
+pub record RunOfText (bytes text : List ℕ) (s : Seat) : Type 0 where
+  pub exchanges : List Exchange
+  pub asked : map (λ x. some (x .asked)) exchanges ≡ asksFrom bytes (entryCount bytes - 1) 1
+  pub obeys : Obeys (openingPage bytes) (runOf s exchanges)
+  pub lines : text ≡ replyLines 1 exchanges ++ closing (ledgerAt (openingPage bytes) s (runOf s exchanges))
+
+-- what a closing line tells of its account
+pub record Row : Type 0 where
+  pub balance : ℕ
+  pub current : ℕ
+
+-- behind the last row
+abbrev pub noRow : Row
+noRow = record { balance = 0; current = 0 }
+
+-- "then per account `= account balance current`": the lines of these rows, the first of which is account a's
+abbrev pub rowLines : ℕ → List Row → List ℕ
+rowLines a [] = []
+rowLines a (row ∷ rows) = accountLine a (row .balance) (row .current) ++ rowLines (suc a) rows
+
+-- "K carries how many slips this call booked"; no other reply has a count
+abbrev pub countOf : Reply → ℕ
+countOf Circulate = 0
+countOf Acknowledge = 0
+countOf (Accept c) = c
+countOf (Propose t) = 0
+countOf Note = 0
+countOf (Balance b) = 0
+countOf (Refuse r) = 0
+
+-- What the replies of a run at one seat, and the rows of its last ledger, tell of one another and of the slate that is fed these calls.
+pub record Accounted (o : Opening) (s : Seat) (xs : List Exchange) (rows : List Row) : Type 0 where
+  -- there is a row for each of the k accounts
+  pub row-each : length rows ≡ o .accounts
+  -- the balances add up to the opening sum
+  pub balances-sum : sumOf (λ row. row .balance) rows ≡ sumOf (λ b. b) (o .balances)
+  -- the current numbers add up to the counts of all K
+  pub currents-sum : sumOf (λ row. row .current) rows ≡ sumOf (λ x. countOf (x .reply)) xs
+  -- each row is the slate's balance and count
+  pub slate-rows : (a : Account) → a .0 < o .accounts
+      → getD rows (a .0) noRow ≡ record { balance = slateAt o s (runOf s xs) .balance a; current = slateAt o s (runOf s xs) .count a }
+  -- "the balance in each reply B is the slate's for that account", as it was before that line
+  pub told : (before after : List Exchange) (a : Account) (b : ℕ)
+      → xs ≡ before ++ record { asked = Inquiry a; reply = Balance b } ∷ after → b ≡ slateAt o s (runOf s before) .balance a
+
+-- What a text tells its reader: its lines are a run, of which all is true that is true of every run; and its closing lines are rows that
+-- account for it.
+pub record Tells (bytes text : List ℕ) (s : Seat) : Type 0 where
+  pub run : RunOfText bytes text s
+  pub facts : Facts (openingPage bytes) (runOf s (run .exchanges))
+  pub rows : List Row
+  pub printed : text ≡ replyLines 1 (run .exchanges) ++ rowLines 0 rows
+  pub accounted : Accounted (openingPage bytes) s (run .exchanges) rows
+
+-- Every text of a bundle that is sound and opens tells this, whichever seat is taken for the one that writes it.
+abbrev pub EveryText : Type 0
+EveryText =
+    (bytes text : List ℕ) (m : ℕ) (s : Seat)
+    → checkBundle bytes ≡ Sound m → opened bytes .reply ≡ Opened → TextOf bytes text → Tells bytes text s
+
+-- And every run at one seat that obeys, with the messages of such a bundle, is told by one of its texts.
+abbrev pub EveryRun : Type 0
+EveryRun =
+    (bytes : List ℕ) (m : ℕ) (s : Seat) (xs : List Exchange)
+    → checkBundle bytes ≡ Sound m → opened bytes .reply ≡ Opened
+    → map (λ x. some (x .asked)) xs ≡ asksFrom bytes (m - 1) 1 → Obeys (openingPage bytes) (runOf s xs)
+    → TextOf bytes (replyLines 1 xs ++ closing (ledgerAt (openingPage bytes) s (runOf s xs)))

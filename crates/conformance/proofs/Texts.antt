@@ -24,11 +24,22 @@ use Rattle.agreement.proofs.Reachable.{sound}
 use Rattle.agreement.proofs.Slated.{told-slate}
 use Rattle.agreement.proofs.Always.{always}
 use Rattle.agreement.proofs.StepLaws.{Turn, keeps, accepts, turn}
+use Rattle.ledger.specs.Promises.{ListedAs}
 use Rattle.bundle.proofs.Asking.{all-ask}
-use Rattle.replay.specs.Text.{EntryText, ledgerAfter, closingFrom, closing, LinesFrom, opened, TextOf}
+use Rattle.replay.specs.Text.{EntryText, ledgerFrom, closingFrom, closing, LinesFrom, opened, TextOf}
 use Rattle.replay.proofs.Sound.{sound-count}
 use Rattle.text.specs.Lines.{replyLine, accountLine}
-use Rattle.conformance.specs.Texts.{Exchange, runFrom, runOf, asksFrom, replyLines, openingPage, RunOfText, Row, noRow, rowLines, countOf, Accounted, Tells, EveryText, EveryRun}
+use Rattle.conformance.specs.Texts.{Exchange, runFrom, runOf, asksFrom, replyLines, openingPage, RunOfText, Row, noRow, rowLines, countOf, Accounted, EveryText, EveryRun, EveryList}
+
+-- Places in a run that goes on with exchanges.
+module _ (s : Seat) where
+  from-within : (run : Run) (xs : List Exchange) → Within run (runFrom s run xs)
+  from-within run [] = at-end
+  from-within run (x ∷ xs) = before (from-within (run ▹ record { at = s; call = message (x .asked) (x .reply) }) xs)
+
+  from-append : (run : Run) (xs ys : List Exchange) → runFrom s run (xs ++ ys) ≡ runFrom s (runFrom s run xs) ys
+  from-append run [] ys = refl
+  from-append run (x ∷ xs) ys = from-append (run ▹ record { at = s; call = message (x .asked) (x .reply) }) xs ys
 
 -- A run of seat s that goes on with the `left` entries from i on.
 module _ (bytes : List ℕ) (o : Opening) (s : Seat) where
@@ -67,15 +78,36 @@ module _ (bytes : List ℕ) (o : Opening) (s : Seat) where
       (one-more left i run m (told .0) rest (this .1)
       (goes-on left (suc i) (run ▹ e) rest (λ j from to. asks j (omega arith) (omega arith)) (obeys, told .1) then))
 
--- Places in such a run.
-module _ (s : Seat) where
-  from-within : (run : Run) (xs : List Exchange) → Within run (runFrom s run xs)
-  from-within run [] = at-end
-  from-within run (x ∷ xs) = before (from-within (run ▹ record { at = s; call = message (x .asked) (x .reply) }) xs)
+  -- and back: if such a run obeys, its lines are lines of these entries
+  told-lines : (left i : ℕ) (run : Run) (xs : List Exchange) → map (λ x. some (x .asked)) xs ≡ asksFrom bytes left i → Obeys o (runFrom s run xs)
+      → LinesFrom bytes left i (ledgerAt o s run) (replyLines i xs ++ closing (ledgerAt o s (runFrom s run xs)))
+  told-lines zero i run [] same obeys = refl
+  told-lines zero i run (x ∷ xs) same obeys = impossible (cc)
+  told-lines (suc left) i run [] same obeys = impossible (cc)
+  told-lines (suc left) i run (x ∷ xs) same obeys =
+      let asks : messageOf (pageAt bytes i) ≡ some (x .asked) = cc in
+      let e : Event = record { at = s; call = message (x .asked) (x .reply) } in
+      let next = ledger-after o s run e (x .asked) (x .reply) refl refl in
+      let ends = closing (ledgerAt o s (runFrom s (run ▹ e) xs)) in
+      let answers = obeys-before o obeys (from-within s (run ▹ e) xs) .1 in
+      rw asks (
+        replyLine i (x .reply),
+        replyLines (suc i) xs ++ ends,
+        (x .reply, answers, refl),
+        rw next at (told-lines left (suc i) (run ▹ e) xs (cc) obeys),
+        append-assoc (replyLine i (x .reply)) (replyLines (suc i) xs) ends,
+      )
 
-  from-append : (run : Run) (xs ys : List Exchange) → runFrom s run (xs ++ ys) ≡ runFrom s (runFrom s run xs) ys
-  from-append run [] ys = refl
-  from-append run (x ∷ xs) ys = from-append (run ▹ record { at = s; call = message (x .asked) (x .reply) }) xs ys
+  -- and its last ledger is the one that these entries leave
+  ledger-left : (left i : ℕ) (run : Run) (xs : List Exchange) → map (λ x. some (x .asked)) xs ≡ asksFrom bytes left i
+      → ledgerFrom bytes left i (ledgerAt o s run) ≡ ledgerAt o s (runFrom s run xs)
+  ledger-left zero i run [] same = refl
+  ledger-left zero i run (x ∷ xs) same = impossible (cc)
+  ledger-left (suc left) i run [] same = impossible (cc)
+  ledger-left (suc left) i run (x ∷ xs) same =
+      let asks : messageOf (pageAt bytes i) ≡ some (x .asked) = cc in
+      let e : Event = record { at = s; call = message (x .asked) (x .reply) } in
+      rw (asks, ← ledger-after o s run e (x .asked) (x .reply) refl refl) (ledger-left left (suc i) (run ▹ e) xs (cc))
 
 -- lists with the same number at each place have the same sum
 sum-same-each : {A : Type 0} (f : A → ℕ) (xs ys : List A) (d : A) → length xs ≡ length ys → ((i : ℕ) → f (getD xs i d) ≡ f (getD ys i d))
@@ -232,3 +264,16 @@ every-text bytes text m s right opens h =
       printed = run .lines ∙ ap (λ (c : List ℕ). replyLines 1 (run .exchanges) ++ c) (closing-is page page-opens s (run .exchanges) (run .obeys));
       accounted = accounted page page-opens s (run .exchanges) (run .obeys);
     }
+
+pub every-run : EveryRun
+unfolding ledgerAt
+every-run bytes m s xs right opens asked obeys =
+    rw (right, opens, sound-count bytes m right .0) (told-lines bytes (openingPage bytes) s (entryCount bytes - 1) 1 start xs asked obeys)
+
+pub every-list : EveryList
+unfolding ledgerAt
+every-list bytes text m s run before reply after right opens lists =
+    let page = openingPage bytes in
+    let here : ListedAs (ledgerFrom bytes (m - 1) 1 (opened bytes .ledger)) before reply after = rw (right, opens) at (lists .meets) in
+    let left = ledger-left bytes page s (entryCount bytes - 1) 1 start (run .exchanges) (run .asked) in
+    (run .obeys, rw (sound-count bytes m right .0, left) at (here .meets))

@@ -7,12 +7,13 @@ use lib.ListN.{length, getD}
 use Rattle.model.specs.declared.BundleReply.the-variants.{Sound}
 use Rattle.model.specs.Bundles.{entryCount, pageAt, openingOf, messageOf, checkBundle}
 use Rattle.model.specs.Basics.{sumOf}
-use Rattle.agreement.specs.Types.{Seat, Account, Opening, Message, Inquiry, Reply, Circulate, Acknowledge, Accept, Propose, Note, Balance, Refuse, Opened}
-use Rattle.agreement.specs.Runs.{message, Run, start, _▹_, ledgerAt, Obeys}
+use Rattle.agreement.specs.Types.{Seat, Account, Opening, Message, Inquiry, Reply, Circulate, Acknowledge, Accept, Propose, Note, Balance, Refuse, Opened, ListReply}
+use Rattle.agreement.specs.Runs.{message, waitingList, Run, start, _▹_, ledgerAt, Obeys}
 use Rattle.agreement.specs.Slates.{slateAt}
 use Rattle.agreement.specs.Facts.{Facts}
 use Rattle.text.specs.Lines.{replyLine, accountLine}
 use Rattle.replay.specs.Text.{closing, opened, TextOf}
+use Rattle.replay.specs.Lists.{ListOf}
 
 -- a message with its reply
 pub record Exchange : Type 0 where
@@ -108,5 +109,12 @@ abbrev pub EveryRun : Type 0
 EveryRun =
     (bytes : List ℕ) (m : ℕ) (s : Seat) (xs : List Exchange)
     → checkBundle bytes ≡ Sound m → opened bytes .reply ≡ Opened
-    → map (λ x. some (x .asked)) xs ≡ asksFrom bytes (m - 1) 1 → Obeys (openingPage bytes) (runOf s xs)
+    → map (λ x. some (x .asked)) xs ≡ asksFrom bytes (entryCount bytes - 1) 1 → Obeys (openingPage bytes) (runOf s xs)
     → TextOf bytes (replyLines 1 xs ++ closing (ledgerAt (openingPage bytes) s (runOf s xs)))
+
+-- The waiting list that a host asks for behind the last entry is one more call of the run that a text tells.
+abbrev pub EveryList : Type 0
+EveryList =
+    (bytes text : List ℕ) (m : ℕ) (s : Seat) (run : RunOfText bytes text s) (before : List ℕ) (reply : ListReply) (after : List ℕ)
+    → checkBundle bytes ≡ Sound m → opened bytes .reply ≡ Opened → ListOf bytes before reply after
+    → Obeys (openingPage bytes) (runOf s (run .exchanges) ▹ record { at = s; call = waitingList before reply after })

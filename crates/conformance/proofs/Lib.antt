@@ -1,3 +1,4 @@
--- The links, proved: `works-obeys` in Operations.antt.
+-- The links, proved: `works-obeys` and what follows from it; `every-text`, `every-run` and `every-list`; and both tried.
 pub mod Operations
 pub mod Texts
+pub mod Tried

@@ -29,7 +29,7 @@ abbrev sum : List ℕ
 sum = 6 ∷ 205 ∷ 124 ∷ 148 ∷ []
 
 -- "n 6, f 1, k 2, balances 10 and 3, entries: slip (0, 1, 4, 1), acks of it from seats 0 to 4, question 1"
-pub case : List ℕ
+unfoldable pub case : List ℕ
 case =
     (8 ∷ 0 ∷ [])
     ++ (0 ∷ 0 ∷ 66 ∷ 0 ∷ 122 ∷ 23 ∷ 148 ∷ 160 ∷ [])

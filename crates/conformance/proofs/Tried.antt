@@ -1,0 +1,91 @@
+-- The links, tried. The run that demand 3 is tried on is made by a group at work. Document 01's whole output is a run, written out here,
+-- and no other text of that bundle is one.
+use Prim.Native.Nat.{ℕ}
+use mathlib.Core.Path.{_≡_, refl}
+use mathlib.Core.List.{List, [], _∷_, _++_}
+use Rattle.model.specs.declared.BundleReply.the-variants.{Sound}
+use Rattle.model.specs.Basics.{sumOf}
+use Rattle.model.specs.Records.{seatOf, accountOf, noAcks}
+use Rattle.model.specs.Transfers.{equal, conflict}
+use Rattle.model.specs.Refusals.{rulesOf}
+use Rattle.model.specs.Openings.{openLedger}
+use Rattle.model.specs.Acks.{hasMost}
+use Rattle.model.specs.Settling.{lowestAffordable, apply, settleAtMost, settle, accept}
+use Rattle.model.specs.Calls.{effect, step}
+use Rattle.model.specs.Bundles.{checkBundle}
+use Rattle.agreement.specs.Types.{Seat, Message, Circulated, Ack, Inquiry, Reply, Acknowledge, Note, Accept, Balance, Opened}
+use Rattle.agreement.specs.Runs.{Run, start, _▹_, ledgerAt}
+use Rattle.agreement.specs.Claims.{Claim}
+use Rattle.agreement.proofs.Examples.{page, bad, t, asked, acks, ack, _then_, witness, witness-obeys, witness-keeps}
+use Rattle.text.specs.Lines.{decimal}
+use Rattle.replay.specs.Text.{opened}
+use Rattle.replay.proofs.WholeOutput.{case, nineLines, whole-output}
+use Rattle.conformance.specs.Operations.{Works}
+use Rattle.conformance.specs.Texts.{Exchange, runOf, openingPage, RunOfText, Row, rowLines, replyLines, countOf, Tells}
+use Rattle.conformance.proofs.Operations.{obeys-works, works-demand3}
+use Rattle.conformance.proofs.Texts.{every-text, every-run}
+
+-- a group at work makes the run that demand 3 is tried on, and so demand 3 holds of it
+pub witness-works : Works page (λ s. ledgerAt page s witness) witness
+witness-works = obeys-works page witness witness-obeys
+
+pub witness-claim : Claim page bad witness
+witness-claim =
+    let kept = witness-keeps in
+    works-demand3 page bad (λ s. ledgerAt page s witness) witness (kept .0) (kept .1) (kept .2) witness-works (kept .4)
+
+-- "slip (0, 1, 4, 1), acks of it from seats 0 to 4, question 1", with the replies of the nine lines
+infixl 70 _gets_
+abbrev _gets_ : Message → Reply → Exchange
+m gets r = record { asked = m; reply = r }
+
+abbrev exchanges : List Exchange
+exchanges =
+    Circulated t gets Acknowledge
+    ∷ Ack (seatOf 0) t gets Note
+    ∷ Ack (seatOf 1) t gets Note
+    ∷ Ack (seatOf 2) t gets Note
+    ∷ Ack (seatOf 3) t gets Note
+    ∷ Ack (seatOf 4) t gets Accept 1
+    ∷ Inquiry (accountOf 1) gets Balance 7
+    ∷ []
+
+abbrev rows : List Row
+rows = record { balance = 6; current = 1 } ∷ record { balance = 7; current = 0 } ∷ []
+
+-- its messages are those of the bundle, it obeys, and the nine lines are its replies and its last ledger
+pub whole-run : RunOfText case nineLines (seatOf 0)
+unfolding case decimal ledgerAt noAcks equal conflict hasMost rulesOf openLedger lowestAffordable apply settleAtMost settle accept effect step
+whole-run =
+    record {
+      exchanges = exchanges;
+      asked = refl;
+      obeys = tt then refl then refl then refl then refl then refl then refl then refl;
+      lines = refl;
+    }
+
+-- its calls in their order, its lines, and what its numbers add up to
+pub whole-facts :
+    (runOf (seatOf 0) exchanges
+    ≡ start ▹ acks 0 t ▹ ack 0 0 t Note ▹ ack 0 1 t Note ▹ ack 0 2 t Note ▹ ack 0 3 t Note ▹ ack 0 4 t (Accept 1)
+    ▹ asked 0 (Inquiry (accountOf 1)) (Balance 7))
+    × (nineLines ≡ replyLines 1 exchanges ++ rowLines 0 rows)
+    × (sumOf (λ row. row .balance) rows ≡ sumOf (λ b. b) (openingPage case .balances))
+    × (sumOf (λ row. row .current) rows ≡ sumOf (λ x. countOf (x .reply)) exchanges)
+unfolding case decimal
+whole-facts = (refl, refl, refl, refl)
+
+-- that bundle is sound and opens
+pub whole-sound : (checkBundle case ≡ Sound 8) × (opened case .reply ≡ Opened)
+unfolding case checkBundle openLedger
+whole-sound = (refl, refl)
+
+-- so its text tells what every text does
+pub whole-tells : (s : Seat) → Tells case nineLines s
+whole-tells s = every-text case nineLines 8 s (whole-sound .0) (whole-sound .1) (whole-output .right)
+
+-- and no other text of it tells a run
+pub only-text : (text : List ℕ) (s : Seat) → RunOfText case text s → text ≡ nineLines
+only-text text s run =
+    whole-output .alone text
+    (rw (run .lines) (every-run case 8 s (run .exchanges) (whole-sound .0) (whole-sound .1) (run .asked) (run .obeys)))

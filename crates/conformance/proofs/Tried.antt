@@ -1,5 +1,5 @@
--- The links, tried. The run that demand 3 is tried on is made by a group at work. Document 01's whole output is a run, written out here,
--- and no other text of that bundle is one.
+-- The links, tried. The run that demand 3 is tried on is made by a group at work. Document 01's whole output is the text of a run, which
+-- is written out here, and of every run of that bundle.
 use Prim.Native.Nat.{ℕ}
 use mathlib.Core.Path.{_≡_, refl}
 use mathlib.Core.List.{List, [], _∷_, _++_}
@@ -21,7 +21,7 @@ use Rattle.text.specs.Lines.{decimal}
 use Rattle.replay.specs.Text.{opened}
 use Rattle.replay.proofs.WholeOutput.{case, nineLines, whole-output}
 use Rattle.conformance.specs.Operations.{Works}
-use Rattle.conformance.specs.Texts.{Exchange, runOf, openingPage, RunOfText, Row, rowLines, replyLines, countOf, Tells}
+use Rattle.conformance.specs.Texts.{Exchange, runOf, openingPage, RunOfBundle, replyLines, textOfRun, Row, rowLines, countOf, Tells}
 use Rattle.conformance.proofs.Operations.{obeys-works, works-demand3}
 use Rattle.conformance.proofs.Texts.{every-text, every-run}
 
@@ -53,16 +53,16 @@ exchanges =
 abbrev rows : List Row
 rows = record { balance = 6; current = 1 } ∷ record { balance = 7; current = 0 } ∷ []
 
--- its messages are those of the bundle, it obeys, and the nine lines are its replies and its last ledger
-pub whole-run : RunOfText case nineLines (seatOf 0)
+-- it has the bundle's messages and obeys, and the nine lines are its text
+pub whole-run : RunOfBundle case (seatOf 0) exchanges × (nineLines ≡ textOfRun case (seatOf 0) exchanges)
 unfolding case decimal ledgerAt noAcks equal conflict hasMost rulesOf openLedger lowestAffordable apply settleAtMost settle accept effect step
-whole-run =
-    record {
-      exchanges = exchanges;
-      asked = refl;
-      obeys = tt then refl then refl then refl then refl then refl then refl then refl;
-      lines = refl;
-    }
+whole-run = (
+  record {
+    asked = (refl, (refl, (refl, (refl, (refl, (refl, (refl, tt)))))));
+    obeys = tt then refl then refl then refl then refl then refl then refl then refl;
+  },
+  refl,
+)
 
 -- its calls in their order, its lines, and what its numbers add up to
 pub whole-facts :
@@ -84,8 +84,6 @@ whole-sound = (refl, refl)
 pub whole-tells : (s : Seat) → Tells case nineLines s
 whole-tells s = every-text case nineLines 8 s (whole-sound .0) (whole-sound .1) (whole-output .right)
 
--- and no other text of it tells a run
-pub only-text : (text : List ℕ) (s : Seat) → RunOfText case text s → text ≡ nineLines
-only-text text s run =
-    whole-output .alone text
-    (rw (run .lines) (every-run case 8 s (run .exchanges) (whole-sound .0) (whole-sound .1) (run .asked) (run .obeys)))
+-- and every run of it has this text
+pub only-text : (s : Seat) (xs : List Exchange) → RunOfBundle case s xs → textOfRun case s xs ≡ nineLines
+only-text s xs run = whole-output .alone (textOfRun case s xs) (every-run case 8 s xs (whole-sound .0) (whole-sound .1) run)

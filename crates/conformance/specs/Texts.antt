@@ -1,54 +1,60 @@
 -- The lines of a text that `daybook` writes are a run at one seat. The proofs are in proofs/Texts.antt.
 use Prim.Native.Nat.{ℕ, zero, suc, _-_, _<_}
 use mathlib.Core.Path.{_≡_}
-use mathlib.Core.List.{List, [], _∷_, _++_, map}
-use mathlib.Core.Option.{Option, some}
+use mathlib.Core.List.{List, [], _∷_, _++_}
+use mathlib.Core.Option.{some}
 use lib.ListN.{length, getD}
 use Rattle.model.specs.declared.BundleReply.the-variants.{Sound}
 use Rattle.model.specs.Bundles.{entryCount, pageAt, openingOf, messageOf, checkBundle}
 use Rattle.model.specs.Basics.{sumOf}
 use Rattle.agreement.specs.Types.{Seat, Account, Opening, Message, Inquiry, Reply, Circulate, Acknowledge, Accept, Propose, Note, Balance, Refuse, Opened, ListReply}
-use Rattle.agreement.specs.Runs.{message, waitingList, Run, start, _▹_, ledgerAt, Obeys}
+use Rattle.agreement.specs.Runs.{message, waitingList, Event, Run, start, _▹_, ledgerAt, Obeys}
 use Rattle.agreement.specs.Slates.{slateAt}
 use Rattle.agreement.specs.Facts.{Facts}
 use Rattle.text.specs.Lines.{replyLine, accountLine}
 use Rattle.replay.specs.Text.{closing, opened, TextOf}
 use Rattle.replay.specs.Lists.{ListOf}
 
--- a message with its reply
+-- a message with its reply, and the call that it is at a seat
 pub record Exchange : Type 0 where
   pub asked : Message
   pub reply : Reply
 
--- the run that goes on with these exchanges at one seat, in their order
+abbrev pub eventOf : Seat → Exchange → Event
+eventOf s x = record { at = s; call = message (x .asked) (x .reply) }
+
+-- the run that goes on with these exchanges at one seat, in their order; and the run of nothing else
 abbrev pub runFrom : Seat → Run → List Exchange → Run
 runFrom s run [] = run
-runFrom s run (x ∷ xs) = runFrom s (run ▹ record { at = s; call = message (x .asked) (x .reply) }) xs
+runFrom s run (x ∷ xs) = runFrom s (run ▹ eventOf s x) xs
 
 abbrev pub runOf : Seat → List Exchange → Run
 runOf s xs = runFrom s start xs
 
--- what the `left` entries from i on ask
-abbrev pub asksFrom : List ℕ → ℕ → ℕ → List (Option Message)
-asksFrom bytes zero i = []
-asksFrom bytes (suc left) i = messageOf (pageAt bytes i) ∷ asksFrom bytes left (suc i)
+-- these exchanges have the messages of the `left` entries from i on, one for each
+abbrev pub AskedFrom : List ℕ → ℕ → ℕ → List Exchange → Type 0
+AskedFrom bytes zero i [] = Unit {0}
+AskedFrom bytes zero i (x ∷ xs) = ⊥
+AskedFrom bytes (suc left) i [] = ⊥
+AskedFrom bytes (suc left) i (x ∷ xs) = (messageOf (pageAt bytes i) ≡ some (x .asked)) × AskedFrom bytes left (suc i) xs
+
+-- "page 0 is the opening page"
+abbrev pub openingPage : List ℕ → Opening
+openingPage bytes = openingOf (pageAt bytes 0 .body)
+
+-- A run of a bundle at seat s: each entry from 1 is one of its calls, and no other is; and it obeys the definitions.
+pub record RunOfBundle (bytes : List ℕ) (s : Seat) (xs : List Exchange) : Type 0 where
+  pub asked : AskedFrom bytes (entryCount bytes - 1) 1 xs
+  pub obeys : Obeys (openingPage bytes) (runOf s xs)
 
 -- "one line per entry from 1: entry, reply letter, and what it carries": the lines of these replies, the first of which is entry i's
 abbrev pub replyLines : ℕ → List Exchange → List ℕ
 replyLines i [] = []
 replyLines i (x ∷ xs) = replyLine i (x .reply) ++ replyLines (suc i) xs
 
--- "page 0 is the opening page"
-abbrev pub openingPage : List ℕ → Opening
-openingPage bytes = openingOf (pageAt bytes 0 .body)
-
--- A run of seat s that a bundle's text tells: each entry from 1 is one of its calls, and no other is; it obeys the definitions; and the
--- text is the lines of its replies and the closing lines of its last ledger.
-pub record RunOfText (bytes text : List ℕ) (s : Seat) : Type 0 where
-  pub exchanges : List Exchange
-  pub asked : map (λ x. some (x .asked)) exchanges ≡ asksFrom bytes (entryCount bytes - 1) 1
-  pub obeys : Obeys (openingPage bytes) (runOf s exchanges)
-  pub lines : text ≡ replyLines 1 exchanges ++ closing (ledgerAt (openingPage bytes) s (runOf s exchanges))
+-- the text of such a run: the lines of its replies, and the closing lines of its last ledger
+abbrev pub textOfRun : List ℕ → Seat → List Exchange → List ℕ
+textOfRun bytes s xs = replyLines 1 xs ++ closing (ledgerAt (openingPage bytes) s (runOf s xs))
 
 -- what a closing line tells of its account
 pub record Row : Type 0 where
@@ -89,32 +95,32 @@ pub record Accounted (o : Opening) (s : Seat) (xs : List Exchange) (rows : List 
   pub told : (before after : List Exchange) (a : Account) (b : ℕ)
       → xs ≡ before ++ record { asked = Inquiry a; reply = Balance b } ∷ after → b ≡ slateAt o s (runOf s before) .balance a
 
--- What a text tells its reader: its lines are a run, of which all is true that is true of every run; and its closing lines are rows that
--- account for it.
+-- What a text tells its reader: it is the text of a run of the bundle, of which all is true that is true of every run; and its closing
+-- lines are rows that account for it.
 pub record Tells (bytes text : List ℕ) (s : Seat) : Type 0 where
-  pub run : RunOfText bytes text s
-  pub facts : Facts (openingPage bytes) (runOf s (run .exchanges))
+  pub exchanges : List Exchange
+  pub run : RunOfBundle bytes s exchanges
+  pub lines : text ≡ textOfRun bytes s exchanges
+  pub facts : Facts (openingPage bytes) (runOf s exchanges)
   pub rows : List Row
-  pub printed : text ≡ replyLines 1 (run .exchanges) ++ rowLines 0 rows
-  pub accounted : Accounted (openingPage bytes) s (run .exchanges) rows
+  pub printed : text ≡ replyLines 1 exchanges ++ rowLines 0 rows
+  pub accounted : Accounted (openingPage bytes) s exchanges rows
 
--- Every text of a bundle that is sound and opens tells this, whichever seat is taken for the one that writes it.
+-- Every text of a bundle that is sound and opens tells this, whichever seat is taken for the one that it is of.
 abbrev pub EveryText : Type 0
 EveryText =
     (bytes text : List ℕ) (m : ℕ) (s : Seat)
     → checkBundle bytes ≡ Sound m → opened bytes .reply ≡ Opened → TextOf bytes text → Tells bytes text s
 
--- And every run at one seat that obeys, with the messages of such a bundle, is told by one of its texts.
+-- And every run of such a bundle has its text.
 abbrev pub EveryRun : Type 0
 EveryRun =
     (bytes : List ℕ) (m : ℕ) (s : Seat) (xs : List Exchange)
-    → checkBundle bytes ≡ Sound m → opened bytes .reply ≡ Opened
-    → map (λ x. some (x .asked)) xs ≡ asksFrom bytes (entryCount bytes - 1) 1 → Obeys (openingPage bytes) (runOf s xs)
-    → TextOf bytes (replyLines 1 xs ++ closing (ledgerAt (openingPage bytes) s (runOf s xs)))
+    → checkBundle bytes ≡ Sound m → opened bytes .reply ≡ Opened → RunOfBundle bytes s xs → TextOf bytes (textOfRun bytes s xs)
 
--- The waiting list that a host asks for behind the last entry is one more call of the run that a text tells.
+-- The waiting list that a host asks for behind the last entry is one more call of such a run.
 abbrev pub EveryList : Type 0
 EveryList =
-    (bytes text : List ℕ) (m : ℕ) (s : Seat) (run : RunOfText bytes text s) (before : List ℕ) (reply : ListReply) (after : List ℕ)
-    → checkBundle bytes ≡ Sound m → opened bytes .reply ≡ Opened → ListOf bytes before reply after
-    → Obeys (openingPage bytes) (runOf s (run .exchanges) ▹ record { at = s; call = waitingList before reply after })
+    (bytes : List ℕ) (m : ℕ) (s : Seat) (xs : List Exchange) (before : List ℕ) (reply : ListReply) (after : List ℕ)
+    → checkBundle bytes ≡ Sound m → opened bytes .reply ≡ Opened → RunOfBundle bytes s xs → ListOf bytes before reply after
+    → Obeys (openingPage bytes) (runOf s xs ▹ record { at = s; call = waitingList before reply after })

@@ -5,7 +5,7 @@ use native.Mathlib.Decide.{ℕ-discrete}
 use native.Mathlib.Omega.{arith}
 use mathlib.Core.Path.{_≡_, refl, ap}
 use mathlib.Core.Bool.{Bool, true, false, _&&_, _||_, or-true}
-use mathlib.Core.List.{List, [], _∷_}
+use mathlib.Core.List.{List, [], _∷_, map}
 use mathlib.Core.Option.{none, some}
 use lib.ListN.{length, getD, take, set}
 use Rattle.model.specs.Basics.{bit, sumOf, count, any, every, firstWhere}
@@ -37,6 +37,18 @@ module _ {A : Type 0} (f : A → ℕ) where
       omega (arith, none-behind 0 (omega arith), sum-front xs d zero (λ i above. none-behind (suc i) (omega arith)))
   sum-front (x ∷ xs) d (suc k) none-behind =
       ap (λ (n : ℕ). f x + n) (sum-front xs d k (λ i above. none-behind (suc i) (omega arith)))
+
+  -- lists with the same number at each place have the same sum
+  pub sum-same-each : (xs ys : List A) (d : A) → length xs ≡ length ys → ((i : ℕ) → f (getD xs i d) ≡ f (getD ys i d)) → sumOf f xs ≡ sumOf f ys
+  sum-same-each [] [] d size each = refl
+  sum-same-each [] (y ∷ ys) d size each = absurd (omega arith)
+  sum-same-each (x ∷ xs) [] d size each = absurd (omega arith)
+  sum-same-each (x ∷ xs) (y ∷ ys) d size each = omega (arith, each 0, sum-same-each xs ys d (omega arith) (λ i. each (suc i)))
+
+-- the sum over elements made from others
+pub sum-map : {A B : Type 0} (f : B → ℕ) (g : A → B) (xs : List A) → sumOf f (map g xs) ≡ sumOf (λ x. f (g x)) xs
+sum-map f g [] = refl
+sum-map f g (x ∷ xs) = ap (λ (n : ℕ). f (g x) + n) (sum-map f g xs)
 
 -- from two numbers that differ, anything
 pub impossible : {A : Type 0} → _≡_ {A = ℕ} 0 1 → A

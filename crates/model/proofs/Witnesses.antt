@@ -19,7 +19,7 @@ use Rattle.model.specs.Openings.{openRules, openAnswer, openLedger}
 use Rattle.model.specs.Acks.{acksFor, noMoreThan, hasMost}
 use Rattle.model.specs.Settling.{isWaiting}
 use Rattle.model.specs.Calls.{step, Answers, WaitingAccounts, ListsUnlessRefused, Lists}
-use Rattle.model.proofs.Sums.{impossible, every-weaken}
+use Rattle.model.proofs.Sums.{impossible, every-weaken, sum-map}
 use Rattle.model.proofs.Settles.{Bounded}
 use Rattle.model.proofs.Refusing.{none-holds}
 
@@ -109,8 +109,7 @@ some-list l before = go (firstRefusal (listRules before))
 
 -- a just opened ledger's balances are the page's
 pub fresh-sum : (balances : List ℕ) → sumBalances (map freshEntry balances) ≡ sumOf (λ b. b) balances
-fresh-sum [] = refl
-fresh-sum (b ∷ bs) = ap (λ (n : ℕ). b + n) (fresh-sum bs)
+fresh-sum balances = sum-map (λ e. e .balance) freshEntry balances
 
 fresh-bounded : (o : Opening) → sumOf (λ b. b) (o .balances) < 4_294_967_296 → Bounded (freshLedger o .entries)
 fresh-bounded o fits =

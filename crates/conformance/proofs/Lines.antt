@@ -1,0 +1,87 @@
+-- A run at one seat that goes on with the entries of a bundle, and the lines of these entries: each gives the other.
+use Prim.Native.Nat.{ℕ, zero, suc, _+_, _≤_, _<_}
+use native.Mathlib.Omega.{arith}
+use mathlib.Core.Path.{_≡_, refl, sym}
+use mathlib.Core.List.{List, [], _∷_, _++_, append-assoc}
+use mathlib.Core.Option.{some}
+use Rattle.model.specs.Bundles.{pageAt, messageOf}
+use Rattle.agreement.specs.Types.{Seat, Opening, Message}
+use Rattle.agreement.specs.Runs.{Run, _▹_, Within, at-end, ledgerAt, Obeys}
+use Rattle.agreement.proofs.Places.{before, obeys-before, ledger-after}
+use Rattle.text.specs.Lines.{replyLine}
+use Rattle.replay.specs.Text.{EntryText, ledgerFrom, closing, LinesFrom}
+use Rattle.conformance.specs.Texts.{Exchange, eventOf, runFrom, AskedFrom, replyLines}
+
+-- Places in such a run: what it went on from, and each of its calls.
+module _ (s : Seat) where
+  pub from-within : (run : Run) (xs : List Exchange) → Within run (runFrom s run xs)
+  from-within run [] = at-end
+  from-within run (x ∷ xs) = before (from-within (run ▹ eventOf s x) xs)
+
+  from-append : (run : Run) (xs ys : List Exchange) → runFrom s run (xs ++ ys) ≡ runFrom s (runFrom s run xs) ys
+  from-append run [] ys = refl
+  from-append run (x ∷ xs) ys = from-append (run ▹ eventOf s x) xs ys
+
+  pub call-within : (run : Run) (early late : List Exchange) (x : Exchange)
+      → Within (runFrom s run early ▹ eventOf s x) (runFrom s run (early ++ x ∷ late))
+  call-within run early late x = rw (from-append run early (x ∷ late)) (from-within (runFrom s run early ▹ eventOf s x) late)
+
+module _ (bytes : List ℕ) (o : Opening) (s : Seat) where
+  -- what is told from entry i on of a run that goes on with these exchanges
+  abbrev textFrom : ℕ → Run → List Exchange → List ℕ
+  textFrom i run xs = replyLines i xs ++ closing (ledgerAt o s (runFrom s run xs))
+
+  -- a run that goes on with the `left` entries from i on, and is told by this text
+  abbrev GoesOn : ℕ → ℕ → Run → List ℕ → Type 0
+  GoesOn left i run text = (xs : List Exchange) × AskedFrom bytes left i xs × Obeys o (runFrom s run xs) × (text ≡ textFrom i run xs)
+
+  -- with one entry more before them
+  one-more : (left i : ℕ) (run : Run) (x : Exchange) (rest : List ℕ) → messageOf (pageAt bytes i) ≡ some (x .asked)
+      → GoesOn left (suc i) (run ▹ eventOf s x) rest → GoesOn (suc left) i run (replyLine i (x .reply) ++ rest)
+  one-more left i run x rest asks (xs, asked, obeys, is) =
+      let ends = closing (ledgerAt o s (runFrom s (run ▹ eventOf s x) xs)) in
+      (x ∷ xs, (asks, asked), obeys, rw is (sym (append-assoc (replyLine i (x .reply)) (replyLines (suc i) xs) ends)))
+
+  -- from lines of these entries to such a run, if each entry asks
+  pub goes-on : (left i : ℕ) (run : Run) (text : List ℕ)
+      → ((j : ℕ) → i ≤ j → j < i + left → (m : Message) × (messageOf (pageAt bytes j) ≡ some m))
+      → Obeys o run → LinesFrom bytes left i (ledgerAt o s run) text → GoesOn left i run text
+  goes-on zero i run text asks obeys h = ([], tt, obeys, h)
+  goes-on (suc left) i run text asks obeys (line, rest, first, later, is) =
+      let this = asks i (omega arith) (omega arith) in
+      let told : EntryText i (ledgerAt o s run) (some (this .0)) line = rw (this .1) at first in
+      let x : Exchange = record { asked = this .0; reply = told .0 } in
+      let left-ledger = ledger-after o s run (eventOf s x) (x .asked) (x .reply) refl refl in
+      let more : LinesFrom bytes left (suc i) (ledgerAt o s (run ▹ eventOf s x)) rest = rw left-ledger (rw (this .1) at later) in
+      rw (is, told .2)
+      (one-more left i run x rest (this .1)
+      (goes-on left (suc i) (run ▹ eventOf s x) rest (λ j from to. asks j (omega arith) (omega arith)) (obeys, told .1) more))
+
+  -- and back
+  pub told-lines : (left i : ℕ) (run : Run) (xs : List Exchange) → AskedFrom bytes left i xs → Obeys o (runFrom s run xs)
+      → LinesFrom bytes left i (ledgerAt o s run) (textFrom i run xs)
+  told-lines zero i run [] asked obeys = refl
+  told-lines zero i run (x ∷ xs) asked obeys = absurd asked
+  told-lines (suc left) i run [] asked obeys = absurd asked
+  told-lines (suc left) i run (x ∷ xs) asked obeys =
+      let left-ledger = ledger-after o s run (eventOf s x) (x .asked) (x .reply) refl refl in
+      let answers = obeys-before o obeys (from-within s (run ▹ eventOf s x) xs) .1 in
+      let rest = textFrom (suc i) (run ▹ eventOf s x) xs in
+      let ends = closing (ledgerAt o s (runFrom s (run ▹ eventOf s x) xs)) in
+      rw (asked .0) (
+        replyLine i (x .reply),
+        rest,
+        (x .reply, answers, refl),
+        rw left-ledger at (told-lines left (suc i) (run ▹ eventOf s x) xs (asked .1) obeys),
+        append-assoc (replyLine i (x .reply)) (replyLines (suc i) xs) ends,
+      )
+
+  -- the run's last ledger is the one that these entries leave
+  pub ledger-left : (left i : ℕ) (run : Run) (xs : List Exchange) → AskedFrom bytes left i xs
+      → ledgerFrom bytes left i (ledgerAt o s run) ≡ ledgerAt o s (runFrom s run xs)
+  ledger-left zero i run [] asked = refl
+  ledger-left zero i run (x ∷ xs) asked = absurd asked
+  ledger-left (suc left) i run [] asked = absurd asked
+  ledger-left (suc left) i run (x ∷ xs) asked =
+      rw (asked .0, ← ledger-after o s run (eventOf s x) (x .asked) (x .reply) refl refl)
+      (ledger-left left (suc i) (run ▹ eventOf s x) xs (asked .1))

@@ -259,7 +259,7 @@ alone = two ▹ asked 0 (Inquiry (accountOf 0)) (Balance 2) ▹ acks 0 v ▹ ack
 
 -- two numbers are equal
 infix 4 _is_
-abbrev _is_ : ℕ → ℕ → Type 0
+abbrev pub _is_ : ℕ → ℕ → Type 0
 m is n = m ≡ n
 
 -- It is a run as demand 3 means it, and keeps the premises. What its slate says after the second slip, and at the end.

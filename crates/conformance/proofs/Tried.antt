@@ -3,6 +3,8 @@
 use Prim.Native.Nat.{ℕ}
 use mathlib.Core.Path.{_≡_, refl}
 use mathlib.Core.List.{List, [], _∷_, _++_}
+use lib.Dec.{lit<}
+use lib.ListN.{getD}
 use Rattle.model.specs.declared.BundleReply.the-variants.{Sound}
 use Rattle.model.specs.Basics.{sumOf}
 use Rattle.model.specs.Records.{seatOf, accountOf, noAcks}
@@ -13,15 +15,17 @@ use Rattle.model.specs.Acks.{hasMost}
 use Rattle.model.specs.Settling.{lowestAffordable, apply, settleAtMost, settle, accept}
 use Rattle.model.specs.Calls.{effect, step}
 use Rattle.model.specs.Bundles.{checkBundle}
-use Rattle.agreement.specs.Types.{Seat, Message, Circulated, Ack, Inquiry, Reply, Acknowledge, Note, Accept, Balance, Opened}
+use Rattle.agreement.specs.Types.{Seat, Message, Circulated, Ack, Decision, Inquiry, Reply, Acknowledge, Note, Accept, Balance, Opened}
 use Rattle.agreement.specs.Runs.{Run, start, _▹_, ledgerAt}
+use Rattle.agreement.specs.Slates.{leaveAtMost, leaveAll, slateAt}
 use Rattle.agreement.specs.Claims.{Claim}
 use Rattle.agreement.proofs.Examples.{page, bad, t, asked, acks, ack, _then_, witness, witness-obeys, witness-keeps}
+use Rattle.agreement.proofs.FactsTried.{_is_}
 use Rattle.text.specs.Lines.{decimal}
 use Rattle.replay.specs.Text.{opened}
 use Rattle.replay.proofs.WholeOutput.{case, nineLines, whole-output}
 use Rattle.conformance.specs.Operations.{Works}
-use Rattle.conformance.specs.Texts.{Exchange, runOf, openingPage, RunOfBundle, replyLines, textOfRun, Row, rowLines, countOf, Tells}
+use Rattle.conformance.specs.Texts.{Exchange, runOf, openingPage, RunOfBundle, replyLines, textOfRun, Row, noRow, rowLines, countOf, Accounted, Tells}
 use Rattle.conformance.proofs.Operations.{obeys-works, works-demand3}
 use Rattle.conformance.proofs.Texts.{every-text, every-run}
 
@@ -87,3 +91,29 @@ whole-tells s = every-text case nineLines 8 s (whole-sound .0) (whole-sound .1) 
 -- and every run of it has this text
 pub only-text : (s : Seat) (xs : List Exchange) → RunOfBundle case s xs → textOfRun case s xs ≡ nineLines
 only-text s xs run = whole-output .alone (textOfRun case s xs) (every-run case 8 s xs (whole-sound .0) (whole-sound .1) run)
+
+-- What replies and rows tell of one another, where a balance is asked for before and after a booking: two rows; the opening sum 13; one slip
+-- booked; the row of account 0; and its balance, each time as it was.
+abbrev askedTwice : List Exchange
+askedTwice =
+    Inquiry (accountOf 0) gets Balance 10
+    ∷ Decision t gets Accept 1
+    ∷ Inquiry (accountOf 0) gets Balance 6
+    ∷ []
+
+pub accounted-says : Accounted page (seatOf 0) askedTwice rows
+    → (2 is 2)
+    × (13 is 13)
+    × (1 is 1)
+    × (getD rows 0 noRow ≡ record { balance = 6; current = 1 })
+    × (10 is 10)
+    × (6 is 6)
+unfolding slateAt leaveAll leaveAtMost equal
+accounted-says h = (
+  h .row-each,
+  h .balances-sum,
+  h .currents-sum,
+  h .slate-rows (accountOf 0) (lit< tt),
+  h .told [] (Decision t gets Accept 1 ∷ Inquiry (accountOf 0) gets Balance 6 ∷ []) (accountOf 0) 10 refl,
+  h .told (Inquiry (accountOf 0) gets Balance 10 ∷ Decision t gets Accept 1 ∷ []) [] (accountOf 0) 6 refl,
+)

@@ -8,10 +8,10 @@ use Rattle.agreement.proofs.Demand3.{demand3}
 use Rattle.agreement.proofs.Always.{always}
 use Rattle.model.specs.Openings.{openLedger}
 use Rattle.ledger.proofs.Promising.{answered, opened, listed}
-use Rattle.conformance.specs.Operations.{Operated, Called, Works, Worked, WorksObeys, ObeysWorks, WorksDemand3, WorksFacts}
+use Rattle.conformance.specs.Operations.{Operated, OperatedConforms, Called, Works, Worked, WorksObeys, ObeysWorks, WorksDemand3, WorksFacts}
 
 -- an operation is a call that conforms, and leaves the run's next ledger
-operated-conforms : (l : Ledger) (c : Call) (next : Ledger) → Operated l c next → Conforms l c × (next ≡ nextLedger l c)
+pub operated-conforms : OperatedConforms
 operated-conforms l (message m r) next done = (done .meets .0, done .meets .1)
 operated-conforms l (waitingList before r after) next done = (done .0 .meets, done .1)
 

@@ -11,9 +11,9 @@ use Rattle.agreement.specs.Runs.{Opens, start, ledgerAt}
 use Rattle.agreement.proofs.Always.{always}
 use Rattle.ledger.specs.Promises.{ListedAs}
 use Rattle.bundle.proofs.Asking.{all-ask}
-use Rattle.replay.specs.Text.{ledgerFrom, LinesFrom, opened}
+use Rattle.replay.specs.Text.{ledgerFrom, LinesFrom, openingPage, opened}
 use Rattle.replay.proofs.Sound.{sound-count}
-use Rattle.conformance.specs.Texts.{runOf, openingPage, replyLines, EveryText, EveryRun, EveryList}
+use Rattle.conformance.specs.Texts.{runOf, replyLines, EveryText, EveryRun, EveryList}
 use Rattle.conformance.proofs.Lines.{goes-on, told-lines, ledger-left}
 use Rattle.conformance.proofs.Rows.{lastRows, closing-is, accounted}
 

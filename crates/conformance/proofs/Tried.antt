@@ -9,11 +9,10 @@ use Rattle.model.specs.declared.BundleReply.the-variants.{Sound}
 use Rattle.model.specs.Basics.{sumOf}
 use Rattle.model.specs.Records.{seatOf, accountOf, noAcks}
 use Rattle.model.specs.Transfers.{equal, conflict}
-use Rattle.model.specs.Refusals.{rulesOf}
 use Rattle.model.specs.Openings.{openLedger}
 use Rattle.model.specs.Acks.{hasMost}
-use Rattle.model.specs.Settling.{lowestAffordable, apply, settleAtMost, settle, accept}
-use Rattle.model.specs.Calls.{effect, step}
+use Rattle.model.specs.Settling.{lowestAffordable, apply, settleAtMost, settle}
+use Rattle.model.specs.Calls.{step}
 use Rattle.model.specs.Bundles.{checkBundle}
 use Rattle.agreement.specs.Types.{Seat, Message, Circulated, Ack, Decision, Inquiry, Reply, Acknowledge, Note, Accept, Balance, Opened}
 use Rattle.agreement.specs.Runs.{Run, start, _▹_, ledgerAt}
@@ -22,10 +21,10 @@ use Rattle.agreement.specs.Claims.{Claim}
 use Rattle.agreement.proofs.Examples.{page, bad, t, asked, acks, ack, _then_, witness, witness-obeys, witness-keeps}
 use Rattle.agreement.proofs.FactsTried.{_is_}
 use Rattle.text.specs.Lines.{decimal}
-use Rattle.replay.specs.Text.{opened}
+use Rattle.replay.specs.Text.{openingPage, opened}
 use Rattle.replay.proofs.WholeOutput.{case, nineLines, whole-output}
 use Rattle.conformance.specs.Operations.{Works}
-use Rattle.conformance.specs.Texts.{Exchange, runOf, openingPage, RunOfBundle, replyLines, textOfRun, Row, noRow, rowLines, countOf, Accounted, Tells}
+use Rattle.conformance.specs.Texts.{Exchange, runOf, RunOfBundle, replyLines, textOfRun, Row, noRow, rowLines, countOf, Accounted, Tells}
 use Rattle.conformance.proofs.Operations.{obeys-works, works-demand3}
 use Rattle.conformance.proofs.Texts.{every-text, every-run}
 
@@ -59,7 +58,7 @@ rows = record { balance = 6; current = 1 } ∷ record { balance = 7; current = 0
 
 -- it has the bundle's messages and obeys, and the nine lines are its text
 pub whole-run : RunOfBundle case (seatOf 0) exchanges × (nineLines ≡ textOfRun case (seatOf 0) exchanges)
-unfolding case decimal ledgerAt noAcks equal conflict hasMost rulesOf openLedger lowestAffordable apply settleAtMost settle accept effect step
+unfolding case decimal ledgerAt noAcks equal conflict hasMost openLedger lowestAffordable apply settleAtMost settle step
 whole-run = (
   record {
     asked = (refl, (refl, (refl, (refl, (refl, (refl, (refl, tt)))))));

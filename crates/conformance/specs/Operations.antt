@@ -3,7 +3,7 @@ use mathlib.Core.Path.{_≡_}
 use mathlib.Core.Bool.{Bool, true, false}
 use Rattle.model.specs.declared.OpenAnswer.{OpenAnswer}
 use Rattle.agreement.specs.Types.{Seat, Ledger, Opening}
-use Rattle.agreement.specs.Runs.{Opens, FewBad, Call, message, waitingList, Event, Run, start, _▹_, atHonest, sameSeat, ledgerAt, Obeys}
+use Rattle.agreement.specs.Runs.{Opens, FewBad, Call, message, waitingList, Event, Run, start, _▹_, atHonest, sameSeat, nextLedger, ledgerAt, Conforms, Obeys}
 use Rattle.agreement.specs.Premises.{Premises}
 use Rattle.agreement.specs.Claims.{Claim}
 use Rattle.agreement.specs.Facts.{Facts}
@@ -14,6 +14,10 @@ use Rattle.ledger.specs.Promises.{Answered, OpenedAs, ListedAs}
 abbrev pub Operated : Ledger → Call → Ledger → Type 0
 Operated l (message m r) next = Answered l m (record { reply = r; ledger = next })
 Operated l (waitingList before r after) next = ListedAs l before r after × (next ≡ l)
+
+-- It conforms in a run, and the ledger after it is the run's.
+abbrev pub OperatedConforms : Type 0
+OperatedConforms = (l : Ledger) (c : Call) (next : Ledger) → Operated l c next → Conforms l c × (next ≡ nextLedger l c)
 
 -- "each holds a book just opened from that page": the ledger that an opening replied
 abbrev pub OpenedAll : Opening → (Seat → Ledger) → Type 0

@@ -5,14 +5,14 @@ use mathlib.Core.List.{List, [], _∷_, _++_}
 use mathlib.Core.Option.{some}
 use lib.ListN.{length, getD}
 use Rattle.model.specs.declared.BundleReply.the-variants.{Sound}
-use Rattle.model.specs.Bundles.{entryCount, pageAt, openingOf, messageOf, checkBundle}
+use Rattle.model.specs.Bundles.{entryCount, pageAt, messageOf, checkBundle}
 use Rattle.model.specs.Basics.{sumOf}
 use Rattle.agreement.specs.Types.{Seat, Account, Opening, Message, Inquiry, Reply, Circulate, Acknowledge, Accept, Propose, Note, Balance, Refuse, Opened, ListReply}
 use Rattle.agreement.specs.Runs.{message, waitingList, Event, Run, start, _▹_, ledgerAt, Obeys}
 use Rattle.agreement.specs.Slates.{slateAt}
 use Rattle.agreement.specs.Facts.{Facts}
 use Rattle.text.specs.Lines.{replyLine, accountLine}
-use Rattle.replay.specs.Text.{closing, opened, TextOf}
+use Rattle.replay.specs.Text.{closing, openingPage, opened, TextOf}
 use Rattle.replay.specs.Lists.{ListOf}
 
 -- a message with its reply, and the call that it is at a seat
@@ -37,10 +37,6 @@ AskedFrom bytes zero i [] = Unit {0}
 AskedFrom bytes zero i (x ∷ xs) = ⊥
 AskedFrom bytes (suc left) i [] = ⊥
 AskedFrom bytes (suc left) i (x ∷ xs) = (messageOf (pageAt bytes i) ≡ some (x .asked)) × AskedFrom bytes left (suc i) xs
-
--- "page 0 is the opening page"
-abbrev pub openingPage : List ℕ → Opening
-openingPage bytes = openingOf (pageAt bytes 0 .body)
 
 -- A run of a bundle at seat s: each entry from 1 is one of its calls, and no other is; and it obeys the definitions.
 pub record RunOfBundle (bytes : List ℕ) (s : Seat) (xs : List Exchange) : Type 0 where

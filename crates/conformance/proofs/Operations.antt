@@ -1,14 +1,14 @@
 -- What a group at work does is a run that obeys: the statements are in specs/Operations.antt.
-use mathlib.Core.Path.{_≡_, refl, ap, sym, _∙_}
+use mathlib.Core.Path.{_≡_, refl, ap, _∙_}
 use mathlib.Core.Bool.{Bool, true, false, cond}
 use Rattle.agreement.specs.Types.{Seat, Ledger, Opening}
-use Rattle.agreement.specs.Runs.{Call, message, waitingList, Event, Run, start, _▹_, sameSeat, nextLedger, ledgerAt, Conforms, Obeys}
+use Rattle.agreement.specs.Runs.{Call, message, waitingList, Event, Run, start, _▹_, sameSeat, nextLedger, ledgerAt, Conforms}
 use Rattle.agreement.proofs.Places.{seat-is, seat-self}
 use Rattle.agreement.proofs.Demand3.{demand3}
 use Rattle.agreement.proofs.Always.{always}
 use Rattle.model.specs.Openings.{openLedger}
 use Rattle.ledger.proofs.Promising.{answered, opened, listed}
-use Rattle.conformance.specs.Operations.{Operated, OperatedConforms, Called, Works, Worked, WorksObeys, ObeysWorks, WorksDemand3, WorksFacts}
+use Rattle.conformance.specs.Operations.{Operated, OperatedConforms, Called, WorksObeys, ObeysWorks, WorksDemand3, WorksFacts}
 
 -- an operation is a call that conforms, and leaves the run's next ledger
 pub operated-conforms : OperatedConforms
@@ -29,7 +29,8 @@ held-after o run e before held yet call s = go (sameSeat (e .at) s) refl
     go : (b : Bool) → sameSeat (e .at) s ≡ b → held s ≡ cond b (nextLedger (ledgerAt o s run) (e .call)) (ledgerAt o s run)
     go true here =
         let seat = seat-is (e .at) s here in
-        rw (← seat) (operated-conforms (before (e .at)) (e .call) (held (e .at)) (call .operated) .1 ∙ ap (λ (l : Ledger). nextLedger l (e .call)) (yet (e .at)))
+        let done = operated-conforms (before (e .at)) (e .call) (held (e .at)) (call .operated) in
+        rw (← seat) (done .1 ∙ ap (λ (l : Ledger). nextLedger l (e .call)) (yet (e .at)))
     go false there = call .others s there ∙ yet s
 
 pub works-obeys : WorksObeys

@@ -61,7 +61,8 @@ module _ (o : Opening) (opens : Opens o) (s : Seat) where
       go : Turn o l m r after → sumCurrents (ledgerAt o s (run ▹ eventOf s x) .entries) ≡ sumCurrents (l .entries) + countOf r
       go (keeps same none-accepted not-k) =
           let is = ledger-after o s run (eventOf s x) m r refl refl in
-          let size : length (after .entries) ≡ length (l .entries) = rw is at (sound o opens s (run ▹ eventOf s x) obeys .size) ∙ sym (ok .size) in
+          let both : length (after .entries) ≡ 32 = rw is at (sound o opens s (run ▹ eventOf s x) obeys .size) in
+          let size : length (after .entries) ≡ length (l .entries) = both ∙ sym (ok .size) in
           let sums = sum-same-each (λ e. e .current) (after .entries) (l .entries) (freshEntry 0) size (λ i. same (accountOf i) .1) in
           rw is (omega (arith, no-count r not-k))
       go (accepts t this done) =

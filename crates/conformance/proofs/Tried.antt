@@ -1,6 +1,5 @@
 -- The links, tried. The run that demand 3 is tried on is made by a group at work. Document 01's whole output is the text of a run, which
 -- is written out here, and of every run of that bundle.
-use Prim.Native.Nat.{ℕ}
 use mathlib.Core.Path.{_≡_, refl}
 use mathlib.Core.List.{List, [], _∷_, _++_}
 use lib.Dec.{lit<}
@@ -15,7 +14,7 @@ use Rattle.model.specs.Settling.{lowestAffordable, apply, settleAtMost, settle}
 use Rattle.model.specs.Calls.{step}
 use Rattle.model.specs.Bundles.{checkBundle}
 use Rattle.agreement.specs.Types.{Seat, Message, Circulated, Ack, Decision, Inquiry, Reply, Acknowledge, Note, Accept, Balance, Opened}
-use Rattle.agreement.specs.Runs.{Run, start, _▹_, ledgerAt}
+use Rattle.agreement.specs.Runs.{start, _▹_, ledgerAt}
 use Rattle.agreement.specs.Slates.{leaveAtMost, leaveAll, slateAt}
 use Rattle.agreement.specs.Claims.{Claim}
 use Rattle.agreement.proofs.Examples.{page, bad, t, asked, acks, ack, _then_, witness, witness-obeys, witness-keeps}

@@ -5,25 +5,26 @@ use mathlib.Core.Path.{_≡_, refl, ap, sym, _∙_}
 use mathlib.Core.Logic.{_⊎_, inl, inr}
 use mathlib.Core.Bool.{Bool, true, false, _&&_, _||_, or-true}
 use mathlib.Core.Option.{some}
+use lib.ListN.{length}
 use borrow.Author.Tests.{leb-false}
-use Rattle.agreement.specs.Types.{Seat, Account, Transfer, Slot, Empty, Full, Ledger, Opening, Message, Request, Circulated, Ack, Decision, Inquiry, Reply, Accept, Propose}
-use Rattle.agreement.specs.Runs.{Opens, Call, message, waitingList, Event, Run, _▹_, Within, sameSeat, ledgerAt, Conforms, Obeys, accepted, proposed, ruled, passes}
-use Rattle.agreement.specs.Facts.{answeredK, mustAccept, acceptedBy, taken, ruledFor, Always}
+use Rattle.agreement.specs.Types.{Seat, Account, Transfer, Slot, Empty, Full, Ledger, Opening, Message, Request, Circulated, Ack, Decision, Inquiry, Reply, Circulate, Acknowledge, Accept, Propose, Note, Balance, Refuse}
+use Rattle.agreement.specs.Runs.{Opens, Call, message, waitingList, Event, Run, _▹_, Within, sameSeat, ledgerAt, Conforms, Obeys, isAccept, accepted, proposed, ruled, passes}
+use Rattle.agreement.specs.Facts.{answeredK, countOf, mustAccept, acceptedBy, taken, ruledFor, Always}
 use Rattle.agreement.proofs.Places.{before, happened-found, happened-holds, obeys-before, obeys-at, ledger-after}
 use Rattle.agreement.proofs.Deeds.{proposed-is, that-slip, deed-found}
 use Rattle.agreement.proofs.Soundness.{opened-entry, next-waits, group, Sound}
 use Rattle.agreement.proofs.Reachable.{sound, stays, everywhere, past-calls}
 use Rattle.agreement.proofs.Accounts.{behind, accounts-sum}
-use Rattle.agreement.proofs.StepLaws.{answer-propose, proposes-for, answer-exactly, BookedOrWaits, none-eligible, current-rises, stays-settled, just-settled, Turn, keeps, accepts, turn}
+use Rattle.agreement.proofs.StepLaws.{step-sound, answer-propose, proposes-for, answer-exactly, BookedOrWaits, none-eligible, current-rises, stays-settled, just-settled, Turn, keeps, accepts, turn}
 use Rattle.agreement.proofs.Slated.{slated}
 use Rattle.agreement.proofs.Reasons.{all-reasons, decided-accepted}
 use Rattle.agreement.proofs.Acked.{acked-once}
-use Rattle.model.specs.Records.{freshEntry, withPending, sumCurrents, setEntry, withEntry, entryOf}
+use Rattle.model.specs.Records.{accountOf, freshEntry, withPending, sumCurrents, setEntry, withEntry, entryOf}
 use Rattle.model.specs.Transfers.{equal}
 use Rattle.model.specs.Acks.{holds, acksFor, enough}
 use Rattle.model.specs.Settling.{affordable, settle}
 use Rattle.model.specs.Calls.{step}
-use Rattle.model.proofs.Sums.{impossible, both, sum-set-same}
+use Rattle.model.proofs.Sums.{impossible, both, sum-set-same, sum-same-each}
 use Rattle.model.proofs.Equality.{equal-sound, equal-refl}
 use Rattle.model.proofs.Settles.{none-affordable, settle-done, settle-currents}
 use Rattle.model.proofs.Steps.{happens}
@@ -48,15 +49,28 @@ ruling-accepts l (message (Decision u) r) t h is ok = rw (call-accepts l (messag
 ruling-accepts l (message (Inquiry a) r) t h is ok = impossible (cc)
 ruling-accepts l (waitingList b q a) t h is ok = impossible (cc)
 
--- K's count is the rise in the sum of current numbers
-turn-count : (o : Opening) (l next : Ledger) (m : Message) (r : Reply) (c : ℕ) → Sound o l → r ≡ Accept c → Turn o l m r next
-    → sumCurrents (next .entries) ≡ sumCurrents (l .entries) + c
-turn-count o l next m r c ok is (keeps same none-accepted not-k) = impossible (cc (rw is at not-k))
-turn-count o l next m r c ok is (accepts t this done) =
+-- a reply that is not K has no count
+no-count : (r : Reply) → isAccept r ≡ false → countOf r ≡ 0
+no-count Circulate h = refl
+no-count Acknowledge h = refl
+no-count (Accept c) h = impossible (cc)
+no-count (Propose t) h = refl
+no-count Note h = refl
+no-count (Balance b) h = refl
+no-count (Refuse q) h = refl
+
+-- K's count is the rise in the sum of current numbers, and no other reply comes with one
+turn-count : (o : Opening) (l next : Ledger) (m : Message) (r : Reply) → Sound o l → Sound o next → Turn o l m r next
+    → sumCurrents (next .entries) ≡ sumCurrents (l .entries) + countOf r
+turn-count o l next m r ok then-ok (keeps same none-accepted not-k) =
+    let size : length (next .entries) ≡ length (l .entries) = then-ok .size ∙ sym (ok .size) in
+    let sums = sum-same-each (λ e. e .current) (next .entries) (l .entries) (freshEntry 0) size (λ i. same (accountOf i) .1) in
+    omega (arith, no-count r not-k)
+turn-count o l next m r ok then-ok (accepts t this done) =
     let joined = setEntry (l .entries) (t .account) (withPending (done .entry) t) in
     let before = sum-set-same (λ e. e .current) (l .entries) (t .account .0) (withPending (done .entry) t) (freshEntry 0) (done .same-current) in
-    let count : c ≡ settle joined .applied = cc (is, done .replied) in
-    rw (done .entries-are) (omega (arith, settle-currents joined (next-waits o (withEntry l (t .account) (withPending (done .entry) t)) (done .waits-soundly))))
+    let settled = settle-currents joined (next-waits o (withEntry l (t .account) (withPending (done .entry) t)) (done .waits-soundly)) in
+    rw (done .entries-are, done .replied) (omega (arith, settled))
 
 -- no waiting slip is covered after a call, if none was before
 turn-uncovered : (o : Opening) (l next : Ledger) (m : Message) (r : Reply) → Turn o l m r next
@@ -157,16 +171,15 @@ module _ (o : Opening) (opens : Opens o) (s : Seat) where
       (λ l m q ok h old. omega (arith, current-rises o l (step l m .next) m q (group o opens) ok h a))
       obeys w (omega arith)
 
--- K's count, in a run
-run-count : (o : Opening) (run p : Run) (e : Event) (m : Message) (c : ℕ) → Opens o → Obeys o run → Within (p ▹ e) run
-    → e .call ≡ message m (Accept c)
-    → sumCurrents (ledgerAt o (e .at) (p ▹ e) .entries) ≡ sumCurrents (ledgerAt o (e .at) p .entries) + c
-run-count o run p e m c opens obeys w is =
+-- the same, in a run
+run-count : (o : Opening) (run p : Run) (e : Event) (m : Message) (r : Reply) → Opens o → Obeys o run → Within (p ▹ e) run → e .call ≡ message m r
+    → sumCurrents (ledgerAt o (e .at) (p ▹ e) .entries) ≡ sumCurrents (ledgerAt o (e .at) p .entries) + countOf r
+run-count o run p e m r opens obeys w is =
     let l = ledgerAt o (e .at) p in
     let ok = sound o opens (e .at) p (obeys-before o obeys (before w)) in
-    let h = happens l m (Accept c) (rw is at (obeys-at o obeys w)) in
-    rw (ledger-after o (e .at) p e m (Accept c) refl is)
-    (turn-count o l (step l m .next) m (Accept c) c ok refl (turn o l (step l m .next) m (Accept c) (group o opens) ok h))
+    let h = happens l m r (rw is at (obeys-at o obeys w)) in
+    rw (ledger-after o (e .at) p e m r refl is)
+    (turn-count o l (step l m .next) m r ok (step-sound o l _ m r (group o opens) ok h) (turn o l _ m r (group o opens) ok h))
 
 pub always : Always
 always o run opens obeys =
@@ -180,7 +193,7 @@ always o run opens obeys =
           let match = slated o opens s p (obeys-before o obeys w) in
           (match .balance-is a, match .count-is a);
       currents-rise = λ p q s a w v. never-falls o opens s a (obeys-before o obeys v) w;
-      count-is-rise = λ p e m c w is. run-count o run p e m c opens obeys w is;
+      count-is-rise = λ p e m r w is. run-count o run p e m r opens obeys w is;
       acked-once = acked-once o opens run obeys;
       none-proposed-after = λ p q e d t u w v same. none-proposed o opens (d .at) p q e d t u (obeys-before o obeys v) w same refl;
       accepts-exactly = λ p e w. call-accepts (ledgerAt o (e .at) p) (e .call) (obeys-at o obeys w);

@@ -7,7 +7,7 @@ use mathlib.Core.List.{[], _∷_}
 use native.Mathlib.Omega.{arith}
 use lib.Dec.{lit≤, lit<}
 use borrow.Author.Tests.{le-ltb}
-use Rattle.agreement.specs.Types.{Seat, Transfer, Opening, Ack, Inquiry, Accept, Propose, Note, Balance, Refuse}
+use Rattle.agreement.specs.Types.{Seat, Transfer, Opening, Circulated, Ack, Inquiry, Acknowledge, Accept, Propose, Note, Balance, Refuse}
 use Rattle.agreement.specs.Runs.{Opens, FewBad, honest, Event, Run, start, _▹_, Within, at-end, sooner, throughout, atHonest, ledgerAt, Obeys, proposed}
 use Rattle.agreement.specs.Premises.{ackedBy, Premises}
 use Rattle.agreement.specs.Slates.{leaveAtMost, leaveAll, slateAt}
@@ -305,11 +305,12 @@ counts-differ = (refl, λ same. zero-not-one (same (accountOf 1) (lit< tt)))
     zero-not-one : 0 is 1 → ⊥
     zero-not-one e = impossible (cc)
 
--- The facts of every run: current numbers rise; K's count is the rise; of t and t2, which one seat acked, nothing, since their numbers
+-- The facts of every run: current numbers rise; K's count is the rise, and with A there is none; of t and t2, which one seat acked, nothing, since their numbers
 -- differ; nothing of t, which was accepted, has no acks left and waits no more, since its number is not the next; and nothing of number 0.
 pub facts-say : Facts single alone
     → (0 ≤ 2)
     × (3 is 3)
+    × (2 is 2)
     × (1 is 2 → t ≡ t2)
     × (1 is 3 → true ≡ false)
     × (1 is 3 → true ≡ false)
@@ -317,7 +318,8 @@ pub facts-say : Facts single alone
 unfolding ledgerAt noAcks equal conflict hasMost openLedger lowestAffordable apply settleAtMost settle step
 facts-say f = (
   f .currents-rise start alone (seatOf 0) (accountOf 0) (sooner (sooner (sooner (sooner (sooner (sooner (sooner at-end))))))) at-end,
-  f .count-is-rise (two ▹ asked 0 (Inquiry (accountOf 0)) (Balance 2) ▹ acks 0 v) (ack 0 0 v (Accept 1)) (Ack (seatOf 0) v) 1 at-end refl,
+  f .count-is-rise (two ▹ asked 0 (Inquiry (accountOf 0)) (Balance 2) ▹ acks 0 v) (ack 0 0 v (Accept 1)) (Ack (seatOf 0) v) (Accept 1) at-end refl,
+  f .count-is-rise (two ▹ asked 0 (Inquiry (accountOf 0)) (Balance 2)) (acks 0 v) (Circulated v) Acknowledge (sooner at-end) refl,
   f .acked-once start (start ▹ acks 0 t ▹ ack 0 0 t (Accept 1)) (acks 0 t) (acks 0 t2) t t2
       (sooner (sooner (sooner (sooner (sooner (sooner at-end)))))) (sooner (sooner (sooner (sooner at-end)))) refl refl refl refl,
   f .accepted-exactly alone (seatOf 0) t at-end,

@@ -5,7 +5,7 @@ use mathlib.Core.Path.{_≡_}
 use mathlib.Core.Bool.{Bool, true, false, not, _&&_, _||_}
 use mathlib.Core.Option.{some}
 use lib.ListN.{take}
-use Rattle.agreement.specs.Types.{Seat, Account, Transfer, Full, Ledger, Opening, Message, Request, Circulated, Ack, Decision, Inquiry, Accept}
+use Rattle.agreement.specs.Types.{Seat, Account, Transfer, Full, Ledger, Opening, Message, Request, Circulated, Ack, Decision, Inquiry, Reply, Circulate, Acknowledge, Accept, Propose, Note, Balance, Refuse}
 use Rattle.agreement.specs.Runs.{Opens, Call, message, waitingList, Event, Run, _▹_, Within, happened, sameSeat, ledgerAt, Obeys, isAccept, isRefusal, acked, accepted, proposed, ruled, passes}
 use Rattle.agreement.specs.Slates.{slateAt}
 use Rattle.model.specs.Basics.{sumOf}
@@ -18,6 +18,16 @@ use Rattle.model.specs.Refusals.{ackFrom}
 abbrev pub answeredK : Call → Bool
 answeredK (message m r) = isAccept r
 answeredK (waitingList before r after) = false
+
+-- "K carries how many slips this call booked"; no other reply has a count
+abbrev pub countOf : Reply → ℕ
+countOf Circulate = 0
+countOf Acknowledge = 0
+countOf (Accept c) = c
+countOf (Propose t) = 0
+countOf Note = 0
+countOf (Balance b) = 0
+countOf (Refuse q) = 0
 
 -- the call is not refused, and it is an ack with which twice the recorded acks of its slip exceed n + 3f, or a ruling
 abbrev pub mustAccept : Ledger → Call → Bool
@@ -57,9 +67,9 @@ pub record Facts (o : Opening) (run : Run) : Type 0 where
   -- current numbers never fall
   pub currents-rise : (p q : Run) (s : Seat) (a : Account) → Within p q → Within q run
       → entryOf (ledgerAt o s p) a .current ≤ entryOf (ledgerAt o s q) a .current
-  -- K's count "is the rise in the sum of all current numbers"
-  pub count-is-rise : (p : Run) (e : Event) (m : Message) (c : ℕ) → Within (p ▹ e) run → e .call ≡ message m (Accept c)
-      → sumCurrents (ledgerAt o (e .at) (p ▹ e) .entries) ≡ sumCurrents (ledgerAt o (e .at) p .entries) + c
+  -- K's count "is the rise in the sum of all current numbers"; with no other reply does it rise
+  pub count-is-rise : (p : Run) (e : Event) (m : Message) (r : Reply) → Within (p ▹ e) run → e .call ≡ message m r
+      → sumCurrents (ledgerAt o (e .at) (p ▹ e) .entries) ≡ sumCurrents (ledgerAt o (e .at) p .entries) + countOf r
   -- a seat acks at most one slip per account and number
   pub acked-once : (p q : Run) (e d : Event) (t u : Transfer) → Within (p ▹ e) run → Within (q ▹ d) run → e .at ≡ d .at
       → acked (e .call) ≡ some t → acked (d .call) ≡ some u → t .account ≡ u .account → t .number ≡ u .number → t ≡ u

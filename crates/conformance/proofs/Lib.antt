@@ -1,6 +1,7 @@
--- The links, proved: `works-obeys` and what follows from it; `every-text`, `every-run` and `every-list`, behind their steps; and both tried.
+-- The links, proved: `works-obeys` and what follows from it; `every-text`, `every-run` and `every-list`, behind their steps; `one-reading`; and all tried.
 pub mod Operations
-pub mod Lines
-pub mod Rows
+pub mod EntryRuns
+pub mod ClosingRows
 pub mod Texts
+pub mod Reading
 pub mod Tried

@@ -1,8 +1,8 @@
 -- The lines of a text are a run: the statements are in specs/Texts.antt.
 use Prim.Native.Nat.{ℕ, zero, suc, _+_, _-_, _≤_, _<_}
 use native.Mathlib.Omega.{arith}
-use mathlib.Core.Path.{_≡_, refl, ap, _∙_}
-use mathlib.Core.List.{List, _++_}
+use mathlib.Core.Path.{_≡_, refl}
+use mathlib.Core.List.{List}
 use mathlib.Core.Option.{some}
 use Rattle.model.specs.declared.BundleReply.the-variants.{Sound}
 use Rattle.model.specs.Bundles.{entryCount, pageAt, messageOf, checkBundle}
@@ -13,9 +13,9 @@ use Rattle.ledger.specs.Promises.{ListedAs}
 use Rattle.bundle.proofs.Asking.{all-ask}
 use Rattle.replay.specs.Text.{ledgerFrom, LinesFrom, openingPage, opened}
 use Rattle.replay.proofs.Sound.{sound-count}
-use Rattle.conformance.specs.Texts.{runOf, replyLines, EveryText, EveryRun, EveryList}
-use Rattle.conformance.proofs.Lines.{goes-on, told-lines, ledger-left}
-use Rattle.conformance.proofs.Rows.{lastRows, closing-is, accounted}
+use Rattle.conformance.specs.Texts.{runOf, EveryText, EveryRun, EveryList}
+use Rattle.conformance.proofs.EntryRuns.{goes-on, told-lines, ledger-left}
+use Rattle.conformance.proofs.ClosingRows.{accounted}
 
 -- in a sound bundle each entry from 1 asks
 each-asks : (bytes : List ℕ) (m : ℕ) → checkBundle bytes ≡ Sound m
@@ -36,8 +36,6 @@ every-text bytes text m s right opens h =
       run = record { asked = found .1; obeys = found .2 };
       lines = found .3;
       facts = always page (runOf s xs) page-opens (found .2);
-      rows = lastRows page s xs;
-      printed = found .3 ∙ ap (λ (c : List ℕ). replyLines 1 xs ++ c) (closing-is page page-opens s xs (found .2));
       accounted = accounted page page-opens s xs (found .2);
     }
 

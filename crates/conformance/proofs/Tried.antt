@@ -14,27 +14,23 @@ use Rattle.model.specs.Settling.{lowestAffordable, apply, settleAtMost, settle}
 use Rattle.model.specs.Calls.{step}
 use Rattle.model.specs.Bundles.{checkBundle}
 use Rattle.agreement.specs.Types.{Seat, Message, Circulated, Ack, Decision, Inquiry, Reply, Acknowledge, Note, Accept, Balance, Opened}
-use Rattle.agreement.specs.Runs.{start, _▹_, ledgerAt}
+use Rattle.agreement.specs.Runs.{start, _▹_, ledgerAt, Obeys}
 use Rattle.agreement.specs.Slates.{leaveAtMost, leaveAll, slateAt}
-use Rattle.agreement.specs.Claims.{Claim}
-use Rattle.agreement.proofs.Examples.{page, bad, t, asked, acks, ack, _then_, witness, witness-obeys, witness-keeps}
+use Rattle.agreement.specs.Facts.{countOf}
+use Rattle.agreement.proofs.Examples.{page, t, asked, acks, ack, _then_, witness, witness-obeys, witness-keeps}
 use Rattle.agreement.proofs.FactsTried.{_is_}
 use Rattle.text.specs.Lines.{decimal}
-use Rattle.replay.specs.Text.{openingPage, opened}
+use Rattle.replay.specs.Text.{Row, rowLines, openingPage, opened}
 use Rattle.replay.proofs.WholeOutput.{case, nineLines, whole-output}
 use Rattle.conformance.specs.Operations.{Works}
-use Rattle.conformance.specs.Texts.{Exchange, runOf, RunOfBundle, replyLines, textOfRun, Row, noRow, rowLines, countOf, Accounted, Tells}
-use Rattle.conformance.proofs.Operations.{obeys-works, works-demand3}
+use Rattle.conformance.specs.Texts.{Exchange, runOf, RunOfBundle, replyLines, lastRows, textOfRun, noRow, Accounted, TellsReader}
+use Rattle.conformance.proofs.Operations.{obeys-works}
+use Rattle.conformance.proofs.ClosingRows.{accounted}
 use Rattle.conformance.proofs.Texts.{every-text, every-run}
 
--- a group at work makes the run that demand 3 is tried on, and so demand 3 holds of it
+-- a group at work makes the run that demand 3 is tried on
 pub witness-works : Works page (λ s. ledgerAt page s witness) witness
 witness-works = obeys-works page witness witness-obeys
-
-pub witness-claim : Claim page bad witness
-witness-claim =
-    let kept = witness-keeps in
-    works-demand3 page bad (λ s. ledgerAt page s witness) witness (kept .0) (kept .1) (kept .2) witness-works (kept .4)
 
 -- "slip (0, 1, 4, 1), acks of it from seats 0 to 4, question 1", with the replies of the nine lines
 infixl 70 _gets_
@@ -83,15 +79,14 @@ unfolding case checkBundle openLedger
 whole-sound = (refl, refl)
 
 -- so its text tells what every text does
-pub whole-tells : (s : Seat) → Tells case nineLines s
+pub whole-tells : (s : Seat) → TellsReader case nineLines s
 whole-tells s = every-text case nineLines 8 s (whole-sound .0) (whole-sound .1) (whole-output .right)
 
 -- and every run of it has this text
 pub only-text : (s : Seat) (xs : List Exchange) → RunOfBundle case s xs → textOfRun case s xs ≡ nineLines
 only-text s xs run = whole-output .alone (textOfRun case s xs) (every-run case 8 s xs (whole-sound .0) (whole-sound .1) run)
 
--- What replies and rows tell of one another, where a balance is asked for before and after a booking: two rows; the opening sum 13; one slip
--- booked; the row of account 0; and its balance, each time as it was.
+-- A balance is asked for before and after a booking: this run obeys, and has these rows, so that its replies and rows account for one another.
 abbrev askedTwice : List Exchange
 askedTwice =
     Inquiry (accountOf 0) gets Balance 10
@@ -99,6 +94,14 @@ askedTwice =
     ∷ Inquiry (accountOf 0) gets Balance 6
     ∷ []
 
+pub twice-obeys : Obeys page (runOf (seatOf 0) askedTwice) × (lastRows page (seatOf 0) askedTwice ≡ rows)
+unfolding ledgerAt noAcks equal conflict hasMost openLedger lowestAffordable apply settleAtMost settle step
+twice-obeys = (tt then refl then refl then refl, refl)
+
+pub twice-accounted : Accounted page (seatOf 0) askedTwice rows
+twice-accounted = rw (twice-obeys .1) at (accounted page (witness-keeps .0) (seatOf 0) askedTwice (twice-obeys .0))
+
+-- What that says: two rows; the opening sum 13; one slip booked; the row of account 0; and its balance, each time as it was.
 pub accounted-says : Accounted page (seatOf 0) askedTwice rows
     → (2 is 2)
     × (13 is 13)

@@ -1,9 +1,10 @@
--- The links: what the contracts promise, and what the texts of `daybook` are, are runs as `agreement` means them. So demand 3 and the
--- facts of every run hold of what the code does, and none of the three can change without the others. In reading order:
+-- The links: what the contracts promise, and what the texts of `daybook` are, are runs as `agreement` means them. So demand 3, under its
+-- premises, and the facts of every run hold of what the code does; and a change of contracts, runs or texts that breaks this is refused. In
+-- reading order:
 -- Operations: an operation that keeps its contract is a call that conforms (`OperatedConforms`). Seats that hand on their ledgers from
--- operation to operation make runs that obey (`WorksObeys`), and every such run (`ObeysWorks`). So demand 3 and the facts hold of what
--- they do (`WorksDemand3`, `WorksFacts`).
+-- operation to operation make runs that obey (`WorksObeys`), and could make every such run (`ObeysWorks`). So demand 3 and the facts hold of
+-- what they do (`WorksDemand3`, `WorksFacts`).
 pub mod Operations
--- Texts: the lines of a bundle's text are a run at one seat, and account for it (`EveryText`); every such run has its text (`EveryRun`); and
--- the waiting list behind a bundle is one more call (`EveryList`).
+-- Texts: the lines of a bundle's text are a run at one seat, and account for it (`EveryText`); they are read in one way (`OneReading`); every
+-- such run has its text (`EveryRun`); and the waiting list behind a bundle is one more call (`EveryList`).
 pub mod Texts

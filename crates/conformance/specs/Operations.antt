@@ -19,7 +19,8 @@ Operated l (waitingList before r after) next = ListedAs l before r after × (nex
 abbrev pub OperatedConforms : Type 0
 OperatedConforms = (l : Ledger) (c : Call) (next : Ledger) → Operated l c next → Conforms l c × (next ≡ nextLedger l c)
 
--- "each holds a book just opened from that page": the ledger that an opening replied
+-- "each holds a book just opened from that page": the ledger that an opening yielded. It is said of every seat; of one that makes no call nothing
+-- depends on what it holds.
 abbrev pub OpenedAll : Opening → (Seat → Ledger) → Type 0
 OpenedAll o held = (s : Seat) → (r : OpenAnswer) × OpenedAs o r × (held s ≡ r .ledger)
 
@@ -35,18 +36,18 @@ Works o held start = OpenedAll o held
 Works o held (run ▹ e) = (before : Seat → Ledger) × Works o before run × Called before e held
 
 -- Such a run obeys the definitions, and the seats hold the run's ledgers.
-pub record Worked (o : Opening) (held : Seat → Ledger) (run : Run) : Type 0 where
+pub record ObeysAndHolds (o : Opening) (held : Seat → Ledger) (run : Run) : Type 0 where
   pub obeys : Obeys o run
   pub ledgers : (s : Seat) → held s ≡ ledgerAt o s run
 
 abbrev pub WorksObeys : Type 0
-WorksObeys = (o : Opening) (held : Seat → Ledger) (run : Run) → Works o held run → Worked o held run
+WorksObeys = (o : Opening) (held : Seat → Ledger) (run : Run) → Works o held run → ObeysAndHolds o held run
 
--- And every run that obeys is one that a group at work can make.
+-- And every run that obeys is one that operations which keep these contracts could make.
 abbrev pub ObeysWorks : Type 0
 ObeysWorks = (o : Opening) (run : Run) → Obeys o run → Works o (λ s. ledgerAt o s run) run
 
--- So demand 3, and what holds of every run, hold of what groups at work do.
+-- So demand 3, under its premises, and what holds of every run, hold of what groups at work do.
 abbrev pub WorksDemand3 : Type 0
 WorksDemand3 =
     (o : Opening) (bad : Seat → Bool) (held : Seat → Ledger) (run : Run)

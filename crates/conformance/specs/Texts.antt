@@ -1,18 +1,18 @@
--- The lines of a text that `daybook` writes are a run at one seat. The proofs are in proofs/Texts.antt.
+-- The lines of a text that `daybook` writes are a run at one seat. The proofs are in proofs/Texts.antt and proofs/Reading.antt.
 use Prim.Native.Nat.{ℕ, zero, suc, _-_, _<_}
 use mathlib.Core.Path.{_≡_}
-use mathlib.Core.List.{List, [], _∷_, _++_}
+use mathlib.Core.List.{List, [], _∷_, _++_, map}
 use mathlib.Core.Option.{some}
 use lib.ListN.{length, getD}
 use Rattle.model.specs.declared.BundleReply.the-variants.{Sound}
 use Rattle.model.specs.Bundles.{entryCount, pageAt, messageOf, checkBundle}
 use Rattle.model.specs.Basics.{sumOf}
-use Rattle.agreement.specs.Types.{Seat, Account, Opening, Message, Inquiry, Reply, Circulate, Acknowledge, Accept, Propose, Note, Balance, Refuse, Opened, ListReply}
+use Rattle.agreement.specs.Types.{Seat, Account, Opening, Message, Inquiry, Reply, Balance, Opened, ListReply}
 use Rattle.agreement.specs.Runs.{message, waitingList, Event, Run, start, _▹_, ledgerAt, Obeys}
 use Rattle.agreement.specs.Slates.{slateAt}
-use Rattle.agreement.specs.Facts.{Facts}
-use Rattle.text.specs.Lines.{replyLine, accountLine}
-use Rattle.replay.specs.Text.{closing, openingPage, opened, TextOf}
+use Rattle.agreement.specs.Facts.{countOf, Facts}
+use Rattle.text.specs.Lines.{replyLine}
+use Rattle.replay.specs.Text.{Row, rowLines, rowsOf, openingPage, opened, TextOf}
 use Rattle.replay.specs.Lists.{ListOf}
 
 -- a message with its reply, and the call that it is at a seat
@@ -43,38 +43,29 @@ pub record RunOfBundle (bytes : List ℕ) (s : Seat) (xs : List Exchange) : Type
   pub asked : AskedFrom bytes (entryCount bytes - 1) 1 xs
   pub obeys : Obeys (openingPage bytes) (runOf s xs)
 
--- "one line per entry from 1: entry, reply letter, and what it carries": the lines of these replies, the first of which is entry i's
+-- the lines of these replies, the first of which is entry i's
 abbrev pub replyLines : ℕ → List Exchange → List ℕ
 replyLines i [] = []
 replyLines i (x ∷ xs) = replyLine i (x .reply) ++ replyLines (suc i) xs
 
+-- the rows of its last ledger
+abbrev pub lastRows : Opening → Seat → List Exchange → List Row
+lastRows o s xs = rowsOf (ledgerAt o s (runOf s xs))
+
 -- the text of such a run: the lines of its replies, and the closing lines of its last ledger
 abbrev pub textOfRun : List ℕ → Seat → List Exchange → List ℕ
-textOfRun bytes s xs = replyLines 1 xs ++ closing (ledgerAt (openingPage bytes) s (runOf s xs))
+textOfRun bytes s xs = replyLines 1 xs ++ rowLines 0 (lastRows (openingPage bytes) s xs)
 
--- what a closing line tells of its account
-pub record Row : Type 0 where
-  pub balance : ℕ
-  pub current : ℕ
+-- A text is read in one way: replies and rows that have the same lines are the same, however many there are and whatever their numbers.
+abbrev pub OneReading : Type 0
+OneReading =
+    (xs ys : List Exchange) (rows others : List Row)
+    → replyLines 1 xs ++ rowLines 0 rows ≡ replyLines 1 ys ++ rowLines 0 others
+    → (map (λ x. x .reply) xs ≡ map (λ y. y .reply) ys) × (rows ≡ others)
 
 -- behind the last row
 abbrev pub noRow : Row
 noRow = record { balance = 0; current = 0 }
-
--- "then per account `= account balance current`": the lines of these rows, the first of which is account a's
-abbrev pub rowLines : ℕ → List Row → List ℕ
-rowLines a [] = []
-rowLines a (row ∷ rows) = accountLine a (row .balance) (row .current) ++ rowLines (suc a) rows
-
--- "K carries how many slips this call booked"; no other reply has a count
-abbrev pub countOf : Reply → ℕ
-countOf Circulate = 0
-countOf Acknowledge = 0
-countOf (Accept c) = c
-countOf (Propose t) = 0
-countOf Note = 0
-countOf (Balance b) = 0
-countOf (Refuse r) = 0
 
 -- What the replies of a run at one seat, and the rows of its last ledger, tell of one another and of the slate that is fed these calls.
 pub record Accounted (o : Opening) (s : Seat) (xs : List Exchange) (rows : List Row) : Type 0 where
@@ -91,22 +82,20 @@ pub record Accounted (o : Opening) (s : Seat) (xs : List Exchange) (rows : List 
   pub told : (before after : List Exchange) (a : Account) (b : ℕ)
       → xs ≡ before ++ record { asked = Inquiry a; reply = Balance b } ∷ after → b ≡ slateAt o s (runOf s before) .balance a
 
--- What a text tells its reader: it is the text of a run of the bundle, of which all is true that is true of every run; and its closing
--- lines are rows that account for it.
-pub record Tells (bytes text : List ℕ) (s : Seat) : Type 0 where
+-- What a text tells its reader: it is the text of a run of the bundle, of which all is true that is true of every run; and its replies and
+-- rows, the only ones that have its lines (`OneReading`), account for one another.
+pub record TellsReader (bytes text : List ℕ) (s : Seat) : Type 0 where
   pub exchanges : List Exchange
   pub run : RunOfBundle bytes s exchanges
   pub lines : text ≡ textOfRun bytes s exchanges
   pub facts : Facts (openingPage bytes) (runOf s exchanges)
-  pub rows : List Row
-  pub printed : text ≡ replyLines 1 exchanges ++ rowLines 0 rows
-  pub accounted : Accounted (openingPage bytes) s exchanges rows
+  pub accounted : Accounted (openingPage bytes) s exchanges (lastRows (openingPage bytes) s exchanges)
 
 -- Every text of a bundle that is sound and opens tells this, whichever seat is taken for the one that it is of.
 abbrev pub EveryText : Type 0
 EveryText =
     (bytes text : List ℕ) (m : ℕ) (s : Seat)
-    → checkBundle bytes ≡ Sound m → opened bytes .reply ≡ Opened → TextOf bytes text → Tells bytes text s
+    → checkBundle bytes ≡ Sound m → opened bytes .reply ≡ Opened → TextOf bytes text → TellsReader bytes text s
 
 -- And every run of such a bundle has its text.
 abbrev pub EveryRun : Type 0

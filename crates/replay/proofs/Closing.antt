@@ -4,12 +4,12 @@ use Prim.Native.Nat.{ℕ, zero, suc, _+_, _*_, _-_, _≤_, _<_}
 use native.Mathlib.Nat.{sub-zero}
 use native.Mathlib.Numerals.{add-one}
 use native.Mathlib.Omega.{arith}
-use mathlib.Core.Path.{_≡_, refl, sym, _∙_}
+use mathlib.Core.Path.{_≡_, refl, ap, sym, _∙_}
 use mathlib.Core.List.{List, [], _++_, append-assoc, append-nil}
 use lib.ListN.{length}
 use Rattle.model.specs.declared.Entry.{Entry}
 use Rattle.model.specs.declared.Ledger.{Ledger}
-use Rattle.model.specs.Records.{freshEntry}
+use Rattle.model.specs.Records.{accountOf, freshEntry, entryOf}
 use Rattle.settling.specs.declared.Funds.{Funds}
 use Rattle.settling.specs.Funds.{fundsOf}
 use Rattle.settling.proofs.FundsLaws.{entry-with-funds}
@@ -17,14 +17,14 @@ use Rattle.text.specs.Lines.{decimal, accountLine}
 use Rattle.text.specs.Outputs.{Writes}
 use Rattle.text.proofs.Writing.{nothing, then, within}
 use Rattle.text.proofs.Decimals.{two-digits}
-use Rattle.replay.specs.Text.{closing, closingFrom}
-use Rattle.replay.specs.Promises.{closingMost, live, fundsAt, closingBy}
+use Rattle.replay.specs.Text.{rowLines, rowsFrom, rowOf, closing}
+use Rattle.replay.specs.Promises.{closingMost, live, fundsAt, rowsBy}
 
 module _ (fs : List Funds) (accounts : ℕ) (before : List ℕ) (start : ℕ) where
   -- the lines of the accounts below a are written
   pub record ClosedTo (a : ℕ) (after : List ℕ) (filled : ℕ) : Type 0 where
     pub lines : List ℕ
-    pub goes-on : lines ++ closingBy fs (accounts - a) a ≡ closingBy fs accounts 0
+    pub goes-on : lines ++ rowLines a (rowsBy fs (accounts - a) a) ≡ rowLines 0 (rowsBy fs accounts 0)
     pub writes : Writes before start lines (27 * a) after filled
 
   pub closed-none : ClosedTo 0 before start
@@ -39,22 +39,22 @@ module _ (fs : List Funds) (accounts : ℕ) (before : List ℕ) (start : ℕ) wh
         let one : accounts - a ≡ suc (accounts - suc a) = omega arith in
         record {
           lines = p .lines ++ line;
-          goes-on = rw (add-one a, append-assoc (p .lines) line (closingBy fs (accounts - suc a) (suc a))) (rw one at (p .goes-on));
+          goes-on = rw (add-one a, append-assoc (p .lines) line (rowLines (suc a) (rowsBy fs (accounts - suc a) (suc a)))) (rw one at (p .goes-on));
           writes = within (omega (arith, two-digits a (omega arith))) (then (p .writes) (rw f-is at w));
         }
 
-    pub closed-all : accounts ≤ a → a ≤ 32 → Writes before start (closingBy fs accounts 0) closingMost mid at
+    pub closed-all : accounts ≤ a → a ≤ 32 → Writes before start (rowLines 0 (rowsBy fs accounts 0)) closingMost mid at
     closed-all over few =
         let none-left : accounts - a ≡ 0 = omega arith in
-        let all : p .lines ≡ closingBy fs accounts 0 = sym (append-nil (p .lines)) ∙ (rw none-left at (p .goes-on)) in
+        let all : p .lines ≡ rowLines 0 (rowsBy fs accounts 0) = sym (append-nil (p .lines)) ∙ (rw none-left at (p .goes-on)) in
         rw (← all) (within (omega arith) (p .writes))
 
--- the funds tell the closing lines of the ledger that has them
+-- the funds tell the rows of the ledger that has them
 pub closing-told : (l : Ledger) (es : List Entry) (fs : List Funds) → length es ≡ 32 → length fs ≡ 32 → l .accounts ≤ 32
-    → closing (live l es fs) ≡ closingBy fs (l .accounts) 0
-closing-told l es fs places funds-places few = go (l .accounts) 0 (omega arith)
+    → closing (live l es fs) ≡ rowLines 0 (rowsBy fs (l .accounts) 0)
+closing-told l es fs places funds-places few = ap (rowLines 0) (go (l .accounts) 0 (omega arith))
   where
-    go : (left a : ℕ) → a + left ≤ 32 → closingFrom (live l es fs) left a ≡ closingBy fs left a
+    go : (left a : ℕ) → a + left ≤ 32 → rowsFrom (λ b. rowOf (entryOf (live l es fs) (accountOf b))) left a ≡ rowsBy fs left a
     go zero a within = refl
     go (suc left) a within =
         rw (

@@ -1,8 +1,10 @@
 -- As much of an input as the longest bundle has, and one byte more, gives the text of the whole: a longer bundle is refused, and by its front.
 use Prim.Native.Nat.{ℕ, _<_}
+use native.Mathlib.Omega.{arith}
 use mathlib.Core.Path.{_≡_, refl}
 use mathlib.Core.List.{List}
-use lib.ListN.{length, take}
+use lib.ListN.{length, take, length-take}
+use lib.Seq.{take-all}
 use Rattle.model.specs.declared.BundleReply.{BundleReply}
 use Rattle.model.specs.declared.BundleReply.the-variants.{Sound, BundleRefused}
 use Rattle.model.specs.Bundles.{checkBundle}
@@ -35,3 +37,8 @@ text-of-input input read n large all w =
       size = w .size;
       fits = w .fits;
     }
+
+-- and what was read is itself such an input: so there always is one
+pub input-read : (input : List ℕ) (read : ℕ) (text : List ℕ) → InputText input read text → TextOf (take read input) text
+input-read input read text right =
+    right (take read input) (take-all (length input) (take read input) (omega (arith, length-take read input)))

@@ -17,8 +17,8 @@ use Rattle.text.specs.Outputs.{Writes}
 use Rattle.text.proofs.Writing.{then, within, whole}
 use Rattle.replay.specs.declared.Played.{Played}
 use Rattle.replay.proofs.Closing.{closing-told}
-use Rattle.replay.specs.Text.{LinesFrom, opened, CheckedText, TextOf}
-use Rattle.replay.specs.Promises.{closingMost, closingBy, textMost, Replayed, Wrote, PlayedAll}
+use Rattle.replay.specs.Text.{rowLines, LinesFrom, opened, CheckedText, TextOf}
+use Rattle.replay.specs.Promises.{closingMost, rowsBy, textMost, Replayed, Wrote, PlayedAll}
 
 -- what is right by one definition is right by another that follows from it
 rightly : {P Q : List ℕ → Type 0} {before after : List ℕ} {r : ℕ} → ((text : List ℕ) → P text → Q text) → Wrote P before after r → Wrote Q before after r
@@ -32,11 +32,11 @@ single-line line h most w = record { text = line; right = h; writes = within mos
 module _ (bytes : List ℕ) {before : List ℕ} where
   -- the entries' lines, and behind them the closing lines
   pub wrote-lines : {l : Ledger} {mid after : List ℕ} {p : Played} {r : ℕ} → PlayedAll bytes l before mid p
-      → l .accounts ≤ 32 → Writes mid (p .filled) (closingBy (p .funds) (l .accounts) 0) closingMost after r
+      → l .accounts ≤ 32 → Writes mid (p .filled) (rowLines 0 (rowsBy (p .funds) (l .accounts) 0)) closingMost after r
       → Wrote (LinesFrom bytes (entryCount bytes - 1) 1 l) before after r
   wrote-lines {l} {p = p} played few closes =
       record {
-        text = played .lines ++ closingBy (p .funds) (l .accounts) 0;
+        text = played .lines ++ rowLines 0 (rowsBy (p .funds) (l .accounts) 0);
         right = rw (closing-told l (played .entries) (p .funds) (played .places) (played .funds-places) few) at (played .right);
         writes = within (omega arith) (then (played .writes) closes);
       }

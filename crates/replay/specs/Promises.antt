@@ -1,7 +1,7 @@
 -- What replaying promises.
-use Prim.Native.Nat.{ℕ, zero, suc, _+_, _-_, _*_, _≤_, _<_}
+use Prim.Native.Nat.{ℕ, _+_, _-_, _*_, _≤_, _<_}
 use mathlib.Core.Path.{_≡_}
-use mathlib.Core.List.{List, [], _++_}
+use mathlib.Core.List.{List, _++_}
 use lib.ListN.{length, getD, take, drop}
 use Rattle.model.specs.declared.Entry.{Entry}
 use Rattle.model.specs.declared.Ledger.{Ledger}
@@ -10,10 +10,9 @@ use Rattle.model.specs.Bundles.{entryCount}
 use Rattle.bundle.specs.Promises.{longest}
 use Rattle.settling.specs.declared.Funds.{Funds}
 use Rattle.settling.specs.Funds.{fundsOf, withAllFunds}
-use Rattle.text.specs.Lines.{accountLine}
 use Rattle.text.specs.Outputs.{Writes}
 use Rattle.replay.specs.declared.Played.{Played}
-use Rattle.replay.specs.Text.{ledgerFrom, closing, LinesFrom, TextOf}
+use Rattle.replay.specs.Text.{ledgerFrom, Row, rowsFrom, closing, LinesFrom, TextOf}
 
 -- How long a text can be. The longest line of an entry is that of P: the entry in 3 digits, the letter, account and recipient in 3 digits
 -- each, number and value in 10 each, their spaces and the end of the line: 36 bytes, for 999 entries. The line of an account has 27, for 32.
@@ -35,8 +34,8 @@ pub record Replayed (Right : List ℕ → Type 0) (before after : List ℕ) (r :
   pub size : r ≡ length text
   pub fits : length text ≤ length before
 
--- The text of every input of which these bytes were read: its first ones, or the whole of it if it is shorter than the buffer. A count above
--- the buffer's size counts as that size.
+-- The text of every input that leaves these bytes in the buffer: as many of its first bytes as there is room for, or the whole of it if it is shorter. A
+-- count above the buffer's size counts as that size.
 abbrev pub InputText : List ℕ → ℕ → List ℕ → Type 0
 InputText input read text = (whole : List ℕ) → take (length input) whole ≡ take read input → TextOf whole text
 
@@ -62,10 +61,9 @@ fundsAt fs a = getD fs a (fundsOf (freshEntry 0))
 abbrev pub live : Ledger → List Entry → List Funds → Ledger
 live l es fs = withEntries l (withAllFunds es fs)
 
--- the closing lines of the `left` accounts from a on, told by the accounts' funds
-abbrev pub closingBy : List Funds → ℕ → ℕ → List ℕ
-closingBy fs zero a = []
-closingBy fs (suc left) a = accountLine a (fundsAt fs a .balance) (fundsAt fs a .current) ++ closingBy fs left (suc a)
+-- the rows of the `left` accounts from a on, told by the accounts' funds
+abbrev pub rowsBy : List Funds → ℕ → ℕ → List Row
+rowsBy fs = rowsFrom (λ a. record { balance = fundsAt fs a .balance; current = fundsAt fs a .current })
 
 -- All entries from 1 on: their lines stand at the buffer's front, and the funds are those of the ledger that is left, whose closing lines
 -- are still to come.

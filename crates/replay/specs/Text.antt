@@ -2,8 +2,9 @@
 -- that P carries on a tie is left free; everything else in it is fixed.
 use Prim.Native.Nat.{ℕ, zero, suc, _-_}
 use mathlib.Core.Path.{_≡_}
-use mathlib.Core.List.{List, [], _++_}
+use mathlib.Core.List.{List, [], _∷_, _++_}
 use mathlib.Core.Option.{Option, none, some}
+use Rattle.model.specs.declared.Entry.{Entry}
 use Rattle.model.specs.declared.Ledger.{Ledger}
 use Rattle.model.specs.declared.Message.{Message}
 use Rattle.model.specs.declared.Opening.{Opening}
@@ -36,14 +37,30 @@ abbrev pub ledgerFrom : List ℕ → ℕ → ℕ → Ledger → Ledger
 ledgerFrom bytes zero i l = l
 ledgerFrom bytes (suc left) i l = ledgerFrom bytes left (suc i) (ledgerAfter l (messageOf (pageAt bytes i)))
 
--- "then per account `= account balance current`": the `left` accounts from a on
-abbrev pub closingFrom : Ledger → ℕ → ℕ → List ℕ
-closingFrom l zero a = []
-closingFrom l (suc left) a =
-    accountLine a (entryOf l (accountOf a) .balance) (entryOf l (accountOf a) .current) ++ closingFrom l left (suc a)
+-- what a closing line tells of its account
+pub record Row : Type 0 where
+  pub balance : ℕ
+  pub current : ℕ
+
+-- "then per account `= account balance current`": the lines of these rows, the first of which is account a's
+abbrev pub rowLines : ℕ → List Row → List ℕ
+rowLines a [] = []
+rowLines a (row ∷ rows) = accountLine a (row .balance) (row .current) ++ rowLines (suc a) rows
+
+-- the rows of the `left` accounts from a on, given the row of any account
+abbrev pub rowsFrom : (ℕ → Row) → ℕ → ℕ → List Row
+rowsFrom row zero a = []
+rowsFrom row (suc left) a = row a ∷ rowsFrom row left (suc a)
+
+-- the rows of a ledger, one for each of its k accounts
+abbrev pub rowOf : Entry → Row
+rowOf e = record { balance = e .balance; current = e .current }
+
+abbrev pub rowsOf : Ledger → List Row
+rowsOf l = rowsFrom (λ a. rowOf (entryOf l (accountOf a))) (l .accounts) 0
 
 abbrev pub closing : Ledger → List ℕ
-closing l = closingFrom l (l .accounts) 0
+closing l = rowLines 0 (rowsOf l)
 
 -- the lines of the `left` entries from i on, then the closing lines
 abbrev pub LinesFrom : List ℕ → ℕ → ℕ → Ledger → List ℕ → Type 0

@@ -36,9 +36,9 @@ ghost use Rattle.model.specs.Bundles.{entryCount};
 ghost use Rattle.model.specs.Calls.{payerOf};
 ghost use Rattle.text.specs.Outputs.{Writes};
 ghost use Rattle.ledger.specs.Promises.{ListedAs};
-ghost use Rattle.replay.specs.Text.{ledgerFrom, LinesFrom, opened, CheckedText, TextOf};
+ghost use Rattle.replay.specs.Text.{ledgerFrom, rowLines, LinesFrom, opened, CheckedText, TextOf};
 ghost use Rattle.replay.specs.Lists.{SoundList, ListOf};
-ghost use Rattle.replay.specs.Promises.{closingMost, closingBy, Replayed, InputText, Wrote, PlayedAll};
+ghost use Rattle.replay.specs.Promises.{closingMost, rowsBy, Replayed, InputText, Wrote, PlayedAll};
 
 // The longest text: 999 lines of a proposed transfer, 36 bytes each, and 32 lines of an account, 27 bytes each: 36,828 bytes.
 pub const TEXT_SIZE: usize = 36 * 999 + 27 * 32;
@@ -115,7 +115,7 @@ fn play(bytes: &[u8], l: Ledger, out: &mut [u8]) -> Played
 // The closing lines: each account with its balance and its current number.
 fn put_closing(accounts: u8, funds: [Funds; 32], out: &mut [u8], at: usize) -> usize
     requires { ⌜ accounts ≤ 32 ⌝ }
-    ensures { λ r. ⌜ Writes (now (out .entry)) at (closingBy funds accounts 0) closingMost (now (out .exit)) r ⌝ }
+    ensures { λ r. ⌜ Writes (now (out .entry)) at (rowLines 0 (rowsBy funds accounts 0)) closingMost (now (out .exit)) r ⌝ }
 {
     let mut filled = at;
     let mut a: u8 = 0;
@@ -171,8 +171,8 @@ pub fn replay(bytes: &[u8], out: &mut [u8; TEXT_SIZE]) -> usize
     }
 }
 
-// The text for an input of which these bytes were read: the first of it, or the whole if it is shorter than the buffer. A count above the
-// buffer's size counts as that size.
+// The text for an input of which the buffer holds as many first bytes as it has room for, or the whole if it is shorter. A count above the buffer's
+// size counts as that size.
 pub fn replay_input(input: &[u8; INPUT_SIZE], read: usize, out: &mut [u8; TEXT_SIZE]) -> usize
     ensures { λ r. ⌜ Replayed (InputText (now (input .entry)) read) (now (out .entry)) (now (out .exit)) r ⌝ }
 {

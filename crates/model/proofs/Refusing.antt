@@ -75,9 +75,12 @@ effect-never l a e (Ack s t) r h = tallied-never l a (withAck e s t) t r h
 effect-never l a e (Decision t) r h = impossible (cc)
 effect-never l a e (Inquiry b) r h = impossible (cc)
 
--- the rules that a message meets in a ledger, and the outcome of a refusal
+-- the rules that a message meets in a ledger, its outcome where none holds, and the outcome of a refusal
 abbrev pub rulesIn : Ledger → Message → List Rule
 rulesIn l m = rulesOf l (entryOf l (payerOf m)) m
+
+abbrev pub effectIn : Ledger → Message → Outcome
+effectIn l m = finished l (payerOf m) (effect l (entryOf l (payerOf m)) m)
 
 abbrev pub refusal : Refusal → Ledger → Outcome
 refusal r l = record { choice = exactly (Refuse r); next = l }
@@ -107,8 +110,7 @@ pub refusal-keeps : (l : Ledger) (m : Message) (r : Refusal) → Answers l m (Re
 refusal-keeps l m r h = rw (refuses l m r (refused-by l m r h))
 
 -- a message that no rule refuses has its effect
-pub not-refused : (l : Ledger) (m : Message) → firstRefusal (rulesIn l m) ≡ none
-    → step l m ≡ finished l (payerOf m) (effect l (entryOf l (payerOf m)) m)
+pub not-refused : (l : Ledger) (m : Message) → firstRefusal (rulesIn l m) ≡ none → step l m ≡ effectIn l m
 unfolding step
 not-refused l m e = rw e
 

@@ -10,14 +10,14 @@ use lib.Dec.{eqb, ltb}
 use borrow.Author.Tests.{leb-false}
 use Rattle.model.specs.Types.{Seat, Account, Transfer, Entry, Ledger, Refusal, Message, Request, Circulated, Ack, Decision, Inquiry, Reply, Circulate, Acknowledge, Accept, Propose, Note, Balance, Refuse}
 use Rattle.model.specs.Records.{entryOf, setEntry, withEntry, withEntries, withAcked, withAck, withProposed, withPending}
-use Rattle.model.specs.Replies.{Outcome, Allows}
+use Rattle.model.specs.Replies.{Allows}
 use Rattle.model.specs.Refusals.{firstRefusal, waitsAlready, ackFrom, outOfRange, unknownAccount}
 use Rattle.model.specs.Acks.{holds, conflicts, acksFor, acksRecorded, enough, mustPropose, hasMost}
 use Rattle.model.specs.Settling.{Settled, settle}
-use Rattle.model.specs.Calls.{payerOf, tallied, effect, finished, step, Answers}
+use Rattle.model.specs.Calls.{tallied, finished, step, Answers}
 use Rattle.model.proofs.Sums.{neither}
 use Rattle.model.proofs.Access.{SameGroup, with-entries, with-entry-read}
-use Rattle.model.proofs.Refusing.{AllFail, none-holds, next-number, rulesIn, refuses, not-refused}
+use Rattle.model.proofs.Refusing.{AllFail, none-holds, next-number, rulesIn, effectIn, refuses, not-refused}
 
 -- what a slip is that 5 to 8 do not refuse
 pub record Eligible (l : Ledger) (t : Transfer) : Type 0 where
@@ -112,10 +112,6 @@ tally-happens l s t r ok new h = go (enough (l .seats) (l .faults) (acksFor t (e
         let free = rw (full, must) at h in
         proposed s t (free .0) refl (free .1) ok new full must (free .2) (rw (full, must))
     go false full false must h = noted s t refl (rw (full, must) at h) ok new full (rw (full, must))
-
--- the effect of a message in a ledger
-abbrev effectIn : Ledger → Message → Outcome
-effectIn l m = finished l (payerOf m) (effect l (entryOf l (payerOf m)) m)
 
 -- what a message does that no rule refuses
 effect-happens : (l : Ledger) (m : Message) (r : Reply) → AllFail (rulesIn l m) → Allows (effectIn l m .choice) r

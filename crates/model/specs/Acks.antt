@@ -42,8 +42,8 @@ conflictsWithAny acks (Full t) = any (λ a. conflicts t (a .slot)) acks
 abbrev pub twoConflict : List AckSlot → Bool
 twoConflict acks = any (λ a. conflictsWithAny acks (a .slot)) acks
 
--- "if at least n - f seats' acks are recorded, two of them conflict, and nothing was put forward for this number": of the account's entry, and of how
--- many acks are recorded in it
+-- "if at least n - f seats' acks are recorded, two of them conflict, and nothing was put forward for this number". How many are recorded is handed in, as the
+-- count is to `enough`: the tally has both
 abbrev pub mustPropose : ℕ → ℕ → ℕ → Entry → Bool
 mustPropose n f recorded e = leb (n - f) recorded && twoConflict (e .acks) && not (e .proposed)
 

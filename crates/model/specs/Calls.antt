@@ -1,5 +1,5 @@
 -- Document 01, "What each message does": for each kind of call the reply and the ledger after it. A message is about one account. What it comes to
--- is said of that account's entry (`turnAt`), which is then stored and, where its slip is accepted, settled (`step`).
+-- is said of that account's entry (`turnAt`), which is then stored; and where its slip is accepted, settling begins (`step`).
 use Prim.Native.Nat.{ℕ}
 use mathlib.Core.Path.{_≡_}
 use mathlib.Core.Bool.{cond}
@@ -79,7 +79,7 @@ turnAt l e m = unlessRefused (firstRefusal (rulesOf l e m)) e (effect l e m)
 abbrev pub accepted : Ledger → Settled → Outcome
 accepted l s = record { choice = exactly (Accept (s .applied)); next = withEntries l (s .entries) }
 
--- the entry is stored; where its slip is accepted, "then settling begins"
+-- the entry is stored, which changes nothing where it is as it was; where its slip is accepted, "then settling begins"
 abbrev pub finishedBy : Ledger → Account → Due → Entry → Outcome
 finishedBy l a (replied c) e = record { choice = c; next = withEntry l a e }
 finishedBy l a accepts e = accepted l (settle (setEntry (l .entries) a e))

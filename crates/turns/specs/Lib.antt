@@ -1,2 +1,2 @@
--- What a message comes to at one entry, beside document 01's definitions, which it cites from the model.
+-- What a turn promises, by the model's `turnAt`.
 pub mod Turns

@@ -44,7 +44,8 @@ rows-are : (l : Ledger) (left a : ℕ) → a + left ≤ length (l .entries)
     → rowsFrom (λ b. rowOf (entryOf l (accountOf b))) left a ≡ map rowOf (take left (drop a (l .entries)))
 rows-are l zero a fits = refl
 rows-are l (suc left) a fits =
-    rw (drop-cons (l .entries) a (freshEntry 0) (omega arith)) (ap (λ (rest : List Row). rowOf (entryOf l (accountOf a)) ∷ rest) (rows-are l left (suc a) (omega arith)))
+    rw (drop-cons (l .entries) a (freshEntry 0) (omega arith))
+    (ap (λ (rest : List Row). rowOf (entryOf l (accountOf a)) ∷ rest) (rows-are l left (suc a) (omega arith)))
 
 module _ (o : Opening) (opens : Opens o) (s : Seat) (xs : List Exchange) (obeys : Obeys o (runOf s xs)) where
   abbrev last : Ledger

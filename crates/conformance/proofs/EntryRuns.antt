@@ -12,6 +12,11 @@ use Rattle.text.specs.Lines.{replyLine}
 use Rattle.replay.specs.Text.{EntryText, ledgerFrom, closing, LinesFrom}
 use Rattle.conformance.specs.Texts.{Exchange, eventOf, runFrom, AskedFrom, replyLines}
 
+-- the first of these lines, and what stands behind it
+pub first-line : (i : ℕ) (x : Exchange) (xs : List Exchange) (rest : List ℕ)
+    → replyLines i (x ∷ xs) ++ rest ≡ replyLine i (x .reply) ++ (replyLines (suc i) xs ++ rest)
+first-line i x xs rest = append-assoc (replyLine i (x .reply)) (replyLines (suc i) xs) rest
+
 -- Places in such a run: what it went on from, and each of its calls.
 module _ (s : Seat) where
   pub from-within : (run : Run) (xs : List Exchange) → Within run (runFrom s run xs)
@@ -40,7 +45,7 @@ module _ (bytes : List ℕ) (o : Opening) (s : Seat) where
       → GoesOn left (suc i) (run ▹ eventOf s x) rest → GoesOn (suc left) i run (replyLine i (x .reply) ++ rest)
   one-more left i run x rest asks (xs, asked, obeys, is) =
       let ends = closing (ledgerAt o s (runFrom s (run ▹ eventOf s x) xs)) in
-      (x ∷ xs, (asks, asked), obeys, rw is (sym (append-assoc (replyLine i (x .reply)) (replyLines (suc i) xs) ends)))
+      (x ∷ xs, (asks, asked), obeys, rw is (sym (first-line i x xs ends)))
 
   -- from lines of these entries to such a run, if each entry asks
   pub goes-on : (left i : ℕ) (run : Run) (text : List ℕ)
@@ -73,7 +78,7 @@ module _ (bytes : List ℕ) (o : Opening) (s : Seat) where
         rest,
         (x .reply, answers, refl),
         rw left-ledger at (told-lines left (suc i) (run ▹ eventOf s x) xs (asked .1) obeys),
-        append-assoc (replyLine i (x .reply)) (replyLines (suc i) xs) ends,
+        first-line i x xs ends,
       )
 
   -- the run's last ledger is the one that these entries leave

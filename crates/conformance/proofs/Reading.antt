@@ -17,6 +17,7 @@ use Rattle.text.specs.Lines.{digit, decimal, carried, lettered, replyLine}
 use Rattle.text.proofs.Decimals.{one-digit, more-digits}
 use Rattle.replay.specs.Text.{Row, rowLines}
 use Rattle.conformance.specs.Texts.{Exchange, replyLines, OneReading}
+use Rattle.conformance.proofs.EntryRuns.{first-line}
 
 -- Numbers. A digit is a byte from 48 to 57.
 abbrev isDigit : ℕ → Bool
@@ -183,10 +184,6 @@ rows-same a (r ∷ rows) (q ∷ others) h =
     λ i. record { balance = balance i; current = current i } ∷ later i
 
 -- The whole text, from entry i on.
-first-line : (i : ℕ) (x : Exchange) (xs : List Exchange) (rest : List ℕ)
-    → replyLines i (x ∷ xs) ++ rest ≡ replyLine i (x .reply) ++ (replyLines (suc i) xs ++ rest)
-first-line i x xs rest = append-assoc (replyLine i (x .reply)) (replyLines (suc i) xs) rest
-
 same-from : (i : ℕ) (xs ys : List Exchange) (rows others : List Row)
     → replyLines i xs ++ rowLines 0 rows ≡ replyLines i ys ++ rowLines 0 others
     → (map (λ x. x .reply) xs ≡ map (λ y. y .reply) ys) × (rows ≡ others)

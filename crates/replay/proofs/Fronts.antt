@@ -1,7 +1,7 @@
 -- As much of an input as the longest bundle has, and one byte more, gives the text of the whole: a longer bundle is refused, and by its front.
 use Prim.Native.Nat.{ℕ, _<_}
 use native.Mathlib.Omega.{arith}
-use mathlib.Core.Path.{_≡_, refl}
+use mathlib.Core.Path.{_≡_, refl, sym, _∙_}
 use mathlib.Core.List.{List}
 use lib.ListN.{length, take, length-take}
 use lib.Seq.{take-all}
@@ -32,7 +32,9 @@ pub text-of-input : (input : List ℕ) (read n : ℕ) {before after : List ℕ} 
 text-of-input input read n large all w =
     record {
       text = w .text;
-      right = λ whole first. same-text (length input) large whole (w .text) .0 (rw (first, ← all) (w .right));
+      right = λ whole first.
+          let taken : take (length input) whole ≡ take n input = first ∙ sym all in
+          same-text (length input) large whole (w .text) .0 (rw taken (w .right));
       front = w .front;
       size = w .size;
       fits = w .fits;

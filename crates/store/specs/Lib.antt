@@ -1,0 +1,2 @@
+-- What the stores promise.
+pub mod Stores

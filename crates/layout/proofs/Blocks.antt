@@ -28,18 +28,21 @@ pub table-length : {A : Type 0} (f : ℕ → A) (n i : ℕ) → length (tableFro
 table-length f zero i = refl
 table-length f (suc n) i = ap suc (table-length f n (suc i))
 
+-- tables of functions that agree at the table's places
+pub table-same : {A : Type 0} (f g : ℕ → A) (n i : ℕ) → ((k : ℕ) → i ≤ k → k < i + n → g k ≡ f k) → tableFrom g n i ≡ tableFrom f n i
+table-same f g zero i same = refl
+table-same f g (suc n) i same = rw (same i (omega arith) (omega arith), table-same f g n (suc i) (λ k l h. same k (omega arith) (omega arith)))
+
 -- tables that are equal but at one place differ by a store there
-pub table-set : {A : Type 0} (f g : ℕ → A) (n i j : ℕ) → ((k : ℕ) → k ≢ i + j → g k ≡ f k) → tableFrom g n i ≡ set (tableFrom f n i) j (g (i + j))
+pub table-set : {A : Type 0} (f g : ℕ → A) (n i j : ℕ) → ((k : ℕ) → k < i + n → k ≢ i + j → g k ≡ f k)
+    → tableFrom g n i ≡ set (tableFrom f n i) j (g (i + j))
 table-set f g zero i j same = refl
 table-set f g (suc n) i zero same =
-    rw (add-zero i) (ap (λ (r : List _). g i ∷ r) (table-same n (suc i) (λ k h. same k (λ e. absurd (omega arith)))))
-  where
-    table-same : (m at : ℕ) → ((k : ℕ) → at ≤ k → g k ≡ f k) → tableFrom g m at ≡ tableFrom f m at
-    table-same zero at h = refl
-    table-same (suc m) at h = rw (h at (omega arith), table-same m (suc at) (λ k l. h k (omega arith)))
+    rw (add-zero i) (ap (λ (r : List _). g i ∷ r) (table-same f g n (suc i) (λ k l h. same k (omega arith) (λ e. absurd (omega arith)))))
 table-set f g (suc n) i (suc j) same =
     let next : suc i + j ≡ i + suc j = omega arith in
-    rw (same i (λ e. absurd (omega arith)), ← next) (ap (λ (r : List _). f i ∷ r) (table-set f g n (suc i) j (λ k h. same k (λ e. h (omega arith)))))
+    rw (same i (omega arith) (λ e. absurd (omega arith)), ← next)
+    (ap (λ (r : List _). f i ∷ r) (table-set f g n (suc i) j (λ k l h. same k (omega arith) (λ e. h (omega arith)))))
 
 -- a word that was put is read back, and the others are as they were
 pub put-here : (w : Block) (i v : ℕ) → put w i v i ≡ v
@@ -99,7 +102,7 @@ changed-entries : (ws : List ℕ) (a : Account) (w : Block) (after : List ℕ) �
     → entriesIn after ≡ set (entriesIn ws) (a .0) (entryBy (a .0) w)
 unfolding entriesIn
 changed-entries ws a w after c =
-    table-set (λ b. entryBy b (block ws b)) (λ b. entryBy b (block after b)) 32 0 (a .0) (λ k h. ap (entryBy k) (c .others k (λ e. h (omega arith))))
+    table-set (λ b. entryBy b (block ws b)) (λ b. entryBy b (block after b)) 32 0 (a .0) (λ k l h. ap (entryBy k) (c .others k (λ e. h (omega arith))))
     ∙ rw (zero-add (a .0), c .here)
 
 -- and so has the ledger

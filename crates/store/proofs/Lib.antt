@@ -1,1 +1,2 @@
--- Nothing yet.
+-- Laws of the stores. Clearing: a block cleared word by word.
+pub mod Clearing

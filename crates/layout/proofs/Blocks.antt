@@ -3,18 +3,14 @@ use Prim.Native.Nat.{ℕ, zero, suc, _+_, _*_, _≤_, _<_}
 use native.Mathlib.Nat.{add-zero, zero-add}
 use native.Mathlib.Decide.{ℕ-discrete, decLt}
 use native.Mathlib.Omega.{arith}
-use mathlib.Core.Path.{_≡_, refl, ap, sym, _∙_, fun-ext}
+use mathlib.Core.Path.{_≡_, refl, ap, subst, _∙_, fun-ext}
 use mathlib.Core.Logic.{_≢_}
-use mathlib.Core.Bool.{true, false, cond}
-use mathlib.Core.List.{List, [], _∷_}
-use lib.Dec.{eqb, ltb, lit<}
+use mathlib.Core.List.{List, _∷_}
 use lib.ListN.{length, getD, set, length-set}
 use lib.Seq.{getD-set-same, getD-set-other}
 use borrow.Author.Tests.{lt-ltb, le-ltb, eq-eqb, ne-eqb}
 use Rattle.model.specs.declared.Account.{Account}
-use Rattle.model.specs.declared.Entry.{Entry}
-use Rattle.model.specs.declared.Ledger.{Ledger}
-use Rattle.model.specs.Records.{accountOf, freshEntry, entryOf, withEntries, withEntry}
+use Rattle.model.specs.Records.{freshEntry, entryOf, withEntry}
 use Rattle.layout.specs.Layout.{blockWords, groupPlace, bookWords, Block, block, tableFrom, entryBy, entriesIn, ledgerIn}
 use Rattle.layout.specs.Blocks.{put, Changes}
 
@@ -71,6 +67,7 @@ module _ (ws : List ℕ) (a i v : ℕ) (size : length ws ≡ bookWords) (account
           go : Dec (j ≡ i) → block stored a j ≡ put (block ws a) i v j
           go (yes e) = rw (e, lt-ltb i blockWords inside, eq-eqb i i refl) (getD-set-same ws (a * blockWords + i) v 0 (omega arith))
           go (no n) = rw (ne-eqb j i n, getD-set-other ws (a * blockWords + i) (a * blockWords + j) v 0 (λ e. n (omega arith)))
+
       other : (b : ℕ) → b ≢ a → (j : ℕ) → block stored b j ≡ block ws b j
       other b h j = go (decLt j blockWords)
         where
@@ -87,6 +84,12 @@ changed-again c d =
       others = λ b h. d .others b h ∙ c .others b h;
       group = λ i h. d .group i h ∙ c .group i h;
     }
+
+-- .. the later one of one word
+pub changed-more : {ws mid after : List ℕ} {a : ℕ} (w : Block) (i v : ℕ) → Changes ws a w mid → Changes mid a (put (block mid a) i v) after
+    → Changes ws a (put w i v) after
+changed-more {mid = mid} {after = after} {a = a} w i v c d =
+    changed-again c (subst (λ (b : Block). Changes mid a (put b i v) after) (c .here) d)
 
 -- the entry of an account is the one that its block is
 pub entry-in : (ws : List ℕ) (a : Account) → a .0 < 32 → entryOf (ledgerIn ws) a ≡ entryBy (a .0) (block ws (a .0))

@@ -1,22 +1,19 @@
 -- What is stored in an account's block, and what that makes of the account's entry; and the group's words.
-use Prim.Native.Nat.{ℕ, _+_, _*_, _≤_, _<_, _%_}
+use Prim.Native.Nat.{ℕ, _+_, _*_, _≤_, _<_}
 use native.Mathlib.Nat.{zero-add, mod-eq-of-lt}
 use native.Mathlib.Decide.{decLt}
 use native.Mathlib.Omega.{arith}
 use mathlib.Core.Path.{_≡_, refl, ap, sym, _∙_, fun-ext}
 use mathlib.Core.Logic.{_≢_}
-use mathlib.Core.Bool.{cond}
 use mathlib.Core.List.{List}
-use lib.Dec.{eqb, ltb}
 use lib.ListN.{length, getD, set, length-set}
 use lib.Seq.{getD-set-same, getD-set-other}
-use borrow.Author.Tests.{lt-ltb, le-ltb, eq-eqb, ne-eqb, le-leb}
+use borrow.Author.Tests.{lt-ltb, le-ltb, ne-eqb, le-leb}
 use Rattle.model.specs.declared.Seat.{Seat}
 use Rattle.model.specs.declared.Account.{Account}
 use Rattle.model.specs.declared.Transfer.{Transfer}
 use Rattle.model.specs.declared.Slot.the-variants.{Empty, Full}
 use Rattle.model.specs.declared.Entry.{Entry}
-use Rattle.model.specs.declared.Ledger.{Ledger}
 use Rattle.model.specs.Records.{entryOf, withEntry, withBalance, withAcked, withAck, withProposed, withPending}
 use Rattle.model.specs.Refusals.{ackFrom}
 use Rattle.layout.specs.Layout.{blockWords, groupPlace, bookWords, Block, block, currentIn, slotBy, ackIn, tableFrom, entryBy, entriesIn, ledgerIn}
@@ -28,6 +25,11 @@ pub entry-changed : (ws after : List ℕ) (a : Account) (w : Block) (change : En
     → entryBy (a .0) w ≡ change (entryBy (a .0) (block ws (a .0))) → ledgerIn after ≡ withEntry (ledgerIn ws) a (change (entryOf (ledgerIn ws) a))
 entry-changed ws after a w change h c e =
     changed-ledger ws a w after c ∙ ap (withEntry (ledgerIn ws) a) (e ∙ ap change (sym (entry-in ws a h)))
+
+-- the current number is a word of the block
+pub current-in : (ws : List ℕ) (a : Account) → a .0 < 32 → entryOf (ledgerIn ws) a .current ≡ currentIn (block ws (a .0))
+unfolding entryBy
+current-in ws a h = ap (λ e. e .current) (entry-in ws a h)
 
 -- one word of a block
 module _ (a : ℕ) (w : Block) where
@@ -54,9 +56,15 @@ unfolding entryBy
 pending-put w t v r = rw (slip-by t v r)
 
 -- a seat's ack
-pub ack-in : (a : ℕ) (w : Block) (s : Seat) → s .0 < 16 → ackFrom (entryBy a w) s ≡ ackIn a w (s .0) .slot
+ack-in : (a : ℕ) (w : Block) (s : Seat) → s .0 < 16 → ackFrom (entryBy a w) s ≡ ackIn a w (s .0) .slot
 unfolding entryBy
 ack-in a w s h = ap (λ k. k .slot) (table-at (ackIn a w) 16 0 (s .0) (record { slot = Empty }) h ∙ ap (ackIn a w) (omega arith))
+
+pub ack-read : (ws : List ℕ) (a : Account) (s : Seat) (value number recipient : ℕ) → a .0 < 32 → s .0 < 16
+    → value ≡ block ws (a .0) (7 + s .0) → recipient ≡ block ws (a .0) (23 + s .0) → number ≡ entryOf (ledgerIn ws) a .current + 1
+    → slotBy (a .0) value number recipient ≡ ackFrom (entryOf (ledgerIn ws) a) s
+ack-read ws a s value number recipient account seat v r n =
+    rw (v, r, n, current-in ws a account) (sym (ap (λ e. ackFrom e s) (entry-in ws a account) ∙ ack-in (a .0) (block ws (a .0)) s seat))
 
 module _ (w : Block) (s : Seat) (t : Transfer) (seat : s .0 < 16) (value : 0 < t .value) (byte : t .recipient .0 < 256) (next : t .number ≡ currentIn w + 1) where
   -- a block that is the same but at the seat's two places
@@ -67,11 +75,11 @@ module _ (w : Block) (s : Seat) (t : Transfer) (seat : s .0 < 16) (value : 0 < t
       let low : (k : ℕ) → k < 7 → w' k ≡ w k = λ k h. same k (λ e. absurd (omega arith)) (λ e. absurd (omega arith)) in
       let a = t .account .0 in
       let others : (k : ℕ) → k < 16 → k ≢ s .0 → ackIn a w' k ≡ ackIn a w k =
-          λ k h n. rw (same (7 + k) (λ e. n (omega arith)) (λ e. absurd (omega arith)), same (23 + k) (λ e. absurd (omega arith)) (λ e. n (omega arith)), low 1 (omega arith)) in
+      λ k h n. rw (same (7 + k) (λ e. n (omega arith)) (λ e. absurd (omega arith)), same (23 + k) (λ e. absurd (omega arith)) (λ e. n (omega arith)), low 1 (omega arith)) in
       let here : ackIn a w' (s .0) ≡ record { slot = Full t } =
-          rw (v, r, low 1 (omega arith), ← next, slip-by t value byte) in
+      rw (v, r, low 1 (omega arith), ← next, slip-by t value byte) in
       let acks : tableFrom (ackIn a w') 16 0 ≡ set (tableFrom (ackIn a w) 16 0) (s .0) (record { slot = Full t }) =
-          table-set (ackIn a w) (ackIn a w') 16 0 (s .0) (λ k l h. others k (omega arith) (λ e. h (omega arith))) ∙ rw (zero-add (s .0), here) in
+      table-set (ackIn a w) (ackIn a w') 16 0 (s .0) (λ k l h. others k (omega arith) (λ e. h (omega arith))) ∙ rw (zero-add (s .0), here) in
       rw (
         acks,
         low 0 (omega arith),
@@ -85,11 +93,12 @@ module _ (w : Block) (s : Seat) (t : Transfer) (seat : s .0 < 16) (value : 0 < t
 
   pub ack-put : entryBy (t .account .0) (put (put w (7 + s .0) (t .value)) (23 + s .0) (t .recipient .0)) ≡ withAck (entryBy (t .account .0) w) s t
   ack-put =
+      let one : Block = put w (7 + s .0) (t .value) in
       ack-changed
-      (put (put w (7 + s .0) (t .value)) (23 + s .0) (t .recipient .0))
-      (λ k v r. rw (ne-eqb k (23 + s .0) r, ne-eqb k (7 + s .0) v))
-      (rw (ne-eqb (7 + s .0) (23 + s .0) (λ e. absurd (omega arith)), eq-eqb (7 + s .0) (7 + s .0) refl))
-      (rw (eq-eqb (23 + s .0) (23 + s .0) refl))
+      (put one (23 + s .0) (t .recipient .0))
+      (λ k v r. put-else one (23 + s .0) (t .recipient .0) k r ∙ put-else w (7 + s .0) (t .value) k v)
+      (put-else one (23 + s .0) (t .recipient .0) (7 + s .0) (λ e. absurd (omega arith)) ∙ put-here w (7 + s .0) (t .value))
+      (put-here one (23 + s .0) (t .recipient .0))
 
 -- The group's words: the entries are as they were.
 entries-same : (ws after : List ℕ) → ((i : ℕ) → i < groupPlace → getD after i 0 ≡ getD ws i 0) → entriesIn after ≡ entriesIn ws
@@ -125,19 +134,19 @@ module _ (ws : List ℕ) (n f k total : ℕ) (size : length ws ≡ bookWords) wh
       let size2 : length two ≡ bookWords = length-set one (groupPlace + 1) f ∙ size1 in
       let size3 : length three ≡ bookWords = length-set two (groupPlace + 2) k ∙ size2 in
       let past1 : (i : ℕ) → i < groupPlace + 1 → getD grouped i 0 ≡ getD one i 0 =
-          λ i h.
-            getD-set-other three (groupPlace + 3) i total 0 (λ e. absurd (omega arith))
-            ∙ getD-set-other two (groupPlace + 2) i k 0 (λ e. absurd (omega arith))
-            ∙ getD-set-other one (groupPlace + 1) i f 0 (λ e. absurd (omega arith)) in
+      λ i h.
+      getD-set-other three (groupPlace + 3) i total 0 (λ e. absurd (omega arith))
+      ∙ getD-set-other two (groupPlace + 2) i k 0 (λ e. absurd (omega arith))
+      ∙ getD-set-other one (groupPlace + 1) i f 0 (λ e. absurd (omega arith)) in
       let first : getD grouped groupPlace 0 ≡ n = past1 groupPlace (omega arith) ∙ getD-set-same ws groupPlace n 0 (omega arith) in
       let second : getD grouped (groupPlace + 1) 0 ≡ f =
-          getD-set-other three (groupPlace + 3) (groupPlace + 1) total 0 (λ e. absurd (omega arith))
-          ∙ getD-set-other two (groupPlace + 2) (groupPlace + 1) k 0 (λ e. absurd (omega arith))
-          ∙ getD-set-same one (groupPlace + 1) f 0 (omega arith) in
+      getD-set-other three (groupPlace + 3) (groupPlace + 1) total 0 (λ e. absurd (omega arith))
+      ∙ getD-set-other two (groupPlace + 2) (groupPlace + 1) k 0 (λ e. absurd (omega arith))
+      ∙ getD-set-same one (groupPlace + 1) f 0 (omega arith) in
       let third : getD grouped (groupPlace + 2) 0 ≡ k =
-          getD-set-other three (groupPlace + 3) (groupPlace + 2) total 0 (λ e. absurd (omega arith))
-          ∙ getD-set-same two (groupPlace + 2) k 0 (omega arith) in
+      getD-set-other three (groupPlace + 3) (groupPlace + 2) total 0 (λ e. absurd (omega arith))
+      ∙ getD-set-same two (groupPlace + 2) k 0 (omega arith) in
       let fourth : getD grouped (groupPlace + 3) 0 ≡ total = getD-set-same three (groupPlace + 3) total 0 (omega arith) in
       let rest : entriesIn grouped ≡ entriesIn ws =
-          entries-same ws grouped (λ i h. past1 i (omega arith) ∙ getD-set-other ws groupPlace i n 0 (λ e. absurd (omega arith))) in
+      entries-same ws grouped (λ i h. past1 i (omega arith) ∙ getD-set-other ws groupPlace i n 0 (λ e. absurd (omega arith))) in
       rw (first, second, third, fourth, rest, le-leb n 16 seats, le-leb f 16 faults, le-leb k 32 accounts)

@@ -5,21 +5,29 @@
 pub const BLOCK: usize = 39;
 // Within an account's block: balance and current number,
 pub const BALANCE: usize = 0;
+
 pub const CURRENT: usize = 1;
 // the marks: this seat has acked the next number; a transfer was proposed for it,
 pub const ACKED: usize = 2;
+
 pub const PROPOSED: usize = 3;
 // the accepted transfer that waits; where its value is 0, none does,
 pub const PENDING_VALUE: usize = 4;
+
 pub const PENDING_NUMBER: usize = 5;
+
 pub const PENDING_RECIPIENT: usize = 6;
 // and for each of 16 seats its ack for the next number: all values, then all recipients. A value of 0 is no ack.
 pub const ACK_VALUES: usize = 7;
+
 pub const ACK_RECIPIENTS: usize = 23;
 // The group's words: n, f, k and the opening sum.
 pub const SEATS: usize = 32 * BLOCK;
+
 pub const FAULTS: usize = SEATS + 1;
+
 pub const ACCOUNTS: usize = SEATS + 2;
+
 pub const TOTAL: usize = SEATS + 3;
 // How many words a book has: 1,252.
 pub const BOOK_WORDS: usize = SEATS + 4;

@@ -1,9 +1,9 @@
 // The ledger's words, read and stored. No other crate computes an index of them. Each function asks for a book's length, for an account
 // below 32 and a seat below 16, and for nothing of the ledger's content; what it promises is said of the ledger that the words are.
 use layout::ACCOUNTS;
-use layout::ACKED;
 use layout::ACK_RECIPIENTS;
 use layout::ACK_VALUES;
+use layout::ACKED;
 use layout::BALANCE;
 use layout::BLOCK;
 use layout::CURRENT;
@@ -48,7 +48,11 @@ fn put_word(words: &mut [u32], a: Account, at: usize, value: u32)
 fn up_to(limit: u8, value: u32) -> u8
     ensures { λ r. ⌜ r ≡ upTo limit value ⌝ }
 {
-    if value <= (limit as u32) { value as u8 } else { 0 }
+    if value <= (limit as u32) {
+        value as u8
+    } else {
+        0
+    }
 }
 
 // n
@@ -148,7 +152,12 @@ pub fn pending_of(words: &[u32], a: Account) -> Slot
     requires { ⌜ a .0 < 32 ⌝ }
     ensures { λ r. ⌜ r ≡ entryOf (ledgerIn (now (words .entry))) a .pending ⌝ }
 {
-    slot_of(a, word(words, a, PENDING_VALUE), word(words, a, PENDING_NUMBER), word(words, a, PENDING_RECIPIENT))
+    slot_of(
+        a,
+        word(words, a, PENDING_VALUE),
+        word(words, a, PENDING_NUMBER),
+        word(words, a, PENDING_RECIPIENT),
+    )
 }
 
 // A seat's ack for the account's next number, which the caller has found, if any is recorded.
@@ -158,7 +167,12 @@ pub fn ack_from(words: &[u32], a: Account, s: Seat, next: u32) -> Slot
     ensures { λ r. ⌜ (next ≡ entryOf (ledgerIn (now (words .entry))) a .current + 1 → r ≡ ackFrom (entryOf (ledgerIn (now (words .entry))) a) s) ⌝ }
 {
     let seat = s.0 as usize;
-    slot_of(a, word(words, a, ACK_VALUES + seat), next, word(words, a, ACK_RECIPIENTS + seat))
+    slot_of(
+        a,
+        word(words, a, ACK_VALUES + seat),
+        next,
+        word(words, a, ACK_RECIPIENTS + seat),
+    )
 }
 
 pub fn put_balance(words: &mut [u32], a: Account, balance: u32)

@@ -1,3 +1,7 @@
+-- Two words and the number are the place of the seat's ack.
+use mathlib.Core.Path.{_∙_}
+use Rattle.layout.proofs.Entries.{ack-read}
+use native.Mathlib.Omega.{arith}
 use borrow.Author.Needs.{needs}
 use Rattle.store.proofs.ack_from.Statement.{statement}
 use Rattle.store.proofs.ack_from.Tie as tie
@@ -21,7 +25,22 @@ slot-of-requires : tie.Need-slot-of-requires
 slot-of-requires c κs = search needs
 
 returns : tie.Need-returns
-returns c = ?
+returns c =
+    let start = c .before .before .before .before .before in
+    λ next.
+    c .slot-of .ensures
+    ∙ ack-read
+    (start .args .words .now)
+    (start .args .a)
+    (start .args .s)
+    (c .before .before .word .result)
+    (start .args .next)
+    (c .before .word2 .result)
+    (omega arith)
+    (omega arith)
+    (c .before .before .word .ensures)
+    (c .before .word2 .ensures)
+    next
 
 pub ack-from-spec : {M : Type 1} → statement M
 ack-from-spec =

@@ -1,3 +1,7 @@
+-- The balance is one word.
+use native.Mathlib.Omega.{arith}
+use Rattle.model.specs.Records.{withBalance}
+use Rattle.layout.proofs.Entries.{entry-changed, balance-put}
 use borrow.Author.Needs.{needs}
 use Rattle.store.proofs.put_balance.Statement.{statement}
 use Rattle.store.proofs.put_balance.Tie as tie
@@ -9,7 +13,17 @@ same-length : tie.Need-same-length
 same-length c = search needs
 
 returns : tie.Need-returns
-returns c = ?
+returns c =
+    let start = c .before .before .before .before .before in
+    entry-changed
+    (start .args .words .now)
+    (c .before .before .put-word .last .0)
+    (start .args .a)
+    _
+    (λ e. withBalance e (start .args .balance))
+    (omega arith)
+    (c .before .before .put-word .ensures)
+    (balance-put _ _ _)
 
 pub put-balance-spec : {M : Type 1} → statement M
 put-balance-spec = tie.close (tie.spec put-word-requires same-length returns)

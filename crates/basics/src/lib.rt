@@ -1,6 +1,6 @@
-// What the crates above share: transfers compared, places tested, entries made and changed, document 01's codes and letters.
+// What the crates above share: transfers compared, places tested, quorums, document 01's codes and letters.
 pub mod codes;
-pub mod entries;
+pub mod quorums;
 pub mod results;
 pub mod slots;
 pub mod transfers;

@@ -11,7 +11,8 @@ use Rattle.model.specs.declared.Slot.the-variants.{Empty, Full}
 use Rattle.model.specs.declared.AckSlot.{AckSlot}
 use Rattle.model.specs.declared.Entry.{Entry}
 use Rattle.model.specs.declared.Ledger.{Ledger}
-use Rattle.model.specs.Records.{accountOf}
+use Rattle.model.specs.declared.Account.{Account}
+use Rattle.model.specs.Records.{accountOf, entryOf}
 
 -- how many words an account's block has, where the group's words begin, and how many words a book has
 abbrev pub blockWords : ℕ
@@ -95,3 +96,7 @@ ledgerIn ws =
       total = getD ws (groupPlace + 3) 0;
       entries = entriesIn ws;
     }
+
+-- its entry for an account
+abbrev pub entryIn : List ℕ → Account → Entry
+entryIn ws a = entryOf (ledgerIn ws) a

@@ -1,33 +1,34 @@
--- What the public functions promise, by document 01's definitions in the model: for every input the reply, the ledger after it
--- and each lent buffer.
+-- What the public functions promise, by document 01's definitions in the model, of the ledger that the words are: for every content of the words and
+-- every argument the reply, the ledger after it and each lent buffer. "A refusal replies its code and changes nothing": not one of the words.
 -- "Each enum answer has a definition that gives this paper's number and values for each of its cases. The promises use that
 -- definition": the fields `told`.
 use Prim.Native.Nat.{ℕ}
 use mathlib.Core.Path.{_≡_}
 use mathlib.Core.List.{List, [], _∷_}
 use mathlib.Core.Option.{Option, none, some}
-use Rattle.model.specs.declared.Ledger.{Ledger}
 use Rattle.model.specs.declared.Opening.{Opening}
 use Rattle.model.specs.declared.Refusal.{Refusal}
 use Rattle.model.specs.declared.Message.{Message}
 use Rattle.model.specs.declared.Reply.{Reply}
-use Rattle.model.specs.declared.Answer.{Answer}
-use Rattle.model.specs.declared.OpenAnswer.{OpenAnswer}
+use Rattle.model.specs.declared.OpenReply.{OpenReply}
 use Rattle.model.specs.declared.ListReply.{ListReply}
 use Rattle.model.specs.Refusals.{firstRefusal, listRules}
-use Rattle.model.specs.Replies.{codeOf, letterOf, valuesOf, valuesOfOpen, valuesOfList, Choice, Allows, Meets}
-use Rattle.model.specs.Openings.{openRules, openLedger}
+use Rattle.model.specs.Replies.{codeOf, letterOf, valuesOf, valuesOfOpen, valuesOfList, Choice, Allows}
+use Rattle.model.specs.Openings.{openRules}
 use Rattle.model.specs.Settling.{waiting}
 use Rattle.model.specs.Calls.{step, Lists}
+use Rattle.layout.specs.Layout.{ledgerIn}
+use Rattle.calls.specs.Promises.{Turned}
+use Rattle.opening.specs.Promises.{Opens}
 
 -- the letter and the values of a reply that is allowed
 abbrev pub Tells : Choice → ℕ → List ℕ → Type 0
 Tells o letter values = (q : Reply) × Allows o q × (letter ≡ letterOf q) × (values ≡ valuesOf q)
 
 -- A message: the reply, one that document 01 allows, and the ledger after it.
-pub record Answered (l : Ledger) (m : Message) (r : Answer) : Type 0 where
-  pub meets : Meets (step l m) r
-  pub told : Tells (step l m .choice) (letterOf (r .reply)) (valuesOf (r .reply))
+pub record Answered (before : List ℕ) (m : Message) (r : Reply) (after : List ℕ) : Type 0 where
+  pub turned : Turned before m r after
+  pub told : Tells (step (ledgerIn before) m .choice) (letterOf r) (valuesOf r)
 
 -- the code of a refusal, 0 where there is none
 abbrev pub codeIfAny : Option Refusal → ℕ
@@ -35,9 +36,9 @@ codeIfAny none = 0
 codeIfAny (some r) = codeOf r
 
 -- An opening: the reply and the ledger.
-pub record OpenedAs (page : Opening) (r : OpenAnswer) : Type 0 where
-  pub meets : r ≡ openLedger page
-  pub told : valuesOfOpen (r .reply) ≡ codeIfAny (firstRefusal (openRules page)) ∷ []
+pub record OpenedAs (before : List ℕ) (page : Opening) (r : OpenReply) (after : List ℕ) : Type 0 where
+  pub opens : Opens before page r after
+  pub told : valuesOfOpen r ≡ codeIfAny (firstRefusal (openRules page)) ∷ []
 
 -- the code and the count of a list of so many accounts
 abbrev pub listValues : Option Refusal → ℕ → List ℕ
@@ -45,6 +46,6 @@ listValues none count = 0 ∷ count ∷ []
 listValues (some r) count = codeOf r ∷ []
 
 -- The waiting list: the reply, and the buffer after it, given the buffer before it.
-pub record ListedAs (l : Ledger) (before : List ℕ) (r : ListReply) (after : List ℕ) : Type 0 where
-  pub meets : Lists l before r after
-  pub told : valuesOfList r ≡ listValues (firstRefusal (listRules before)) (waiting (l .entries))
+pub record ListedAs (words before : List ℕ) (r : ListReply) (after : List ℕ) : Type 0 where
+  pub meets : Lists (ledgerIn words) before r after
+  pub told : valuesOfList r ≡ listValues (firstRefusal (listRules before)) (waiting (ledgerIn words .entries))

@@ -1,22 +1,24 @@
-// The opening of a ledger: codes 1, 2 and 3.
-use basics::entries::fresh_entry;
+// The opening of a ledger, where it lies: codes 1, 2 and 3.
 use basics::results::Check;
-use model::Entry;
-use model::Ledger;
-use model::OpenAnswer;
+use model::Account;
 use model::OpenReply;
 use model::Opening;
 use model::Refusal;
+use store::put_balance;
+use store::put_booked;
+use store::put_group;
 ghost use mathlib.Core.Path.{_≡_};
 ghost use mathlib.Core.Bool.{not};
-ghost use mathlib.Core.List.{map};
+ghost use Prim.Native.Nat.{_<_};
 ghost use lib.Dec.{eqb};
-ghost use lib.ListN.{drop};
+ghost use lib.ListN.{length, drop};
 ghost use Rattle.model.specs.Basics.{sumOf, any};
-ghost use Rattle.model.specs.Records.{freshEntry, freshLedger, noLedger};
+ghost use Rattle.model.specs.Records.{freshEntry, withEntry};
 ghost use Rattle.model.specs.Refusals.{firstRefusal};
-ghost use Rattle.model.specs.Openings.{badGroup, badAccounts, openRules, openLedger};
+ghost use Rattle.model.specs.Openings.{badGroup, badAccounts, openRules};
+ghost use Rattle.layout.specs.Layout.{bookWords, ledgerIn};
 ghost use Rattle.basics.specs.Results.{checkOf};
+ghost use Rattle.opening.specs.Promises.{FreshEntries, FreshLedger, Opens};
 
 fn is_bad_group(page: Opening) -> bool
     ensures { λ r. ⌜ r ≡ badGroup page ⌝ }
@@ -73,60 +75,50 @@ fn open_check(page: Opening, total: u64) -> Check
     Check::Passed
 }
 
-// The 32 accounts at opening.
-fn fresh_entries(balances: [u32; 32]) -> [Entry; 32]
-    ensures { λ r. ⌜ r ≡ map freshEntry balances ⌝ }
+// An account at opening.
+fn put_fresh(words: &mut [u32], a: Account, balance: u32)
+    requires { ⌜ length (now words) ≡ bookWords ⌝ }
+    requires { ⌜ a .0 < 32 ⌝ }
+    ensures { λ _. ⌜ ledgerIn (now (words .exit)) ≡ withEntry (ledgerIn (now (words .entry))) a (freshEntry balance) ⌝ }
 {
-    let mut es = [fresh_entry(0); 32];
-    let mut i: usize = 0;
+    put_booked(words, a, 0);
+    put_balance(words, a, balance);
+}
+
+// The 32 accounts at opening.
+fn put_entries(words: &mut [u32], balances: [u32; 32])
+    requires { ⌜ length (now words) ≡ bookWords ⌝ }
+    ensures { λ _. ⌜ FreshEntries (now (words .entry)) balances (now (words .exit)) ⌝ }
+{
+    let mut i: u8 = 0;
     while i < 32 {
-        es[i] = fresh_entry(balances[i]);
+        put_fresh(words, Account(i), balances[i as usize]);
         i += 1;
     }
-    es
 }
 
 // A ledger just opened from a page, given its opening sum.
-fn fresh_ledger(page: Opening, total: u32) -> Ledger
-    ensures { λ r. ⌜ (total ≡ sumOf (λ b. b) (page .balances) → r ≡ freshLedger page) ⌝ }
+fn put_ledger(words: &mut [u32], page: Opening, total: u32)
+    requires { ⌜ length (now words) ≡ bookWords ⌝ }
+    ensures { λ _. ⌜ FreshLedger page total (now (words .exit)) ⌝ }
 {
     let balances = page.balances;
-    Ledger {
-        seats: page.seats,
-        faults: page.faults,
-        accounts: page.accounts,
-        total: total,
-        entries: fresh_entries(balances),
-    }
+    put_entries(words, balances);
+    put_group(words, page.seats, page.faults, page.accounts, total);
 }
 
-// The ledger that a refused opening yields.
-fn no_ledger() -> Ledger
-    ensures { λ r. ⌜ r ≡ noLedger ⌝ }
-{
-    Ledger {
-        seats: 0,
-        faults: 0,
-        accounts: 0,
-        total: 0,
-        entries: [fresh_entry(0); 32],
-    }
-}
-
-// The ledger of a page, or the refusal.
-pub fn open_page(page: Opening) -> OpenAnswer
-    ensures { λ r. ⌜ r ≡ openLedger page ⌝ }
+// The opening: the words are the page's ledger, or, where it is refused, as they were.
+pub fn open_page(words: &mut [u32], page: Opening) -> OpenReply
+    requires { ⌜ length (now words) ≡ bookWords ⌝ }
+    ensures { λ r. ⌜ Opens (now (words .entry)) page r (now (words .exit)) ⌝ }
 {
     let balances = page.balances;
     let total = sum(balances);
     match open_check(page, total) {
-        Check::Failed(r) => OpenAnswer {
-            reply: OpenReply::OpenRefused(r),
-            ledger: no_ledger(),
-        },
-        Check::Passed => OpenAnswer {
-            reply: OpenReply::Opened,
-            ledger: fresh_ledger(page, (total % 4_294_967_296) as u32),
-        },
+        Check::Failed(r) => OpenReply::OpenRefused(r),
+        Check::Passed => {
+            put_ledger(words, page, (total % 4_294_967_296) as u32);
+            OpenReply::Opened
+        }
     }
 }

@@ -3,42 +3,36 @@ use basics::codes::code_of;
 use bundle::Cursor;
 use bundle::Read;
 use bundle::check;
+use layout::BOOK_WORDS;
+use ledger::call;
 use ledger::list_waiting;
 use ledger::open;
+use model::Account;
 use model::BundleReply;
-use model::Ledger;
 use model::ListReply;
-use model::Message;
-use model::OpenAnswer;
 use model::OpenReply;
-use model::Reply;
 use pages::messages::Asked;
 use pages::messages::message_of;
 use pages::messages::opening_of;
 use reader::opening_body;
 use reader::read_page;
-use settling::Funds;
-use settling::all_funds;
-use settling::funds_of;
-use settling::settle_all;
-use settling::with_all_funds;
-use settling::with_funds;
+use store::accounts_of;
+use store::balance_of;
+use store::current_of;
 use text::lines::put_account;
 use text::lines::put_refusal;
 use text::lines::put_reply;
-use turns::Verdict;
-use turns::payer_of;
-use turns::take_turn;
 ghost use mathlib.Core.Path.{_≡_};
-ghost use Prim.Native.Nat.{_-_, _≤_, _<_};
+ghost use Prim.Native.Nat.{_-_, _≤_};
+ghost use lib.ListN.{length};
 ghost use Rattle.model.specs.declared.BundleReply.the-variants.{Sound};
 ghost use Rattle.model.specs.Bundles.{entryCount};
-ghost use Rattle.model.specs.Calls.{payerOf};
+ghost use Rattle.layout.specs.Layout.{bookWords, ledgerIn};
 ghost use Rattle.text.specs.Outputs.{Writes};
-ghost use Rattle.ledger.specs.Promises.{ListedAs};
-ghost use Rattle.replay.specs.Text.{ledgerFrom, rowLines, LinesFrom, opened, CheckedText, TextOf};
-ghost use Rattle.replay.specs.Lists.{SoundList, ListOf};
-ghost use Rattle.replay.specs.Promises.{closingMost, rowsBy, Replayed, InputText, Wrote, PlayedAll};
+ghost use Rattle.opening.specs.Promises.{Opens};
+ghost use Rattle.replay.specs.Text.{closing, LinesFrom, openingPage, CheckedText, TextOf};
+ghost use Rattle.replay.specs.Lists.{ListedFrom, SoundList, ListOf};
+ghost use Rattle.replay.specs.Promises.{closingMost, Replayed, InputText, Wrote, PlayedAll};
 
 // The longest text: 999 lines of a proposed transfer, 36 bytes each, and 32 lines of an account, 27 bytes each: 36,828 bytes.
 pub const TEXT_SIZE: usize = 36 * 999 + 27 * 32;
@@ -46,65 +40,21 @@ pub const TEXT_SIZE: usize = 36 * 999 + 27 * 32;
 // How much of its input `daybook` reads: one byte more than the longest bundle has, 18,124 bytes.
 pub const INPUT_SIZE: usize = 2 + 8 * 1_000 + 131 + 999 * 10 + 1;
 
-// How much of the buffer's front is written, and the accounts' funds after the entries.
-struct Played {
-    filled: usize,
-    funds: [Funds; 32],
-}
-
-// What the last entry leaves.
-fn leave(filled: usize, funds: [Funds; 32]) -> Played
-    ensures { λ r. ⌜ r ≡ record { filled = filled; funds = funds } ⌝ }
-{
-    Played {
-        filled: filled,
-        funds: funds,
-    }
-}
-
-// Where the entry of a message's account stands. A message about an account behind the 32nd is refused at any entry, which it leaves as it is.
-fn place_of(m: Message) -> usize
-    ensures { λ r. ⌜ (r < 32) × (payerOf m .0 < 32 → r ≡ payerOf m .0) ⌝ }
-{
-    let a = payer_of(m);
-    if a.0 < 32 { a.0 as usize } else { 0 }
-}
-
-// The entries behind the opening page, in their order. The ledger's 32 entries stand here and are changed in place; their funds, which settling
-// changes, are held apart, and tell all that is asked of the ledger at the end.
-fn play(bytes: &[u8], l: Ledger, out: &mut [u8]) -> Played
+// The entries behind the opening page, in their order, as messages to the book; how much of the buffer's front is written is replied.
+fn play(bytes: &[u8], words: &mut [u32; BOOK_WORDS], out: &mut [u8]) -> usize
     requires { ⌜ entryCount (now bytes) ≤ 1_000 ⌝ }
-    requires { ⌜ l .accounts ≤ 32 ⌝ }
-    ensures { λ r. ⌜ PlayedAll (now (bytes .entry)) l (now (out .entry)) (now (out .exit)) r ⌝ }
+    ensures { λ r. ⌜ PlayedAll (now (bytes .entry)) (now (words .entry)) (now (words .exit)) (now (out .entry)) (now (out .exit)) r ⌝ }
 {
-    let mut entries = l.entries;
-    let mut funds = all_funds(entries);
     let mut filled: usize = 0;
     let mut cursor = Cursor { next: 1 };
     loop {
         let i = cursor.next;
         match read_page(bytes, cursor) {
-            Read::NoMore(_) => return leave(filled, funds),
+            Read::NoMore(_) => return filled,
             Read::Taken(c, next) => {
                 cursor = next;
                 if let Asked::Asks(m) = message_of(bytes, c) {
-                    let at = place_of(m);
-                    let kept = entries[at];
-                    let paid = funds[at];
-                    let turn = take_turn(l, with_funds(kept, paid), m);
-                    let entry = turn.entry;
-                    entries[at] = entry;
-                    funds[at] = funds_of(entry);
-                    let verdict = turn.verdict;
-                    let reply = match verdict {
-                        Verdict::Replies(r) => r,
-                        Verdict::Accepts => {
-                            let s = settle_all(funds);
-                            let left = s.funds;
-                            funds = left;
-                            Reply::Accept(s.applied)
-                        }
-                    };
+                    let reply = call(words, m);
                     filled = put_reply(out, filled, i as u32, reply);
                 }
             }
@@ -113,38 +63,36 @@ fn play(bytes: &[u8], l: Ledger, out: &mut [u8]) -> Played
 }
 
 // The closing lines: each account with its balance and its current number.
-fn put_closing(accounts: u8, funds: [Funds; 32], out: &mut [u8], at: usize) -> usize
-    requires { ⌜ accounts ≤ 32 ⌝ }
-    ensures { λ r. ⌜ Writes (now (out .entry)) at (rowLines 0 (rowsBy funds accounts 0)) closingMost (now (out .exit)) r ⌝ }
+fn put_closing(words: &[u32], out: &mut [u8], at: usize) -> usize
+    requires { ⌜ length (now words) ≡ bookWords ⌝ }
+    ensures { λ r. ⌜ Writes (now (out .entry)) at (closing (ledgerIn (now (words .entry)))) closingMost (now (out .exit)) r ⌝ }
 {
+    let accounts = accounts_of(words);
     let mut filled = at;
     let mut a: u8 = 0;
     while a < accounts {
-        let f = funds[a as usize];
-        filled = put_account(out, filled, a, f.balance, f.current);
+        filled = put_account(out, filled, a, balance_of(words, Account(a)), current_of(words, Account(a)));
         a += 1;
     }
     filled
 }
 
-// The text of a bundle whose opening page opened this ledger.
-fn replay_opened(bytes: &[u8], l: Ledger, out: &mut [u8]) -> usize
+// The text of a bundle whose opening page opened this book.
+fn replay_opened(bytes: &[u8], words: &mut [u32; BOOK_WORDS], out: &mut [u8]) -> usize
     requires { ⌜ entryCount (now bytes) ≤ 1_000 ⌝ }
-    requires { ⌜ l .accounts ≤ 32 ⌝ }
-    ensures { λ r. ⌜ Wrote (LinesFrom (now (bytes .entry)) (entryCount (now (bytes .entry)) - 1) 1 l) (now (out .entry)) (now (out .exit)) r ⌝ }
+    ensures { λ r. ⌜ Wrote (LinesFrom (now (bytes .entry)) (entryCount (now (bytes .entry)) - 1) 1 (ledgerIn (now (words .entry)))) (now (out .entry)) (now (out .exit)) r ⌝ }
 {
-    let played = play(bytes, l, out);
-    let funds = played.funds;
-    put_closing(l.accounts, funds, out, played.filled)
+    let filled = play(bytes, words, out);
+    put_closing(words, out, filled)
 }
 
 // What the opening page is answered: page 0 of a bundle.
-fn open_bundle(bytes: &[u8]) -> OpenAnswer
+fn open_bundle(bytes: &[u8], words: &mut [u32; BOOK_WORDS]) -> OpenReply
     requires { ⌜ 1 ≤ entryCount (now bytes) ⌝ }
-    ensures { λ r. ⌜ r ≡ opened (now (bytes .entry)) ⌝ }
+    ensures { λ r. ⌜ Opens (now (words .entry)) (openingPage (now (bytes .entry))) r (now (words .exit)) ⌝ }
 {
     let page = opening_body(bytes);
-    open(opening_of(page))
+    open(words, opening_of(page))
 }
 
 // The text of a bundle that is sound.
@@ -152,11 +100,10 @@ fn replay_sound(bytes: &[u8], out: &mut [u8]) -> usize
     requires { ⌜ (1 ≤ entryCount (now bytes)) × (entryCount (now bytes) ≤ 1_000) ⌝ }
     ensures { λ r. ⌜ Wrote (CheckedText (now (bytes .entry)) (Sound (entryCount (now (bytes .entry))))) (now (out .entry)) (now (out .exit)) r ⌝ }
 {
-    let answer = open_bundle(bytes);
-    let reply = answer.reply;
-    let l = answer.ledger;
+    let mut words = [0u32; BOOK_WORDS];
+    let reply = open_bundle(bytes, &mut words);
     match reply {
-        OpenReply::Opened => replay_opened(bytes, l, out),
+        OpenReply::Opened => replay_opened(bytes, &mut words, out),
         OpenReply::OpenRefused(r) => put_refusal(out, 0, code_of(r), 0),
     }
 }
@@ -185,20 +132,14 @@ pub fn replay_input(input: &[u8; INPUT_SIZE], read: usize, out: &mut [u8; TEXT_S
     replay(&bytes[..given], out)
 }
 
-// The waiting list of the ledger that an opened ledger's entries leave. The text goes nowhere; what waits is told by the funds.
-fn list_opened(bytes: &[u8], l: Ledger, buffer: &mut [u8]) -> ListReply
+// The waiting list of the book that an opened book's entries leave. The text goes nowhere.
+fn list_opened(bytes: &[u8], words: &mut [u32; BOOK_WORDS], buffer: &mut [u8]) -> ListReply
     requires { ⌜ entryCount (now bytes) ≤ 1_000 ⌝ }
-    requires { ⌜ l .accounts ≤ 32 ⌝ }
-    ensures { λ r. ⌜ ListedAs (ledgerFrom (now (bytes .entry)) (entryCount (now (bytes .entry)) - 1) 1 l) (now (buffer .entry)) r (now (buffer .exit)) ⌝ }
+    ensures { λ r. ⌜ ListedFrom (now (bytes .entry)) (ledgerIn (now (words .entry))) (now (buffer .entry)) r (now (buffer .exit)) ⌝ }
 {
     let mut nowhere = [0u8; 1];
-    let played = play(bytes, l, &mut nowhere);
-    let funds = played.funds;
-    let es = l.entries;
-    let left = with_all_funds(es, funds);
-    let mut last = l;
-    last.entries = left;
-    list_waiting(last, buffer)
+    let _ = play(bytes, words, &mut nowhere);
+    list_waiting(words, buffer)
 }
 
 // The same of a bundle that is sound.
@@ -206,11 +147,10 @@ fn list_sound(bytes: &[u8], buffer: &mut [u8]) -> ListReply
     requires { ⌜ (1 ≤ entryCount (now bytes)) × (entryCount (now bytes) ≤ 1_000) ⌝ }
     ensures { λ r. ⌜ SoundList (now (bytes .entry)) (now (buffer .entry)) r (now (buffer .exit)) ⌝ }
 {
-    let answer = open_bundle(bytes);
-    let reply = answer.reply;
-    let l = answer.ledger;
+    let mut words = [0u32; BOOK_WORDS];
+    let reply = open_bundle(bytes, &mut words);
     match reply {
-        OpenReply::Opened => list_opened(bytes, l, buffer),
+        OpenReply::Opened => list_opened(bytes, &mut words, buffer),
         OpenReply::OpenRefused(r) => ListReply::ListRefused(r),
     }
 }

@@ -1,3 +1,2 @@
--- What the search answers and what the funds are, beside the model's definitions.
+-- What the search answers and what settling leaves, by the model's definitions.
 pub mod Results
-pub mod Funds

@@ -21,9 +21,9 @@ use model::Transfer;
 ghost use mathlib.Core.Path.{_≡_};
 ghost use Prim.Native.Nat.{_+_, _<_, _≤_};
 ghost use lib.ListN.{length};
-ghost use Rattle.model.specs.Records.{entryOf, withEntry, withBalance, withAcked, withProposed, withBooked};
+ghost use Rattle.model.specs.Records.{withEntry, withBalance, withAcked, withProposed, withBooked};
 ghost use Rattle.model.specs.Refusals.{ackFrom};
-ghost use Rattle.layout.specs.Layout.{blockWords, bookWords, block, slotBy, upTo, ledgerIn};
+ghost use Rattle.layout.specs.Layout.{blockWords, bookWords, block, slotBy, upTo, ledgerIn, entryIn};
 ghost use Rattle.layout.specs.Blocks.{put, Changes};
 ghost use Rattle.store.specs.Stores.{cleared, AckStored, PendingStored, GroupStored};
 
@@ -100,7 +100,7 @@ pub fn put_group(words: &mut [u32], seats: u8, faults: u8, accounts: u8, total: 
 pub fn balance_of(words: &[u32], a: Account) -> u32
     requires { ⌜ length (now words) ≡ bookWords ⌝ }
     requires { ⌜ a .0 < 32 ⌝ }
-    ensures { λ r. ⌜ r ≡ entryOf (ledgerIn (now (words .entry))) a .balance ⌝ }
+    ensures { λ r. ⌜ r ≡ entryIn (now (words .entry)) a .balance ⌝ }
 {
     word(words, a, BALANCE)
 }
@@ -108,7 +108,7 @@ pub fn balance_of(words: &[u32], a: Account) -> u32
 pub fn current_of(words: &[u32], a: Account) -> u32
     requires { ⌜ length (now words) ≡ bookWords ⌝ }
     requires { ⌜ a .0 < 32 ⌝ }
-    ensures { λ r. ⌜ r ≡ entryOf (ledgerIn (now (words .entry))) a .current ⌝ }
+    ensures { λ r. ⌜ r ≡ entryIn (now (words .entry)) a .current ⌝ }
 {
     word(words, a, CURRENT)
 }
@@ -117,7 +117,7 @@ pub fn current_of(words: &[u32], a: Account) -> u32
 pub fn is_acked(words: &[u32], a: Account) -> bool
     requires { ⌜ length (now words) ≡ bookWords ⌝ }
     requires { ⌜ a .0 < 32 ⌝ }
-    ensures { λ r. ⌜ r ≡ entryOf (ledgerIn (now (words .entry))) a .acked ⌝ }
+    ensures { λ r. ⌜ r ≡ entryIn (now (words .entry)) a .acked ⌝ }
 {
     word(words, a, ACKED) != 0
 }
@@ -126,7 +126,7 @@ pub fn is_acked(words: &[u32], a: Account) -> bool
 pub fn is_proposed(words: &[u32], a: Account) -> bool
     requires { ⌜ length (now words) ≡ bookWords ⌝ }
     requires { ⌜ a .0 < 32 ⌝ }
-    ensures { λ r. ⌜ r ≡ entryOf (ledgerIn (now (words .entry))) a .proposed ⌝ }
+    ensures { λ r. ⌜ r ≡ entryIn (now (words .entry)) a .proposed ⌝ }
 {
     word(words, a, PROPOSED) != 0
 }
@@ -150,7 +150,7 @@ fn slot_of(a: Account, value: u32, number: u32, recipient: u32) -> Slot
 pub fn pending_of(words: &[u32], a: Account) -> Slot
     requires { ⌜ length (now words) ≡ bookWords ⌝ }
     requires { ⌜ a .0 < 32 ⌝ }
-    ensures { λ r. ⌜ r ≡ entryOf (ledgerIn (now (words .entry))) a .pending ⌝ }
+    ensures { λ r. ⌜ r ≡ entryIn (now (words .entry)) a .pending ⌝ }
 {
     slot_of(
         a,
@@ -164,7 +164,7 @@ pub fn pending_of(words: &[u32], a: Account) -> Slot
 pub fn ack_from(words: &[u32], a: Account, s: Seat, next: u32) -> Slot
     requires { ⌜ length (now words) ≡ bookWords ⌝ }
     requires { ⌜ (a .0 < 32) × (s .0 < 16) ⌝ }
-    ensures { λ r. ⌜ (next ≡ entryOf (ledgerIn (now (words .entry))) a .current + 1 → r ≡ ackFrom (entryOf (ledgerIn (now (words .entry))) a) s) ⌝ }
+    ensures { λ r. ⌜ (next ≡ entryIn (now (words .entry)) a .current + 1 → r ≡ ackFrom (entryIn (now (words .entry)) a) s) ⌝ }
 {
     let seat = s.0 as usize;
     slot_of(
@@ -178,7 +178,7 @@ pub fn ack_from(words: &[u32], a: Account, s: Seat, next: u32) -> Slot
 pub fn put_balance(words: &mut [u32], a: Account, balance: u32)
     requires { ⌜ length (now words) ≡ bookWords ⌝ }
     requires { ⌜ a .0 < 32 ⌝ }
-    ensures { λ _. ⌜ ledgerIn (now (words .exit)) ≡ withEntry (ledgerIn (now (words .entry))) a (withBalance (entryOf (ledgerIn (now (words .entry))) a) balance) ⌝ }
+    ensures { λ _. ⌜ ledgerIn (now (words .exit)) ≡ withEntry (ledgerIn (now (words .entry))) a (withBalance (entryIn (now (words .entry)) a) balance) ⌝ }
 {
     put_word(words, a, BALANCE, balance);
 }
@@ -186,7 +186,7 @@ pub fn put_balance(words: &mut [u32], a: Account, balance: u32)
 pub fn put_acked(words: &mut [u32], a: Account)
     requires { ⌜ length (now words) ≡ bookWords ⌝ }
     requires { ⌜ a .0 < 32 ⌝ }
-    ensures { λ _. ⌜ ledgerIn (now (words .exit)) ≡ withEntry (ledgerIn (now (words .entry))) a (withAcked (entryOf (ledgerIn (now (words .entry))) a)) ⌝ }
+    ensures { λ _. ⌜ ledgerIn (now (words .exit)) ≡ withEntry (ledgerIn (now (words .entry))) a (withAcked (entryIn (now (words .entry)) a)) ⌝ }
 {
     put_word(words, a, ACKED, 1);
 }
@@ -194,7 +194,7 @@ pub fn put_acked(words: &mut [u32], a: Account)
 pub fn put_proposed(words: &mut [u32], a: Account)
     requires { ⌜ length (now words) ≡ bookWords ⌝ }
     requires { ⌜ a .0 < 32 ⌝ }
-    ensures { λ _. ⌜ ledgerIn (now (words .exit)) ≡ withEntry (ledgerIn (now (words .entry))) a (withProposed (entryOf (ledgerIn (now (words .entry))) a)) ⌝ }
+    ensures { λ _. ⌜ ledgerIn (now (words .exit)) ≡ withEntry (ledgerIn (now (words .entry))) a (withProposed (entryIn (now (words .entry)) a)) ⌝ }
 {
     put_word(words, a, PROPOSED, 1);
 }
@@ -240,7 +240,7 @@ fn clear(words: &mut [u32], a: Account)
 pub fn put_booked(words: &mut [u32], a: Account, number: u32)
     requires { ⌜ length (now words) ≡ bookWords ⌝ }
     requires { ⌜ a .0 < 32 ⌝ }
-    ensures { λ _. ⌜ ledgerIn (now (words .exit)) ≡ withEntry (ledgerIn (now (words .entry))) a (withBooked (entryOf (ledgerIn (now (words .entry))) a) number) ⌝ }
+    ensures { λ _. ⌜ ledgerIn (now (words .exit)) ≡ withEntry (ledgerIn (now (words .entry))) a (withBooked (entryIn (now (words .entry)) a) number) ⌝ }
 {
     clear(words, a);
     put_word(words, a, CURRENT, number);

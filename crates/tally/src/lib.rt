@@ -1,17 +1,23 @@
-// The acks that are recorded for an account's next number, and what follows from them.
-use basics::slots::is_against;
+// The acks that are recorded for an account's next number, and what follows from them. The caller tells the next number, which it has found; a
+// function that is told another one promises nothing of its result.
 use basics::slots::is_full;
 use basics::slots::is_held;
-use model::AckSlot;
-use model::Entry;
+use model::Account;
+use model::Seat;
 use model::Slot;
 use model::Transfer;
+use store::ack_from;
+use store::faults_of;
+use store::is_proposed;
+use store::seats_of;
 ghost use mathlib.Core.Path.{_≡_};
 ghost use mathlib.Core.Bool.{true};
-ghost use Prim.Native.Nat.{_+_, _<_, _≤_};
-ghost use Rattle.model.specs.Basics.{bit, any};
-ghost use Rattle.model.specs.Acks.{conflicts, acksFor, enough, conflictsWithAny, twoConflict, mustPropose, noMoreThan, hasMost};
-ghost use Rattle.tally.specs.Results.{tallyOf, counted};
+ghost use Prim.Native.Nat.{_+_, _<_};
+ghost use lib.ListN.{length};
+ghost use Rattle.model.specs.Basics.{bit};
+ghost use Rattle.model.specs.Acks.{hasMost};
+ghost use Rattle.layout.specs.Layout.{bookWords, entryIn};
+ghost use Rattle.tally.specs.Results.{tallyOf, counted, Tallies, Decides, Leads};
 
 // The running tally of one number, for one transfer.
 pub struct Tally {
@@ -58,111 +64,92 @@ fn plus_ack(before: Tally, t: Transfer, s: Slot) -> Tally
     y
 }
 
-// The running tally of the recorded acks: each brings it up to date.
-pub fn tally_of(t: Transfer, acks: [AckSlot; 16]) -> Tally
-    ensures { λ r. ⌜ r ≡ tallyOf t acks ⌝ }
+// The running tally of the acks that are recorded for an account's next number: each brings it up to date.
+pub fn tally_of(words: &[u32], t: Transfer) -> Tally
+    requires { ⌜ length (now words) ≡ bookWords ⌝ }
+    requires { ⌜ t .account .0 < 32 ⌝ }
+    ensures { λ r. ⌜ Tallies (now (words .entry)) t r ⌝ }
 {
     let mut y = Tally {
         equal: 0,
         recorded: 0,
     };
-    let mut i: usize = 0;
+    let mut i: u8 = 0;
     while i < 16 {
-        let a = acks[i];
-        let s = a.slot;
+        let s = ack_from(words, t.account, Seat(i), t.number);
         y = plus_ack(y, t, s);
         i += 1;
     }
     y
 }
 
-// Twice the acks exceed n + 3f.
-pub fn is_enough(seats: u8, faults: u8, acks: u8) -> bool
-    ensures { λ r. ⌜ r ≡ enough seats faults acks ⌝ }
+// At least n - f acks are recorded, two conflict, and nothing was put forward for this number. All are of one number, so that two which are not equal
+// conflict: two conflict where fewer are equal to one of them than are recorded.
+pub fn must_propose(words: &[u32], a: Account, y: Tally) -> bool
+    requires { ⌜ length (now words) ≡ bookWords ⌝ }
+    requires { ⌜ a .0 < 32 ⌝ }
+    ensures { λ r. ⌜ Decides (now (words .entry)) a y r ⌝ }
 {
-    (seats as u32) + 3 * (faults as u32) < 2 * (acks as u32)
-}
-
-// Some recorded ack conflicts with this transfer.
-fn is_contested(t: Transfer, acks: [AckSlot; 16]) -> bool
-    ensures { λ r. ⌜ r ≡ any (λ a. conflicts t (a .slot)) acks ⌝ }
-{
-    let mut i: usize = 0;
-    while i < 16 {
-        let a = acks[i];
-        let s = a.slot;
-        if is_against(t, s) {
-            return true;
-        }
-        i += 1;
+    if is_proposed(words, a) {
+        return false;
     }
-    false
-}
-
-fn slot_contested(acks: [AckSlot; 16], s: Slot) -> bool
-    ensures { λ r. ⌜ r ≡ conflictsWithAny acks s ⌝ }
-{
-    match s {
-        Slot::Empty => false,
-        Slot::Full(t) => is_contested(t, acks),
+    if (y.recorded as u32) + (faults_of(words) as u32) < (seats_of(words) as u32) {
+        return false;
     }
+    y.equal < y.recorded
 }
 
-// Two of the recorded acks conflict.
-fn two_conflict(acks: [AckSlot; 16]) -> bool
-    ensures { λ r. ⌜ r ≡ twoConflict acks ⌝ }
-{
-    let mut i: usize = 0;
-    while i < 16 {
-        let a = acks[i];
-        let s = a.slot;
-        if slot_contested(acks, s) {
-            return true;
-        }
-        i += 1;
-    }
-    false
+// A transfer and how many acks are equal to it.
+pub struct Leader {
+    pub transfer: Transfer,
+    pub acks: u8,
 }
 
-// Of a transfer and the one in a place, if any, the one with more acks; on a tie the first.
-fn better(acks: [AckSlot; 16], best: Transfer, s: Slot) -> Transfer
-    ensures { λ r. ⌜ (acksFor best acks ≤ acksFor r acks) × (noMoreThan (acksFor r acks) acks s ≡ true) ⌝ }
+// Of a transfer and the one that a seat acked for the same number, if any, the one with more acks; on a tie the first.
+fn better(words: &[u32], best: Leader, s: Seat) -> Leader
+    requires { ⌜ length (now words) ≡ bookWords ⌝ }
+    requires { ⌜ (best .transfer .account .0 < 32) × (s .0 < 16) ⌝ }
+    ensures { λ r. ⌜ Leads (now (words .entry)) best s r ⌝ }
 {
-    match s {
+    let first = best.transfer;
+    let slot = ack_from(words, first.account, s, first.number);
+    match slot {
         Slot::Empty => best,
         Slot::Full(u) => {
-            let a = tally_of(best, acks);
-            let b = tally_of(u, acks);
-            if a.equal < b.equal { u } else { best }
+            let other = Transfer {
+                account: first.account,
+                number: first.number,
+                value: u.value,
+                recipient: u.recipient,
+            };
+            let y = tally_of(words, other);
+            if best.acks < y.equal {
+                Leader {
+                    transfer: other,
+                    acks: y.equal,
+                }
+            } else {
+                best
+            }
         }
     }
 }
 
 // A transfer that has the most acks: the first of those with the most, or `first` where none has more than it.
-pub fn most_acked(acks: [AckSlot; 16], first: Transfer) -> Transfer
-    ensures { λ r. ⌜ hasMost acks r ≡ true ⌝ }
+pub fn most_acked(words: &[u32], first: Transfer) -> Transfer
+    requires { ⌜ length (now words) ≡ bookWords ⌝ }
+    requires { ⌜ first .account .0 < 32 ⌝ }
+    ensures { λ r. ⌜ (first .number ≡ entryIn (now (words .entry)) (first .account) .current + 1 → hasMost (entryIn (now (words .entry)) (first .account) .acks) r ≡ true) ⌝ }
 {
-    let mut best = first;
-    let mut i: usize = 0;
+    let y = tally_of(words, first);
+    let mut best = Leader {
+        transfer: first,
+        acks: y.equal,
+    };
+    let mut i: u8 = 0;
     while i < 16 {
-        let a = acks[i];
-        let s = a.slot;
-        best = better(acks, best, s);
+        best = better(words, best, Seat(i));
         i += 1;
     }
-    best
-}
-
-// At least n - f acks are recorded, two conflict, and nothing was put forward for this number. The dear test comes last.
-pub fn must_propose(seats: u8, faults: u8, recorded: u8, e: Entry) -> bool
-    ensures { λ r. ⌜ r ≡ mustPropose seats faults recorded e ⌝ }
-{
-    let acks = e.acks;
-    if e.proposed {
-        return false;
-    }
-    if (recorded as u32) + (faults as u32) < (seats as u32) {
-        return false;
-    }
-    two_conflict(acks)
+    best.transfer
 }

@@ -1,0 +1,2 @@
+-- What a call promises, by the model's definitions.
+pub mod Promises

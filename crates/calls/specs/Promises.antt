@@ -1,0 +1,41 @@
+-- What a message promises, by the model's `step`, of the ledger that the words are.
+use Prim.Native.Nat.{ℕ, _+_, _<_}
+use mathlib.Core.Path.{_≡_}
+use mathlib.Core.List.{List}
+use Rattle.model.specs.declared.Transfer.{Transfer}
+use Rattle.model.specs.declared.Message.{Message}
+use Rattle.model.specs.declared.Refusal.{Refusal}
+use Rattle.model.specs.declared.Reply.{Reply}
+use Rattle.model.specs.declared.Reply.the-variants.{Refuse}
+use Rattle.model.specs.Replies.{Outcome, Meets}
+use Rattle.model.specs.Acks.{acksFor}
+use Rattle.model.specs.Calls.{tallied, waits, finished, step}
+use Rattle.layout.specs.Layout.{ledgerIn, entryIn}
+
+-- the reply and the ledger that the words are afterwards are those of the outcome
+abbrev pub MeetsIn : Outcome → Reply → List ℕ → Type 0
+MeetsIn o r after = Meets o (record { reply = r; ledger = ledgerIn after })
+
+-- A message: the reply and the ledger after it. "A refusal replies its code and changes nothing": not one of the words.
+pub record Turned (before : List ℕ) (m : Message) (r : Reply) (after : List ℕ) : Type 0 where
+  pub meets : MeetsIn (step (ledgerIn before) m) r after
+  pub kept : (code : Refusal) → r ≡ Refuse code → after ≡ before
+
+-- What was taken: it is not refused any more.
+pub record Taken (o : Outcome) (r : Reply) (after : List ℕ) : Type 0 where
+  pub meets : MeetsIn o r after
+  pub not-refused : (code : Refusal) → r ≡ Refuse code → ⊥
+
+-- The slip is of its account's next number, and has a value.
+pub record Next (ws : List ℕ) (t : Transfer) : Type 0 where
+  pub number : t .number ≡ entryIn ws (t .account) .current + 1
+  pub value : 0 < t .value
+
+-- What follows from a slip's ack that is recorded.
+pub record Tallied (before : List ℕ) (t : Transfer) (r : Reply) (after : List ℕ) : Type 0 where
+  pub decided : Next before t → 0 < acksFor t (entryIn before (t .account) .acks)
+      → Taken (finished (ledgerIn before) (t .account) (tallied (ledgerIn before) (entryIn before (t .account)) t)) r after
+
+-- What follows from a slip that is accepted.
+pub record Accepted (before : List ℕ) (t : Transfer) (r : Reply) (after : List ℕ) : Type 0 where
+  pub settled : 0 < t .value → Taken (finished (ledgerIn before) (t .account) (waits (entryIn before (t .account)) t)) r after

@@ -1,0 +1,127 @@
+// The tests of each message, in document 01's order: the refusal of the first that holds.
+use basics::results::Check;
+use basics::slots::is_against;
+use basics::slots::is_held;
+use basics::transfers::same_number;
+use model::Refusal;
+use model::Seat;
+use model::Slot;
+use model::Transfer;
+use store::accounts_of;
+use store::ack_from;
+use store::balance_of;
+use store::current_of;
+use store::is_acked;
+use store::pending_of;
+use store::seats_of;
+use store::total_of;
+ghost use mathlib.Core.Path.{_≡_};
+ghost use lib.ListN.{length};
+ghost use Rattle.model.specs.Refusals.{firstRefusal, outOfRange, waitsAlready, transferRules, requestRules, circulatedRules, ackRules};
+ghost use Rattle.layout.specs.Layout.{bookWords, ledgerIn, entryIn};
+ghost use Rattle.basics.specs.Results.{checkOf};
+
+fn is_out_of_range(words: &[u32], t: Transfer) -> bool
+    requires { ⌜ length (now words) ≡ bookWords ⌝ }
+    ensures { λ r. ⌜ r ≡ outOfRange (ledgerIn (now (words .entry))) t ⌝ }
+{
+    let accounts = accounts_of(words);
+    if accounts <= t.account.0 {
+        return true;
+    }
+    if accounts <= t.recipient.0 {
+        return true;
+    }
+    if t.number == 0 {
+        return true;
+    }
+    if t.value == 0 {
+        return true;
+    }
+    total_of(words) < t.value
+}
+
+fn waits(s: Slot, t: Transfer) -> bool
+    ensures { λ r. ⌜ r ≡ waitsAlready s t ⌝ }
+{
+    match s {
+        Slot::Empty => false,
+        Slot::Full(p) => same_number(p, t),
+    }
+}
+
+// What every transfer meets, whichever message brings it: 5 to 8.
+pub fn transfer_check(words: &[u32], t: Transfer) -> Check
+    requires { ⌜ length (now words) ≡ bookWords ⌝ }
+    ensures { λ r. ⌜ r ≡ checkOf (firstRefusal (transferRules (ledgerIn (now (words .entry))) (entryIn (now (words .entry)) (t .account)) t)) ⌝ }
+{
+    if is_out_of_range(words, t) {
+        return Check::Failed(Refusal::OutOfRange);
+    }
+    let current = current_of(words, t.account);
+    if t.number <= current {
+        return Check::Failed(Refusal::PastNumber);
+    }
+    if 1 < t.number - current {
+        return Check::Failed(Refusal::FutureNumber);
+    }
+    if waits(pending_of(words, t.account), t) {
+        return Check::Failed(Refusal::AlreadyAccepted);
+    }
+    Check::Passed
+}
+
+pub fn request_check(words: &[u32], t: Transfer) -> Check
+    requires { ⌜ length (now words) ≡ bookWords ⌝ }
+    ensures { λ r. ⌜ r ≡ checkOf (firstRefusal (requestRules (ledgerIn (now (words .entry))) (entryIn (now (words .entry)) (t .account)) t)) ⌝ }
+{
+    match transfer_check(words, t) {
+        Check::Failed(r) => Check::Failed(r),
+        Check::Passed => {
+            if balance_of(words, t.account) < t.value {
+                return Check::Failed(Refusal::InsufficientFunds);
+            }
+            Check::Passed
+        }
+    }
+}
+
+pub fn circulated_check(words: &[u32], t: Transfer) -> Check
+    requires { ⌜ length (now words) ≡ bookWords ⌝ }
+    ensures { λ r. ⌜ r ≡ checkOf (firstRefusal (circulatedRules (ledgerIn (now (words .entry))) (entryIn (now (words .entry)) (t .account)) t)) ⌝ }
+{
+    match transfer_check(words, t) {
+        Check::Failed(r) => Check::Failed(r),
+        Check::Passed => {
+            if is_acked(words, t.account) {
+                return Check::Failed(Refusal::AlreadyAcked);
+            }
+            if balance_of(words, t.account) < t.value {
+                return Check::Failed(Refusal::InsufficientFunds);
+            }
+            Check::Passed
+        }
+    }
+}
+
+pub fn ack_check(words: &[u32], s: Seat, t: Transfer) -> Check
+    requires { ⌜ length (now words) ≡ bookWords ⌝ }
+    ensures { λ r. ⌜ r ≡ checkOf (firstRefusal (ackRules (ledgerIn (now (words .entry))) (entryIn (now (words .entry)) (t .account)) s t)) ⌝ }
+{
+    if seats_of(words) <= s.0 {
+        return Check::Failed(Refusal::UnknownSeat);
+    }
+    match transfer_check(words, t) {
+        Check::Failed(r) => Check::Failed(r),
+        Check::Passed => {
+            let a = ack_from(words, t.account, s, t.number);
+            if is_held(t, a) {
+                return Check::Failed(Refusal::AckRepeated);
+            }
+            if is_against(t, a) {
+                return Check::Failed(Refusal::AckConflicting);
+            }
+            Check::Passed
+        }
+    }
+}

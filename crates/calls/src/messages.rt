@@ -1,0 +1,119 @@
+// The five kinds of message, each where the ledger lies. What a function promises is in specs/Promises.antt.
+use crate::checks::ack_check;
+use crate::checks::circulated_check;
+use crate::checks::request_check;
+use crate::checks::transfer_check;
+use basics::quorums::is_enough;
+use basics::results::Check;
+use model::Account;
+use model::Refusal;
+use model::Reply;
+use model::Seat;
+use model::Transfer;
+use settling::settle_all;
+use store::accounts_of;
+use store::balance_of;
+use store::faults_of;
+use store::put_ack;
+use store::put_acked;
+use store::put_pending;
+use store::put_proposed;
+use store::seats_of;
+use tally::most_acked;
+use tally::must_propose;
+use tally::tally_of;
+ghost use mathlib.Core.Path.{_≡_};
+ghost use Prim.Native.Nat.{_<_};
+ghost use lib.ListN.{length};
+ghost use Rattle.model.specs.declared.Message.the-variants.{Request, Circulated, Ack, Decision, Inquiry};
+ghost use Rattle.layout.specs.Layout.{bookWords};
+ghost use Rattle.calls.specs.Promises.{Turned, Tallied, Accepted};
+
+// A home's new transfer: circulate it.
+pub fn request(words: &[u32], t: Transfer) -> Reply
+    requires { ⌜ length (now words) ≡ bookWords ⌝ }
+    ensures { λ r. ⌜ Turned (now (words .entry)) (Request t) r (now (words .entry)) ⌝ }
+{
+    match request_check(words, t) {
+        Check::Failed(r) => Reply::Refuse(r),
+        Check::Passed => Reply::Circulate,
+    }
+}
+
+// A circulated transfer (document 01: slip): this seat acks it.
+pub fn acknowledge(words: &mut [u32], t: Transfer) -> Reply
+    requires { ⌜ length (now words) ≡ bookWords ⌝ }
+    ensures { λ r. ⌜ Turned (now (words .entry)) (Circulated t) r (now (words .exit)) ⌝ }
+{
+    match circulated_check(words, t) {
+        Check::Failed(r) => Reply::Refuse(r),
+        Check::Passed => {
+            put_acked(words, t.account);
+            Reply::Acknowledge
+        }
+    }
+}
+
+// A seat's ack of a transfer: it is recorded, and the tally decides.
+pub fn record_ack(words: &mut [u32], s: Seat, t: Transfer) -> Reply
+    requires { ⌜ length (now words) ≡ bookWords ⌝ }
+    ensures { λ r. ⌜ Turned (now (words .entry)) (Ack s t) r (now (words .exit)) ⌝ }
+{
+    match ack_check(words, s, t) {
+        Check::Failed(r) => Reply::Refuse(r),
+        Check::Passed => {
+            put_ack(words, s, t);
+            by_tally(words, t)
+        }
+    }
+}
+
+// The council's decision (document 01: ruling): its transfer is accepted.
+pub fn decide(words: &mut [u32], t: Transfer) -> Reply
+    requires { ⌜ length (now words) ≡ bookWords ⌝ }
+    ensures { λ r. ⌜ Turned (now (words .entry)) (Decision t) r (now (words .exit)) ⌝ }
+{
+    match transfer_check(words, t) {
+        Check::Failed(r) => Reply::Refuse(r),
+        Check::Passed => accept(words, t),
+    }
+}
+
+// A balance question.
+pub fn inquire(words: &[u32], a: Account) -> Reply
+    requires { ⌜ length (now words) ≡ bookWords ⌝ }
+    ensures { λ r. ⌜ Turned (now (words .entry)) (Inquiry a) r (now (words .entry)) ⌝ }
+{
+    if accounts_of(words) <= a.0 {
+        return Reply::Refuse(Refusal::OutOfRange);
+    }
+    Reply::Balance(balance_of(words, a))
+}
+
+// What follows from the ack that was just recorded: K, P or N.
+fn by_tally(words: &mut [u32], t: Transfer) -> Reply
+    requires { ⌜ length (now words) ≡ bookWords ⌝ }
+    requires { ⌜ t .account .0 < 32 ⌝ }
+    ensures { λ r. ⌜ Tallied (now (words .entry)) t r (now (words .exit)) ⌝ }
+{
+    let y = tally_of(words, t);
+    if is_enough(seats_of(words), faults_of(words), y.equal) {
+        return accept(words, t);
+    }
+    if must_propose(words, t.account, y) {
+        let most = most_acked(words, t);
+        put_proposed(words, t.account);
+        return Reply::Propose(most);
+    }
+    Reply::Note
+}
+
+// The accepted transfer waits, and settling begins: K carries how many transfers it applied.
+fn accept(words: &mut [u32], t: Transfer) -> Reply
+    requires { ⌜ length (now words) ≡ bookWords ⌝ }
+    requires { ⌜ t .account .0 < 32 ⌝ }
+    ensures { λ r. ⌜ Accepted (now (words .entry)) t r (now (words .exit)) ⌝ }
+{
+    put_pending(words, t);
+    Reply::Accept(settle_all(words))
+}

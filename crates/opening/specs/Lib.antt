@@ -1,0 +1,2 @@
+-- What an opening promises, by the model's definitions.
+pub mod Promises

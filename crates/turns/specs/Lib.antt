@@ -1,2 +1,0 @@
--- What a turn promises, by the model's `turnAt`.
-pub mod Turns

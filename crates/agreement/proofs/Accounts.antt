@@ -43,7 +43,7 @@ module _ (o : Opening) where
         everywhere o opens s (λ l. (a : Account) → o .accounts ≤ a .0 → Unused (entryOf l a))
         (λ l m q ok h old a above.
         turn-unused l (step l m .next) m q (turn o l (step l m .next) m q (group o opens) ok h) a above (old a above))
-        (λ a above. rw (opened-entry o opens a) (group o opens .rest-zero (a .0) above, refl))
+        (λ a above. rw (opened-entry o a) (group o opens .rest-zero (a .0) above, refl))
 
     -- so the balances of the k accounts add up to the opening sum
     pub accounts-sum : (r : Run) → Obeys o r → sumBalances (take (o .accounts) (ledgerAt o s r .entries)) ≡ sumOf (λ b. b) (o .balances)

@@ -156,7 +156,7 @@ module _ (o : Opening) (bad : Seat → Bool) (opens : Opens o) where
       → (a : Account) → FromSenders o bad r (entryOf (ledgerAt o s r) a)
   all-from run fair s =
       run-induction o opens s (λ r l. Within r run → (a : Account) → FromSenders o bad r (entryOf l a))
-      (λ w a i t h honestly. impossible (cc (h, ap (λ (e : Entry). ackFrom e i) (opened-entry o opens a), no-acks i)))
+      (λ w a i t h honestly. impossible (cc (h, ap (λ (e : Entry). ackFrom e i) (opened-entry o a), no-acks i)))
       (λ r e l other old w a. more r e (entryOf l a) (old (before w) a))
       (λ r b a q l old w c. more r (record { at = s; call = waitingList b q a }) (entryOf l c) (old (before w) c))
       (λ r m q l ok h old w a.

@@ -84,7 +84,7 @@ uncovered : (o : Opening) → Opens o → (s : Seat) (r : Run) → Obeys o r →
 uncovered o opens s =
     everywhere o opens s (λ l. (a : Account) → affordable (entryOf l a) ≡ false)
     (λ l m q ok h old. turn-uncovered o l (step l m .next) m q (turn o l (step l m .next) m q (group o opens) ok h) old)
-    (λ a. rw (opened-entry o opens a) refl)
+    (λ a. rw (opened-entry o a) refl)
 
 -- Which slips were accepted at a seat, and which wait there.
 module _ (o : Opening) (opens : Opens o) (s : Seat) where

@@ -20,8 +20,7 @@ use Rattle.agreement.proofs.Accounts.{behind}
 use Rattle.agreement.proofs.StepLaws.{Turn, keeps, accepts, turn}
 use Rattle.agreement.proofs.Agree.{same-number, number-same}
 use Rattle.model.specs.Transfers.{sameAccount}
-use Rattle.model.specs.Records.{accountOf, withPending, entryAt, setEntry, withEntry, entryOf}
-use Rattle.model.specs.Openings.{openLedger}
+use Rattle.model.specs.Records.{accountOf, freshLedger, withPending, entryAt, setEntry, withEntry, entryOf}
 use Rattle.model.specs.Settling.{apply, settle}
 use Rattle.model.specs.Calls.{step}
 use Rattle.model.proofs.Sums.{impossible}
@@ -158,15 +157,15 @@ module _ (slipOf : Account → ℕ → Option Transfer) (o : Opening) where
       }
 
   -- a just opened ledger is balanced
-  opened-balanced : Opens o → Balanced (openLedger o .ledger .entries)
+  opened-balanced : Balanced (freshLedger o .entries)
   unfolding paid received broughtBy
-  opened-balanced opens =
+  opened-balanced =
       record {
-        waits-are = λ a t h. impossible (cc (h, ap (λ (e : Entry). e .pending) (opened-entry o opens a)));
+        waits-are = λ a t h. impossible (cc (h, ap (λ (e : Entry). e .pending) (opened-entry o a)));
         equation = λ b.
-            let nothing = below-same (λ i. 0) (λ i. broughtBy b (accountOf i) (entryOf (openLedger o .ledger) (accountOf i) .current)) (length (o .balances))
-            (λ i lower. rw (opened-entry o opens (accountOf i)) refl) in
-            rw (opened-entry o opens b) (omega (arith, all-zero (length (o .balances))));
+            let nothing = below-same (λ i. 0) (λ i. broughtBy b (accountOf i) (entryOf (freshLedger o) (accountOf i) .current)) (length (o .balances))
+            (λ i lower. rw (opened-entry o (accountOf i)) refl) in
+            rw (opened-entry o b) (omega (arith, all-zero (length (o .balances))));
       }
     where
       all-zero : (n : ℕ) → below (λ i. 0) n ≡ 0
@@ -201,7 +200,7 @@ module _ (slipOf : Account → ℕ → Option Transfer) (o : Opening) where
       → ((p : Run) (e : Event) (t : Transfer) → Within (p ▹ e) run → accepted (e .call) ≡ some t → slipOf (t .account) (t .number) ≡ some t)
       → (s : Seat) (r : Run) → Obeys o r → Within r run → Balanced (ledgerAt o s r .entries)
   all-balanced opens run slips s =
-      run-induction o opens s (λ r l. Within r run → Balanced (l .entries)) (λ w. opened-balanced opens)
+      run-induction o opens s (λ r l. Within r run → Balanced (l .entries)) (λ w. opened-balanced)
       (λ r e l other bal w. bal (before w))
       (λ r b a q l bal w. bal (before w))
       (λ r m q l ok h bal w.

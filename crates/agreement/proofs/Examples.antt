@@ -21,7 +21,7 @@ use Rattle.model.specs.declared.ListReply.the-variants.{Listed, ListRefused}
 use Rattle.model.specs.Basics.{bit, count, every}
 use Rattle.model.specs.Records.{seatOf, accountOf, entryAt, noAcks}
 use Rattle.model.specs.Transfers.{equal, conflict}
-use Rattle.model.specs.Openings.{openLedger}
+use Rattle.model.specs.Openings.{openReply}
 use Rattle.model.specs.Acks.{hasMost}
 use Rattle.model.specs.Settling.{isWaiting, lowestAffordable, apply, settleAtMost, settle}
 use Rattle.model.specs.Calls.{step}
@@ -149,7 +149,7 @@ only-one (x ∷ []) first second rest (suc (suc a)) = impossible (cc)
 only-one (x ∷ y ∷ es) first second rest (suc (suc a)) = rw (ne-eqb (suc (suc a)) 1 (omega arith), none-waits es rest a)
 
 pub witness-obeys : Obeys page witness
-unfolding ledgerAt noAcks equal conflict hasMost openLedger lowestAffordable apply settleAtMost settle step
+unfolding ledgerAt noAcks equal conflict hasMost lowestAffordable apply settleAtMost settle step
 witness-obeys =
     tt
     then refl
@@ -168,7 +168,7 @@ witness-obeys =
 
 -- The witness is a run as demand 3 means it, and keeps the premises.
 pub witness-keeps : Opens page × FewBad page bad × (atHonest page bad witness ≡ true) × Obeys page witness × Premises page bad witness
-unfolding equal conflict openLedger
+unfolding equal conflict openReply
 witness-keeps = (
   record { full-page = refl; not-refused = refl },
   lit≤ tt,
@@ -223,7 +223,7 @@ abbrev forged : Run
 forged = acceptT split ▹ ack 1 0 u Note ▹ ack 1 1 u Note ▹ ack 1 2 u Note ▹ ack 1 3 u Note ▹ ack 1 4 u (Accept 1)
 
 pub genuine-needed : Fails bad forged × (rulingsRightful forged ≡ true) × (Premises page bad forged → ⊥)
-unfolding ledgerAt noAcks equal conflict hasMost openLedger lowestAffordable apply settleAtMost settle step
+unfolding ledgerAt noAcks equal conflict hasMost lowestAffordable apply settleAtMost settle step
 genuine-needed = (
   (
     refl,
@@ -242,7 +242,7 @@ abbrev rulingsDiffer : Run
 rulingsDiffer = putForwardT split ▹ ruling 2 t (Accept 1) ▹ ruling 3 u (Accept 1)
 
 pub one-ruling-needed : Fails bad rulingsDiffer × (acksGenuine bad rulingsDiffer ≡ true) × (Premises page bad rulingsDiffer → ⊥)
-unfolding ledgerAt noAcks equal conflict hasMost openLedger lowestAffordable apply settleAtMost settle step
+unfolding ledgerAt noAcks equal conflict hasMost lowestAffordable apply settleAtMost settle step
 one-ruling-needed = (
   (
     refl,
@@ -263,7 +263,7 @@ earlyRuling = acceptT (putForwardT (split ▹ ruling 4 u (Accept 1)))
 pub put-forward-needed :
     Fails bad earlyRuling × (acksGenuine bad earlyRuling ≡ true) × (someSlip (proposals u earlyRuling) ≡ true)
     × (Premises page bad earlyRuling → ⊥)
-unfolding ledgerAt noAcks equal conflict hasMost openLedger lowestAffordable apply settleAtMost settle step
+unfolding ledgerAt noAcks equal conflict hasMost lowestAffordable apply settleAtMost settle step
 put-forward-needed = (
   (
     refl,
@@ -284,7 +284,7 @@ abbrev otherRuling : Run
 otherRuling = acceptT (putForwardT split ▹ ruling 4 u (Accept 1))
 
 pub that-slip-needed : Fails bad otherRuling × (acksGenuine bad otherRuling ≡ true) × (Premises page bad otherRuling → ⊥)
-unfolding ledgerAt noAcks equal conflict hasMost openLedger lowestAffordable apply settleAtMost settle step
+unfolding ledgerAt noAcks equal conflict hasMost lowestAffordable apply settleAtMost settle step
 that-slip-needed = (
   (
     refl,
@@ -312,7 +312,7 @@ two-above-one : 2 ≤ 1 → ⊥
 two-above-one h = omega arith
 
 pub few-bad-needed : Fails twoBad tooManyBad × Premises page twoBad tooManyBad × (FewBad page twoBad → ⊥)
-unfolding ledgerAt noAcks equal conflict hasMost openLedger lowestAffordable apply settleAtMost settle step
+unfolding ledgerAt noAcks equal conflict hasMost lowestAffordable apply settleAtMost settle step
 few-bad-needed = (
   (
     refl,
@@ -336,7 +336,7 @@ accepts-not-notes e = impossible (cc)
 
 pub obeying-needed :
     (atHonest page bad invented ≡ true) × Premises page bad invented × (Claim page bad invented → ⊥) × (Obeys page invented → ⊥)
-unfolding ledgerAt noAcks equal conflict hasMost openLedger lowestAffordable apply settleAtMost settle step
+unfolding ledgerAt noAcks equal conflict hasMost lowestAffordable apply settleAtMost settle step
 obeying-needed = (
   refl,
   record { acks-genuine = refl; rulings-rightful = refl },
@@ -364,7 +364,7 @@ free =
     ▹ ruling 4 w (Accept 1)
 
 pub left-free : (atHonest page bad free ≡ true) × Obeys page free × Premises page bad free
-unfolding ledgerAt noAcks equal conflict hasMost openLedger lowestAffordable apply settleAtMost settle step
+unfolding ledgerAt noAcks equal conflict hasMost lowestAffordable apply settleAtMost settle step
 left-free = (
   refl,
   tt
@@ -383,7 +383,7 @@ abbrev pub refusedRuling : Run
 refusedRuling = start ▹ ruling 0 (slip 0 1 14 1) (Refuse OutOfRange)
 
 pub refused-rulings-count : Obeys page refusedRuling × (Premises page bad refusedRuling → ⊥)
-unfolding ledgerAt noAcks equal conflict hasMost openLedger lowestAffordable apply settleAtMost settle step
+unfolding ledgerAt noAcks equal conflict hasMost lowestAffordable apply settleAtMost settle step
 refused-rulings-count = (tt then refl, λ keeps. false≢true (keeps .rulings-rightful))
 
 -- "an earlier call at that sender": here the call comes after the ack
@@ -391,7 +391,7 @@ abbrev ackTooSoon : Run
 ackTooSoon = start ▹ ack 0 1 t Note ▹ acks 1 t
 
 pub acked-earlier : Obeys page ackTooSoon × (Premises page bad ackTooSoon → ⊥)
-unfolding ledgerAt noAcks equal conflict hasMost openLedger lowestAffordable apply settleAtMost settle step
+unfolding ledgerAt noAcks equal conflict hasMost lowestAffordable apply settleAtMost settle step
 acked-earlier = (tt then refl then refl, λ keeps. false≢true (keeps .acks-genuine))
 
 -- a run has calls at honest seats alone: seat 4, not the bad seat 5, nor seat 6, for there is none
@@ -442,7 +442,7 @@ abbrev pub toItself : Run
 toItself = start ▹ ruling 0 (slip 0 1 4 0) (Accept 1)
 
 pub slate-runs-obey : Obeys poor oneMore × Obeys three chain × Obeys page toItself
-unfolding ledgerAt noAcks equal conflict hasMost openLedger lowestAffordable apply settleAtMost settle step
+unfolding ledgerAt noAcks equal conflict hasMost lowestAffordable apply settleAtMost settle step
 slate-runs-obey = (tt then refl then refl then refl, tt then refl then refl then refl then refl, tt then refl)
 
 -- .. and what the slates say, of seat 1 too, which is not called. In the witness v has left at seat 4 and has not come to seat 0.

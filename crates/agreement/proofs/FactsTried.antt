@@ -17,7 +17,7 @@ use Rattle.agreement.specs.Undisputed.{AllAcked, reached, AllReached, Un
 use Rattle.model.specs.declared.Refusal.the-variants.{PastNumber, FutureNumber, AckRepeated, AckConflicting}
 use Rattle.model.specs.Records.{seatOf, accountOf, noAcks, sumCurrents, entryOf}
 use Rattle.model.specs.Transfers.{equal, conflict}
-use Rattle.model.specs.Openings.{openLedger}
+use Rattle.model.specs.Openings.{openReply}
 use Rattle.model.specs.Acks.{holds, acksFor, enough, hasMost}
 use Rattle.model.specs.Settling.{lowestAffordable, apply, settleAtMost, settle}
 use Rattle.model.specs.Calls.{step}
@@ -67,7 +67,7 @@ pub accepts-tried :
     × (must oneLacks (ack 1 3 t Note) ≡ false)
     × (must oneLacks (ruling 1 t (Accept 1)) ≡ true)
     × (must undisputedRun (ruling 0 t (Refuse PastNumber)) ≡ false)
-unfolding ledgerAt noAcks equal conflict hasMost openLedger lowestAffordable apply settleAtMost settle step
+unfolding ledgerAt noAcks equal conflict hasMost lowestAffordable apply settleAtMost settle step
 accepts-tried = (refl, refl, refl, refl, refl, refl, refl, refl, refl, refl)
 
 -- Of a slip at a seat, after a run: it was accepted there; twice its recorded acks exceed n + 3f; a ruling that is not refused named it;
@@ -89,7 +89,7 @@ pub accepted-tried :
     × (reasons page 1 t undisputedRun ≡ (false, false, false, false))
     × (reasons poor 1 (slip 0 1 5 1) oneWaits ≡ (false, false, false, false))
     × (reasons page 0 t undisputedRun ≡ (true, false, false, false))
-unfolding ledgerAt noAcks equal conflict hasMost openLedger lowestAffordable apply settleAtMost settle step
+unfolding ledgerAt noAcks equal conflict hasMost lowestAffordable apply settleAtMost settle step
 accepted-tried = (refl, refl, refl, refl, refl, refl, refl)
 
 -- the sum of all current numbers at seat 0
@@ -98,7 +98,7 @@ currents run = sumCurrents (ledgerAt poor (seatOf 0) run .entries)
 
 -- K's count is the rise in that sum: K 0, K 2, K 1
 pub count-tried : (currents start ≡ 0) × (currents oneWaits ≡ 0) × (currents bothBooked ≡ 2) × (currents oneMore ≡ 3)
-unfolding ledgerAt noAcks equal conflict hasMost openLedger lowestAffordable apply settleAtMost settle step
+unfolding ledgerAt noAcks equal conflict hasMost lowestAffordable apply settleAtMost settle step
 count-tried = (refl, refl, refl, refl)
 
 -- what holds of seats 0 to 4 holds of every honest seat of the page
@@ -122,7 +122,7 @@ pub undisputed-keeps :
     × Premises page bad undisputedRun
     × AllAcked page bad t undisputedRun
     × AllReached page bad (seatOf 0) t undisputedRun
-unfolding ledgerAt noAcks equal conflict hasMost openLedger lowestAffordable apply settleAtMost settle step
+unfolding ledgerAt noAcks equal conflict hasMost lowestAffordable apply settleAtMost settle step
 undisputed-keeps = (
   refl,
   tt
@@ -195,7 +195,7 @@ pub late-keeps :
     × Premises threeSeats nobody lateAck
     × AllAcked threeSeats nobody t lateAck
     × AllReached threeSeats nobody (seatOf 0) t lateAck
-unfolding ledgerAt noAcks equal conflict hasMost openLedger lowestAffordable apply settleAtMost settle step
+unfolding ledgerAt noAcks equal conflict hasMost openReply lowestAffordable apply settleAtMost settle step
 late-keeps = (
   record { full-page = refl; not-refused = refl },
   lit≤ tt,
@@ -267,7 +267,7 @@ pub alone-keeps :
     Opens single × FewBad single nobody × (atHonest single nobody alone ≡ true) × Obeys single alone × Premises single nobody alone
     × (slate single 0 two ≡ (2, 2) ∷ (11, 0) ∷ [])
     × (slate single 0 alone ≡ (8, 2) ∷ (5, 1) ∷ [])
-unfolding ledgerAt noAcks equal conflict hasMost openLedger lowestAffordable apply settleAtMost settle step slateAt leaveAll leaveAtMost
+unfolding ledgerAt noAcks equal conflict hasMost openReply lowestAffordable apply settleAtMost settle step slateAt leaveAll leaveAtMost
 alone-keeps = (
   record { full-page = refl; not-refused = refl },
   lit≤ tt,
@@ -286,7 +286,7 @@ pub claim-says : Claim single nobody alone
     × (2 is 2)
     × (2 is 2)
     × (SameCounts single (seatOf 0) two (seatOf 0) alone → 2 is 8)
-unfolding ledgerAt noAcks equal conflict hasMost openLedger lowestAffordable apply settleAtMost settle step slateAt leaveAll leaveAtMost
+unfolding ledgerAt noAcks equal conflict hasMost lowestAffordable apply settleAtMost settle step slateAt leaveAll leaveAtMost
 claim-says c = (
   c .agree (start ▹ acks 0 t) (start ▹ acks 0 t ▹ ack 0 0 t (Accept 1) ▹ acks 0 t2) (ack 0 0 t (Accept 1)) (ack 0 0 t2 (Accept 1)) t t2
       (sooner (sooner (sooner (sooner (sooner at-end))))) refl (sooner (sooner (sooner at-end))) refl refl,
@@ -315,7 +315,7 @@ pub facts-say : Facts single alone
     × (1 is 3 → true ≡ false)
     × (1 is 3 → true ≡ false)
     × (1 ≤ 0 → 0 ≤ 2 → (x : Transfer) × (x .account ≡ accountOf 0) × (x .number ≡ 0) × (acceptedBy (seatOf 0) x alone ≡ true))
-unfolding ledgerAt noAcks equal conflict hasMost openLedger lowestAffordable apply settleAtMost settle step
+unfolding ledgerAt noAcks equal conflict hasMost lowestAffordable apply settleAtMost settle step
 facts-say f = (
   f .currents-rise start alone (seatOf 0) (accountOf 0) (sooner (sooner (sooner (sooner (sooner (sooner (sooner at-end))))))) at-end,
   f .count-is-rise (two ▹ asked 0 (Inquiry (accountOf 0)) (Balance 2) ▹ acks 0 v) (ack 0 0 v (Accept 1)) (Ack (seatOf 0) v) (Accept 1) at-end refl,
@@ -332,7 +332,7 @@ pub facts-say-too :
     (Facts poor oneWaits → true ≡ true)
     × (Facts page oneLacks → (3 < 6) × (accountOf 0 ≡ accountOf 0) × (1 is 1))
     × (Facts (pageWith 1 0 (4_294_967_295 ∷ [])) start → 4_294_967_295 < 4_294_967_296)
-unfolding ledgerAt noAcks equal conflict hasMost openLedger lowestAffordable apply settleAtMost settle step
+unfolding ledgerAt noAcks equal conflict hasMost lowestAffordable apply settleAtMost settle step
 facts-say-too = (
   λ f. f .accepted-exactly oneWaits (seatOf 0) (slip 0 1 5 1) at-end refl,
   λ f. f .acks-stand oneLacks (seatOf 0) (seatOf 3) (accountOf 0) t at-end refl,
@@ -345,7 +345,7 @@ pub accounts-say : Facts single alone
     → (2 ≤ 2 → (0 is 0) × (0 is 0))
     × (2 ≤ 1 → (5 is 0) × (1 is 0))
     × (13 is 13)
-unfolding ledgerAt noAcks equal conflict hasMost openLedger lowestAffordable apply settleAtMost settle step
+unfolding ledgerAt noAcks equal conflict hasMost lowestAffordable apply settleAtMost settle step
 accounts-say f = (
   f .behind alone (seatOf 0) (accountOf 2) at-end,
   f .behind alone (seatOf 0) (accountOf 1) at-end,
@@ -367,7 +367,7 @@ abbrev disputed : Run
 disputed = nextNumber ▹ ack 0 1 (slip 0 2 5 1) (Propose t2)
 
 pub disputed-obeys : Obeys twoSeats disputed
-unfolding ledgerAt noAcks equal conflict hasMost openLedger lowestAffordable apply settleAtMost settle step
+unfolding ledgerAt noAcks equal conflict hasMost lowestAffordable apply settleAtMost settle step
 disputed-obeys = tt then refl then refl then refl then (t, refl, refl) then refl then refl then (t2, refl, refl)
 
 -- "Once a slip is accepted, this seat puts nothing forward for that number." It is not said of another seat, nor of the next number, nor

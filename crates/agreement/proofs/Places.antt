@@ -7,9 +7,8 @@ use Prim.Native.Nat.{ℕ}
 use mathlib.Core.List.{List}
 use Rattle.agreement.specs.Types.{Seat, Ledger, Opening, Message, Reply, ListReply}
 use Rattle.agreement.specs.Runs.{Call, message, waitingList, Event, Run, start, _▹_, Within, at-end, sooner, happened, throughout, sameSeat, nextLedger, ledgerAt, Conforms, Obeys}
-use Rattle.model.specs.Records.{seatOf}
+use Rattle.model.specs.Records.{seatOf, freshLedger}
 use Rattle.model.specs.Calls.{step, Answers}
-use Rattle.model.specs.Openings.{openLedger}
 use Rattle.model.proofs.Sums.{impossible, both}
 
 -- the start is a place
@@ -130,7 +129,7 @@ module _ (o : Opening) (s : Seat) (P : Run → Ledger → Type 0)
         go false there = elsewhere r e (ledgerAt o s r) there yet
 
     -- so at every place, if it is true of the opened ledger
-    pub ledger-induction : P start (openLedger o .ledger) → (r : Run) → Obeys o r → P r (ledgerAt o s r)
+    pub ledger-induction : P start (freshLedger o) → (r : Run) → Obeys o r → P r (ledgerAt o s r)
     unfolding ledgerAt
     ledger-induction opened start ok = opened
     ledger-induction opened (r ▹ e) ok = one-event r e ok (ledger-induction opened r (ok .0))

@@ -11,7 +11,7 @@ use Rattle.agreement.specs.Runs.{Opens, Call, message, waitingList, Even
 use Rattle.agreement.proofs.Places.{the-start, nothing-yet, last-or-sooner, seat-self, one-event, ledger-induction}
 use Rattle.agreement.proofs.Soundness.{group, Sound, opened-sound}
 use Rattle.agreement.proofs.StepLaws.{step-sound}
-use Rattle.model.specs.Openings.{openLedger}
+use Rattle.model.specs.Records.{freshLedger}
 use Rattle.model.specs.Calls.{step}
 use Rattle.model.proofs.Sums.{impossible}
 use Rattle.model.proofs.Steps.{Happens, happens}
@@ -28,7 +28,7 @@ sound o opens s =
 module _ (o : Opening) (opens : Opens o) (s : Seat) where
   -- P of the run and the ledger, at every place
   pub run-induction : (P : Run → Ledger → Type 0)
-      → P start (openLedger o .ledger)
+      → P start (freshLedger o)
       → ((r : Run) (e : Event) (l : Ledger) → sameSeat (e .at) s ≡ false → P r l → P (r ▹ e) l)
       → ((r : Run) (b a : List ℕ) (q : ListReply) (l : Ledger) → P r l → P (r ▹ record { at = s; call = waitingList b q a }) l)
       → ((r : Run) (m : Message) (q : Reply) (l : Ledger) → Sound o l → Happens l m q (step l m .next)
@@ -50,7 +50,7 @@ module _ (o : Opening) (opens : Opens o) (s : Seat) where
           r e obeys (stays (obeys .0) w old)
 
       -- so at every place, if it is true of the opened ledger
-      pub everywhere : P (openLedger o .ledger) → (r : Run) → Obeys o r → P (ledgerAt o s r)
+      pub everywhere : P (freshLedger o) → (r : Run) → Obeys o r → P (ledgerAt o s r)
       unfolding ledgerAt
       everywhere opened r obeys = stays obeys (the-start r) opened
 

@@ -141,7 +141,7 @@ module _ (o : Opening) (opens : Opens o) (s : Seat) where
   pub all-reasons : (r : Run) → Obeys o r → (a : Account) → Reasons r a (entryOf (ledgerAt o s r) a)
   all-reasons =
       run-induction o opens s (λ r l. (a : Account) → Reasons r a (entryOf l a))
-      (λ a. rw (opened-entry o opens a) (record { why-waits = λ t waits. impossible (cc); why-booked = λ m from to. absurd (omega arith) }))
+      (λ a. rw (opened-entry o a) (record { why-waits = λ t waits. impossible (cc); why-booked = λ m from to. absurd (omega arith) }))
       (λ r e l other old a. reasons-stay r (r ▹ e) a (entryOf l a) (entryOf l a) (sooner at-end) refl refl refl (old a))
       (λ r b a q l old c.
       reasons-stay r (r ▹ record { at = s; call = waitingList b q a }) c (entryOf l c) (entryOf l c) (sooner at-end) refl refl refl (old c))

@@ -10,17 +10,16 @@ use Rattle.agreement.proofs.Soundness.{next-waits, opened-entry, group,
 use Rattle.agreement.proofs.Reachable.{run-induction}
 use Rattle.agreement.proofs.StepLaws.{Turn, keeps, accepts, turn, answer-balance}
 use Rattle.agreement.proofs.SlateSettles.{Matches, quiet-matches, join-matches, settle-matches}
-use Rattle.model.specs.Records.{setEntry, withPending, withEntry}
-use Rattle.model.specs.Openings.{openLedger}
+use Rattle.model.specs.Records.{freshLedger, setEntry, withPending, withEntry}
 use Rattle.model.specs.Calls.{step}
 use Rattle.model.proofs.Steps.{happens}
 
-opened-matches : (o : Opening) → Opens o → Matches (openLedger o .ledger .entries) (freshSlate o)
-opened-matches o opens =
+opened-matches : (o : Opening) → Matches (freshLedger o .entries) (freshSlate o)
+opened-matches o =
     record {
-      balance-is = λ a. ap (λ (e : Entry). e .balance) (opened-entry o opens a);
-      count-is = λ a. ap (λ (e : Entry). e .current) (opened-entry o opens a);
-      waiting-is = λ t. rw (opened-entry o opens (t .account)) refl;
+      balance-is = λ a. ap (λ (e : Entry). e .balance) (opened-entry o a);
+      count-is = λ a. ap (λ (e : Entry). e .current) (opened-entry o a);
+      waiting-is = λ t. rw (opened-entry o (t .account)) refl;
     }
 
 -- a call keeps the ledger its slate's
@@ -44,7 +43,7 @@ module _ (o : Opening) (opens : Opens o) (s : Seat) where
   pub slated : (r : Run) → Obeys o r → Matches (ledgerAt o s r .entries) (slateAt o s r)
   unfolding slateAt
   slated =
-      run-induction o opens s (λ r l. Matches (l .entries) (slateAt o s r)) (opened-matches o opens)
+      run-induction o opens s (λ r l. Matches (l .entries) (slateAt o s r)) (opened-matches o)
       (λ r e l other match. rw other match)
       (λ r b a q l match. rw (seat-self s) match)
       (λ r m q l ok h match.

@@ -11,11 +11,10 @@ use borrow.Author.Tests.{ltb-true, eq-eqb}
 use Rattle.agreement.specs.Types.{Seat, Account, Transfer, Slot, Empty, Full, AckSlot, Entry, Ledger, Opening}
 use Rattle.agreement.specs.Runs.{Opens}
 use Rattle.model.specs.Basics.{bit, sumOf}
-use Rattle.model.specs.Records.{seatOf, noAcks, freshEntry, withAck, withPending, sumBalances, withEntries, withEntry, entryOf}
+use Rattle.model.specs.Records.{seatOf, noAcks, freshEntry, freshLedger, withAck, withPending, sumBalances, withEntries, withEntry, entryOf}
 use Rattle.model.specs.Transfers.{sameNumber, equal}
 use Rattle.model.specs.Acks.{holds, conflicts, acksFor, enough}
 use Rattle.model.specs.Refusals.{outOfRange, waitsAlready, ackFrom}
-use Rattle.model.specs.Openings.{openLedger}
 use Rattle.model.specs.Settling.{settle}
 use Rattle.model.proofs.Sums.{impossible, sum-set, sum-set-same}
 use Rattle.model.proofs.Equality.{equal-sound, equal-refl, Conflict, conflict-complete}
@@ -228,22 +227,21 @@ pub next-waits : (o : Opening) (l : Ledger) → Sound o l → NextWaits (l .entr
 next-waits o l ok a t h = ok .each a .pending-stands t h .1
 
 -- an opened ledger has fresh entries with the page's balances
-pub opened-entry : (o : Opening) → Opens o → (a : Account) → entryOf (openLedger o .ledger) a ≡ freshEntry (getD (o .balances) (a .0) 0)
-opened-entry o opens a = rw (group o opens .opened) (List·getD-map freshEntry (o .balances) (a .0) 0)
+pub opened-entry : (o : Opening) (a : Account) → entryOf (freshLedger o) a ≡ freshEntry (getD (o .balances) (a .0) 0)
+opened-entry o a = List·getD-map freshEntry (o .balances) (a .0) 0
 
 -- and is sound
-pub opened-sound : (o : Opening) → Opens o → Sound o (openLedger o .ledger)
+pub opened-sound : (o : Opening) → Opens o → Sound o (freshLedger o)
 opened-sound o opens =
-    rw (group o opens .opened)
-    (record {
+    record {
       seats-same = refl;
       faults-same = refl;
       accounts-same = refl;
       total-same = refl;
       size = length-map (o .balances) freshEntry ∙ opens .full-page;
       sum-same = fresh-sum (o .balances);
-      each = λ a. rw (List·getD-map freshEntry (o .balances) (a .0) 0) (quiet o a (freshEntry (getD (o .balances) (a .0) 0)) refl refl);
-    })
+      each = λ a. rw (opened-entry o a) (quiet o a (freshEntry (getD (o .balances) (a .0) 0)) refl refl);
+    }
 
 module _ (o : Opening) (l : Ledger) (g : Group o) (ok : Sound o l) where
   -- a sound entry with the same balance is stored

@@ -8,15 +8,15 @@ use lib.Dec.{eqb, ltb}
 use lib.ListN.{length}
 use Rattle.agreement.specs.Types.{Seat, Transfer, Ledger, Opening, Message, Request, Circulated, Ack, Decision, Inquiry, Reply, Circulate, Acknowledge, Accept, Propose, Note, Balance, Refuse, Opened, ListReply}
 use Rattle.model.specs.Basics.{bit}
-use Rattle.model.specs.Records.{seatOf}
+use Rattle.model.specs.Records.{seatOf, freshLedger}
 use Rattle.model.specs.Replies.{letterOf}
-use Rattle.model.specs.Openings.{openLedger}
+use Rattle.model.specs.Openings.{openReply}
 use Rattle.model.specs.Calls.{step, Answers, Lists}
 
 -- "Take any opening page that is not refused": a page has 32 balances.
 pub record Opens (o : Opening) : Type 0 where
   pub full-page : length (o .balances) ≡ 32
-  pub not-refused : openLedger o .reply ≡ Opened
+  pub not-refused : openReply o ≡ Opened
 
 -- how many of the numbers below n pass the test
 abbrev pub countBelow : (ℕ → Bool) → ℕ → ℕ
@@ -76,9 +76,10 @@ abbrev pub nextLedger : Ledger → Call → Ledger
 nextLedger l (message m r) = step l m .next
 nextLedger l (waitingList before r after) = l
 
--- "Each call gets the book that the call before it at that seat left, at first the opened one": the ledger of seat s after a run
+-- the ledger of seat s after a run: "each holds a book just opened from that page", and "Each call gets the book that the call before it at that
+-- seat left, at first the opened one"
 unfoldable pub ledgerAt : Opening → Seat → Run → Ledger
-ledgerAt o s start = openLedger o .ledger
+ledgerAt o s start = freshLedger o
 ledgerAt o s (r ▹ e) = cond (sameSeat (e .at) s) (nextLedger (ledgerAt o s r) (e .call)) (ledgerAt o s r)
 
 -- a call is answered as the definitions allow: any reply that they leave free is allowed

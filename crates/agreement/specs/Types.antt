@@ -4,9 +4,7 @@ pub use Rattle.model.specs.declared.Account.{Account}
 pub use Rattle.model.specs.declared.Transfer.{Transfer}
 pub use Rattle.model.specs.declared.Slot.{Slot}
 pub use Rattle.model.specs.declared.Slot.the-variants.{Empty, Full}
-pub use Rattle.model.specs.declared.AckSlot.{AckSlot}
-pub use Rattle.model.specs.declared.Entry.{Entry}
-pub use Rattle.model.specs.declared.Ledger.{Ledger}
+pub use Rattle.model.specs.Types.{AckSlot, Entry, Ledger}
 pub use Rattle.model.specs.declared.Opening.{Opening}
 pub use Rattle.model.specs.declared.Refusal.{Refusal}
 pub use Rattle.model.specs.declared.Message.{Message}

@@ -24,7 +24,7 @@ pub fields-of : (e : Entry) → Fields e (e .balance) (e .current) (e .acked) (e
 fields-of e =
     record { balance-is = refl; current-is = refl; acked-is = refl; acks-are = refl; proposed-is = refl; pending-is = refl }
 
--- the sizes of the arrays that the definitions make, and the sum of a ledger with nothing in it
+-- the sizes of the lists that the definitions make, and the sum of a ledger with nothing in it
 pub no-acks-length : length noAcks ≡ 16
 unfolding noAcks
 no-acks-length = refl

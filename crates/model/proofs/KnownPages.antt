@@ -8,7 +8,7 @@ use Rattle.model.specs.Types.{Transfer, Request, Circulated, Decision, I
 use Rattle.model.specs.Basics.{every}
 use Rattle.model.specs.Records.{accountOf, noAcks}
 use Rattle.model.specs.Transfers.{equal, conflict}
-use Rattle.model.specs.Openings.{openLedger}
+use Rattle.model.specs.Openings.{openReply, openLedger}
 use Rattle.model.specs.Acks.{hasMost}
 use Rattle.model.specs.Settling.{lowestAffordable, apply, settleAtMost, settle}
 use Rattle.model.specs.Calls.{step}
@@ -179,5 +179,5 @@ format =
 
 -- Every row holds of the definitions: the checker computes each.
 pub facts : T (every rowHolds marked) × T (every rowHolds further) × T (every rowHolds format)
-unfolding marked further format noAcks equal conflict hasMost openLedger lowestAffordable apply settleAtMost settle step checkBundle
+unfolding marked further format noAcks equal conflict hasMost openReply openLedger lowestAffordable apply settleAtMost settle step checkBundle
 facts = (tt, tt, tt)

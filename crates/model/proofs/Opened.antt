@@ -1,4 +1,4 @@
--- What an opening page that is not refused has, and the ledger that it yields.
+-- What an opening page that is not refused has, and the ledger that it leaves.
 use Prim.Native.Nat.{ℕ, zero, suc, _+_, _-_, _*_, _≤_, _<_}
 use native.Mathlib.Omega.{arith}
 use mathlib.Core.Path.{_≡_, refl, ap, sym, _∙_}
@@ -9,11 +9,11 @@ use lib.Dec.{leb, ltb, eqb}
 use lib.ListN.{getD, drop}
 use lib.Seq.{getD-drop}
 use borrow.Author.Tests.{leb-false, ltb-false, ne-eqb}
-use Rattle.model.specs.Types.{Opening, Refusal, Opened}
+use Rattle.model.specs.Types.{Ledger, Opening, Refusal, Opened}
 use Rattle.model.specs.Basics.{any, sumOf}
 use Rattle.model.specs.Records.{freshLedger}
 use Rattle.model.specs.Refusals.{firstRefusal}
-use Rattle.model.specs.Openings.{openRules, openAnswer, openLedger}
+use Rattle.model.specs.Openings.{openRules, openReplyBy, openReply, openLedgerBy, openLedger}
 use Rattle.model.proofs.Sums.{impossible, any-none, neither}
 use Rattle.model.proofs.Refusing.{none-holds}
 
@@ -24,7 +24,6 @@ pub record Group (o : Opening) : Type 0 where
   -- behind the k-th every balance is 0
   pub rest-zero : (i : ℕ) → o .accounts ≤ i → getD (o .balances) i 0 ≡ 0
   pub sum-fits : sumOf (λ b. b) (o .balances) < 4_294_967_296
-  pub opened : openLedger o .ledger ≡ freshLedger o
 
 -- where no balance behind the first k differs from 0, each of them is 0
 all-zero : (bs : List ℕ) (k i : ℕ) → any (λ b. not (eqb b 0)) (drop k bs) ≡ false → k ≤ i → getD bs i 0 ≡ 0
@@ -38,11 +37,11 @@ all-zero bs k i none-else above =
     is-zero zero e = refl
     is-zero (suc b) e = impossible (cc (rw (ne-eqb (suc b) 0 (omega arith)) at e))
 
-pub opened-group : (o : Opening) → openLedger o .reply ≡ Opened → Group o
-unfolding openLedger
+pub opened-group : (o : Opening) → openReply o ≡ Opened → Group o
+unfolding openReply
 opened-group o opens = go (firstRefusal (openRules o)) refl opens
   where
-    go : (q : Option Refusal) → firstRefusal (openRules o) ≡ q → openAnswer q (freshLedger o) .reply ≡ Opened → Group o
+    go : (q : Option Refusal) → firstRefusal (openRules o) ≡ q → openReplyBy q ≡ Opened → Group o
     go none e h =
         let fail = none-holds (openRules o) e in
         let seats = neither (ltb (o .seats) 1 || ltb 16 (o .seats)) (leb (o .seats) (5 * o .faults)) (fail .0) in
@@ -56,6 +55,14 @@ opened-group o opens = go (firstRefusal (openRules o)) refl opens
           accounts-fit = ltb-false 32 (o .accounts) (accounts .1);
           rest-zero = λ i above. all-zero (o .balances) (o .accounts) i (page .1) above;
           sum-fits = omega (arith, ltb-false 4_294_967_295 (sumOf (λ b. b) (o .balances)) (fail .1 .1 .0));
-          opened = rw e;
         }
     go (some q) e h = impossible (cc)
+
+-- an opening that is not refused leaves the ledger just opened, whatever ledger there was
+pub opened-fresh : (o : Opening) → openReply o ≡ Opened → (l : Ledger) → openLedger o l ≡ freshLedger o
+unfolding openReply openLedger
+opened-fresh o opens l = go (firstRefusal (openRules o)) opens
+  where
+    go : (q : Option Refusal) → openReplyBy q ≡ Opened → openLedgerBy q (freshLedger o) l ≡ freshLedger o
+    go none h = refl
+    go (some q) h = impossible (cc)

@@ -12,7 +12,7 @@ use Rattle.model.specs.Types.{Account, Transfer, Entry, Ledger, Opening,
 use Rattle.model.specs.Records.{freshLedger, noLedger, withAck, withProposed, entryOf}
 use Rattle.model.specs.Replies.{Choice, exactly, proposes, Outcome, Allows}
 use Rattle.model.specs.Refusals.{Rule, firstRefusal, pastNumber, futureNumber, rulesOf, listRules}
-use Rattle.model.specs.Openings.{openRules, openAnswer, openLedger}
+use Rattle.model.specs.Openings.{openRules, openReplyBy, openReply, openLedgerBy, openLedger}
 use Rattle.model.specs.Acks.{acksFor, acksRecorded, enough, mustPropose}
 use Rattle.model.specs.Calls.{payerOf, replied, replies, waits, tallied, effect, unlessRefused, finished, step, Answers, Lists, ListsUnlessRefused}
 use Rattle.model.proofs.Sums.{impossible}
@@ -114,16 +114,16 @@ pub not-refused : (l : Ledger) (m : Message) → firstRefusal (rulesIn l m) ≡ 
 unfolding step
 not-refused l m e = rw e
 
--- a refused opening yields the ledger with no seats and no accounts
-pub open-refused : (o : Opening) (r : Refusal) → openLedger o .reply ≡ OpenRefused r → openLedger o .ledger ≡ noLedger
-unfolding openLedger
-open-refused o r h = go (firstRefusal (openRules o)) h
+-- a refused opening leaves any ledger as it was
+pub open-refused : (o : Opening) (r : Refusal) → openReply o ≡ OpenRefused r → (l : Ledger) → openLedger o l ≡ l
+unfolding openReply openLedger
+open-refused o r h l = go (firstRefusal (openRules o)) h
   where
-    go : (q : Option Refusal) → openAnswer q (freshLedger o) .reply ≡ OpenRefused r → openAnswer q (freshLedger o) .ledger ≡ noLedger
+    go : (q : Option Refusal) → openReplyBy q ≡ OpenRefused r → openLedgerBy q (freshLedger o) l ≡ l
     go none h = impossible (cc)
     go (some q) h = refl
 
--- and that ledger refuses every message: acks with 4, all others with 5
+-- the ledger with no seats and no accounts, which words that are all 0 are, refuses every message: acks with 4, all others with 5
 pub no-ledger-refuses : (m : Message) → (r : Refusal) × (step noLedger m ≡ refusal r noLedger)
 no-ledger-refuses m = (first m .0, refuses noLedger m (first m .0) (first m .1))
   where

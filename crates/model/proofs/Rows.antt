@@ -7,11 +7,11 @@ use lib.Dec.{eqb}
 use lib.ListN.{length, getD, take, replicate}
 use Rattle.model.specs.Types.{Transfer, Slot, Empty, Full, AckSlot, Ledger, Opening, Refusal, Message, Request, Circulated, Ack, Decision, Inquiry, Propose, ListReply, Listed, ListRefused}
 use Rattle.model.specs.Basics.{every}
-use Rattle.model.specs.Records.{seatOf, accountOf}
+use Rattle.model.specs.Records.{seatOf, accountOf, noLedger}
 use Rattle.model.specs.Transfers.{equal}
 use Rattle.model.specs.Replies.{letterOf, valuesOf, valuesOfTransfer, valuesOfOpen, valuesOfList, valuesOfBundle, Choice, exactly, proposes}
 use Rattle.model.specs.Refusals.{firstRefusal, listRules}
-use Rattle.model.specs.Openings.{openLedger}
+use Rattle.model.specs.Openings.{openReply, openLedger}
 use Rattle.model.specs.Acks.{enough, hasMost}
 use Rattle.model.specs.Calls.{step}
 use Rattle.model.specs.Bundles.{bodySum, badCount, checkBundle, pageAt, messageOf, openingOf, Reading, taken, noMore, readNext}
@@ -147,10 +147,10 @@ took (noMore stays) kinds place = same [] kinds && eqb stays place
 -- what it means that a row holds of the definitions
 abbrev pub rowHolds : Row → Bool
 rowHolds (acksNeeded n f c) = enough n f c && not (enough n f (c - 1))
-rowHolds (opens o said) = same (valuesOfOpen (openLedger o .reply)) said
-rowHolds (runs n f balances asked final) = allAnswered (openLedger (pageWith n f balances) .ledger) asked final
+rowHolds (opens o said) = same (valuesOfOpen (openReply o)) said
+rowHolds (runs n f balances asked final) = allAnswered (openLedger (pageWith n f balances) noLedger) asked final
 rowHolds (proposals n f balances before m may mayNot) =
-    let choice = step (after (openLedger (pageWith n f balances) .ledger) before) m .choice in
+    let choice = step (after (openLedger (pageWith n f balances) noLedger) before) m .choice in
     every (mayPropose choice) may && every (λ t. not (mayPropose choice t)) mayNot
 rowHolds (lists size said) = same (valuesOfList (listReply (firstRefusal (listRules (replicate size 0))))) said
 rowHolds (sums bytes s) = eqb (bodySum bytes) s

@@ -12,10 +12,10 @@ use lib.ListN.{length, drop, List·getD-map}
 use borrow.Author.Tests.{leb-true, le-leb, ltb-false, eq-eqb, ne-eqb}
 use Rattle.model.specs.Types.{Transfer, Slot, Empty, Full, AckSlot, Entry, Ledger, Opening, Refusal, Message, Reply, Propose, ListReply, Listed, ListRefused}
 use Rattle.model.specs.Basics.{bit, sumOf, every, count}
-use Rattle.model.specs.Records.{accountOf, freshEntry, entryAt, sumBalances, emptyPage, freshLedger}
+use Rattle.model.specs.Records.{accountOf, freshEntry, entryAt, sumBalances, emptyPage, freshLedger, noLedger}
 use Rattle.model.specs.Replies.{Choice, exactly, proposes, Allows}
 use Rattle.model.specs.Refusals.{firstRefusal, listRules}
-use Rattle.model.specs.Openings.{openRules, openAnswer, openLedger}
+use Rattle.model.specs.Openings.{openRules, openLedgerBy, openLedger}
 use Rattle.model.specs.Acks.{acksFor, noMoreThan, hasMost}
 use Rattle.model.specs.Settling.{isWaiting}
 use Rattle.model.specs.Calls.{step, Answers, WaitingAccounts, ListsUnlessRefused, Lists}
@@ -118,13 +118,17 @@ fresh-bounded o fits =
       recipients = λ a t h. impossible (cc (h, ap (λ (e : Entry). e .pending) (List·getD-map freshEntry (o .balances) (a .0) 0)));
     }
 
--- a just opened ledger, and the one that a refused opening yields, has the bounds under which settling keeps the sum of balances
-pub open-bounded : (o : Opening) → Bounded (openLedger o .ledger .entries)
+-- the ledger with no seats and no accounts has the bounds under which settling keeps the sum of balances
+pub no-ledger-bounded : Bounded (noLedger .entries)
+no-ledger-bounded = fresh-bounded emptyPage (lit< tt)
+
+-- an opening, refused or not, leaves a bounded ledger bounded
+pub open-bounded : (o : Opening) (l : Ledger) → Bounded (l .entries) → Bounded (openLedger o l .entries)
 unfolding openLedger
-open-bounded o = go (firstRefusal (openRules o)) refl
+open-bounded o l before = go (firstRefusal (openRules o)) refl
   where
-    go : (q : Option Refusal) → firstRefusal (openRules o) ≡ q → Bounded (openAnswer q (freshLedger o) .ledger .entries)
+    go : (q : Option Refusal) → firstRefusal (openRules o) ≡ q → Bounded (openLedgerBy q (freshLedger o) l .entries)
     go none e =
         let sum-passed = none-holds (openRules o) e .1 .1 .0 in
         fresh-bounded o (omega (arith, ltb-false 4_294_967_295 (sumOf (λ b. b) (o .balances)) sum-passed))
-    go (some r) e = fresh-bounded emptyPage (lit< tt)
+    go (some r) e = before

@@ -5,9 +5,9 @@ use mathlib.Core.List.{List, [], _∷_}
 use mathlib.Core.Option.{Option, none, some}
 use lib.Dec.{leb, ltb, eqb}
 use lib.ListN.{drop}
-use Rattle.model.specs.Types.{Ledger, Opening, Refusal, BadGroup, BadAccounts, SumTooLarge, Opened, OpenRefused, OpenAnswer}
+use Rattle.model.specs.Types.{Ledger, Opening, Refusal, BadGroup, BadAccounts, SumTooLarge, OpenReply, Opened, OpenRefused}
 use Rattle.model.specs.Basics.{any, sumOf}
-use Rattle.model.specs.Records.{freshLedger, noLedger}
+use Rattle.model.specs.Records.{freshLedger}
 use Rattle.model.specs.Refusals.{Rule, firstRefusal}
 
 -- 1: n outside 1 to 16, or 5 × f ≥ n
@@ -26,10 +26,19 @@ sumTooLarge o = ltb 4_294_967_295 (sumOf (λ b. b) (o .balances))
 abbrev pub openRules : Opening → List Rule
 openRules o = (badGroup o, BadGroup) ∷ (badAccounts o, BadAccounts) ∷ (sumTooLarge o, SumTooLarge) ∷ []
 
--- the refusal with no ledger, or the ledger just opened
-abbrev pub openAnswer : Option Refusal → Ledger → OpenAnswer
-openAnswer none l = record { reply = Opened; ledger = l }
-openAnswer (some r) l = record { reply = OpenRefused r; ledger = noLedger }
+-- what an opening replies
+abbrev pub openReplyBy : Option Refusal → OpenReply
+openReplyBy none = Opened
+openReplyBy (some r) = OpenRefused r
 
-unfoldable pub openLedger : Opening → OpenAnswer
-openLedger o = openAnswer (firstRefusal (openRules o)) (freshLedger o)
+unfoldable pub openReply : Opening → OpenReply
+openReply o = openReplyBy (firstRefusal (openRules o))
+
+-- "A refusal replies its code and changes nothing.": the ledger just opened, or the one that there was before
+abbrev pub openLedgerBy : Option Refusal → Ledger → Ledger → Ledger
+openLedgerBy none opened before = opened
+openLedgerBy (some r) opened before = before
+
+-- the ledger after an opening from the page, given the one before it
+unfoldable pub openLedger : Opening → Ledger → Ledger
+openLedger o before = openLedgerBy (firstRefusal (openRules o)) (freshLedger o) before

@@ -89,7 +89,7 @@ freshLedger o =
 abbrev pub emptyPage : Opening
 emptyPage = record { seats = 0; faults = 0; accounts = 0; balances = replicate 32 0 }
 
--- the ledger that a refused opening yields: no seats, no accounts and no balances
+-- the ledger with no seats, no accounts and no balances
 abbrev pub noLedger : Ledger
 noLedger = freshLedger emptyPage
 

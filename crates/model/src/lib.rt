@@ -1,4 +1,4 @@
-// The types of the credit ledger and of its bundles. What they mean is said in specs/.
+// The types of the credit ledger's calls and of its bundles. What they mean is said in specs/, and what a ledger is too: no code holds one.
 // A comment names document 01's word where ours is another.
 
 // A seat's number, from 0. A type of its own, so that it never stands where an account's number is wanted.
@@ -20,39 +20,6 @@ pub struct Transfer {
 pub enum Slot {
     Empty,
     Full(Transfer),
-}
-
-// One seat's ack for the next number. (A struct of its own, since a field may not be an array of enums.)
-pub struct AckSlot {
-    pub slot: Slot,
-}
-
-// What the ledger holds for one account.
-pub struct Entry {
-    pub balance: u32,
-    // the last number that was applied (booked), 0 at opening
-    pub current: u32,
-    // this seat has acked the next number
-    pub acked: bool,
-    // each seat's ack for the next number
-    pub acks: [AckSlot; 16],
-    // a transfer was proposed (put forward) for the next number
-    pub proposed: bool,
-    // the accepted transfer that waits, if any
-    pub pending: Slot,
-}
-
-// Document 01: book. One seat's record.
-pub struct Ledger {
-    // n
-    pub seats: u8,
-    // f: how many seats may misbehave
-    pub faults: u8,
-    // k
-    pub accounts: u8,
-    // the opening sum
-    pub total: u32,
-    pub entries: [Entry; 32],
 }
 
 // The opening page.
@@ -109,22 +76,10 @@ pub enum Reply {
     Refuse(Refusal),
 }
 
-// A message's reply with the ledger after it.
-pub struct Answer {
-    pub reply: Reply,
-    pub ledger: Ledger,
-}
-
 // What an opening is answered.
 pub enum OpenReply {
     Opened,
     OpenRefused(Refusal),
-}
-
-// An opening's reply with the ledger that it yields.
-pub struct OpenAnswer {
-    pub reply: OpenReply,
-    pub ledger: Ledger,
 }
 
 // What the waiting list is answered: how many accounts were written.

@@ -7,8 +7,7 @@ use native.Mathlib.Omega.{arith}
 use mathlib.Core.Path.{_≡_, refl, ap, sym, _∙_}
 use mathlib.Core.List.{List, [], _++_, append-assoc, append-nil}
 use lib.ListN.{length}
-use Rattle.model.specs.declared.Entry.{Entry}
-use Rattle.model.specs.declared.Ledger.{Ledger}
+use Rattle.model.specs.Types.{Entry, Ledger}
 use Rattle.model.specs.Records.{accountOf, freshEntry, entryOf}
 use Rattle.settling.specs.declared.Funds.{Funds}
 use Rattle.settling.specs.Funds.{fundsOf}

@@ -4,7 +4,7 @@ use Prim.Native.Nat.{ℕ, zero, suc, _-_}
 use mathlib.Core.Path.{_≡_, refl, ap, _∙_}
 use mathlib.Core.List.{List, [], _++_}
 use mathlib.Core.Option.{Option, none, some}
-use Rattle.model.specs.declared.Ledger.{Ledger}
+use Rattle.model.specs.Types.{Ledger}
 use Rattle.model.specs.declared.Message.{Message}
 use Rattle.model.specs.declared.OpenReply.{OpenReply}
 use Rattle.model.specs.declared.OpenReply.the-variants.{Opened, OpenRefused}

@@ -7,10 +7,8 @@ use mathlib.Core.Path.{_≡_, refl, subst}
 use mathlib.Core.List.{List, [], _++_, append-assoc}
 use mathlib.Core.Option.{Option, none, some}
 use lib.ListN.{length}
-use Rattle.model.specs.declared.Entry.{Entry}
-use Rattle.model.specs.declared.Ledger.{Ledger}
+use Rattle.model.specs.Types.{Entry, Ledger, Answer}
 use Rattle.model.specs.declared.Message.{Message}
-use Rattle.model.specs.declared.Answer.{Answer}
 use Rattle.model.specs.Replies.{Meets}
 use Rattle.model.specs.Calls.{step}
 use Rattle.model.specs.Bundles.{entryCount, Page, pageAt, messageOf}

@@ -2,7 +2,7 @@
 use Prim.Native.Nat.{ℕ, _-_}
 use mathlib.Core.Path.{_≡_}
 use mathlib.Core.List.{List, [], _∷_}
-use Rattle.model.specs.declared.Ledger.{Ledger}
+use Rattle.model.specs.Types.{Ledger}
 use Rattle.model.specs.declared.Refusal.{Refusal}
 use Rattle.model.specs.declared.ListReply.{ListReply}
 use Rattle.model.specs.declared.ListReply.the-variants.{ListRefused}

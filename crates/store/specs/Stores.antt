@@ -7,8 +7,7 @@ use lib.Dec.{leb, ltb}
 use Rattle.model.specs.declared.Seat.{Seat}
 use Rattle.model.specs.declared.Account.{Account}
 use Rattle.model.specs.declared.Transfer.{Transfer}
-use Rattle.model.specs.declared.Entry.{Entry}
-use Rattle.model.specs.declared.Ledger.{Ledger}
+use Rattle.model.specs.Types.{Entry, Ledger}
 use Rattle.model.specs.Records.{entryOf, withEntry, withAck, withPending}
 use Rattle.layout.specs.Layout.{Block, ledgerIn}
 

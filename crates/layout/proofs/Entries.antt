@@ -13,7 +13,7 @@ use Rattle.model.specs.declared.Seat.{Seat}
 use Rattle.model.specs.declared.Account.{Account}
 use Rattle.model.specs.declared.Transfer.{Transfer}
 use Rattle.model.specs.declared.Slot.the-variants.{Empty, Full}
-use Rattle.model.specs.declared.Entry.{Entry}
+use Rattle.model.specs.Types.{Entry}
 use Rattle.model.specs.Records.{entryOf, withEntry, withBalance, withAcked, withAck, withProposed, withPending}
 use Rattle.model.specs.Refusals.{ackFrom}
 use Rattle.layout.specs.Layout.{blockWords, groupPlace, bookWords, Block, block, currentIn, slotBy, ackIn, tableFrom, entryBy, entriesIn, ledgerIn}

@@ -8,7 +8,8 @@ use lib.Dec.{eqb, leb, ltb}
 use lib.ListN.{getD}
 use Rattle.model.specs.declared.Slot.{Slot}
 use Rattle.model.specs.declared.Slot.the-variants.{Empty, Full}
-use Rattle.model.specs.Types.{Account, AckSlot, Entry, Ledger}
+use Rattle.model.specs.declared.Account.{Account}
+use Rattle.model.specs.Types.{AckSlot, Entry, Ledger}
 use Rattle.model.specs.Records.{accountOf, entryOf}
 
 -- how many words an account's block has, where the group's words begin, and how many words a book has

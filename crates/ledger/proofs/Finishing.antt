@@ -3,12 +3,12 @@ use mathlib.Core.Path.{_≡_, refl, ap, _∙_}
 use mathlib.Core.List.{List, map}
 use lib.ListN.{length}
 use Rattle.model.specs.declared.Account.{Account}
-use Rattle.model.specs.declared.Entry.{Entry}
-use Rattle.model.specs.declared.Ledger.{Ledger}
+use Rattle.model.specs.Types.{Entry}
+use Rattle.model.specs.Types.{Ledger}
 use Rattle.model.specs.declared.Message.{Message}
 use Rattle.model.specs.declared.Reply.{Reply}
 use Rattle.model.specs.declared.Reply.the-variants.{Accept}
-use Rattle.model.specs.declared.Answer.{Answer}
+use Rattle.model.specs.Types.{Answer}
 use Rattle.model.specs.Records.{entryOf, withEntries, withEntry}
 use Rattle.model.specs.Replies.{Meets}
 use Rattle.model.specs.Settling.{settle}

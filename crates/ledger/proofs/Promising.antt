@@ -4,11 +4,11 @@ use mathlib.Core.Path.{_≡_, refl, ap, _∙_}
 use mathlib.Core.List.{List, [], _∷_}
 use mathlib.Core.Option.{Option, none, some}
 use lib.ListN.{length}
-use Rattle.model.specs.declared.Ledger.{Ledger}
+use Rattle.model.specs.Types.{Ledger}
 use Rattle.model.specs.declared.Opening.{Opening}
 use Rattle.model.specs.declared.Refusal.{Refusal}
 use Rattle.model.specs.declared.Message.{Message}
-use Rattle.model.specs.declared.Answer.{Answer}
+use Rattle.model.specs.Types.{Answer}
 use Rattle.model.specs.declared.OpenAnswer.{OpenAnswer}
 use Rattle.model.specs.declared.ListReply.{ListReply}
 use Rattle.model.specs.Records.{freshLedger}

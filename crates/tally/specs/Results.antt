@@ -7,7 +7,7 @@ use Rattle.model.specs.declared.Seat.{Seat}
 use Rattle.model.specs.declared.Account.{Account}
 use Rattle.model.specs.declared.Transfer.{Transfer}
 use Rattle.model.specs.declared.Slot.{Slot}
-use Rattle.model.specs.declared.AckSlot.{AckSlot}
+use Rattle.model.specs.Types.{AckSlot}
 use Rattle.model.specs.Basics.{bit}
 use Rattle.model.specs.Acks.{holds, isFull, acksFor, acksRecorded, mustPropose, noMoreThan}
 use Rattle.model.specs.Refusals.{ackFrom}

@@ -10,7 +10,7 @@ use borrow.Author.Needs.{needs}
 use borrow.Fn.Kinds.{In}
 use borrow.Fn.PlainCycle.{Measures, is, falls, and}
 use Rattle.model.specs.declared.Account.{Account}
-use Rattle.model.specs.declared.Entry.{Entry}
+use Rattle.model.specs.Types.{Entry}
 use Rattle.settling.specs.declared.Found.{Found}
 use Rattle.settling.specs.declared.Found.the-variants.{At}
 use Rattle.settling.specs.declared.Funds.{Funds}

@@ -8,7 +8,7 @@ use lib.Seq.{set-out}
 use Rattle.model.specs.declared.Account.{Account}
 use Rattle.model.specs.declared.Transfer.{Transfer}
 use Rattle.model.specs.declared.Slot.the-variants.{Empty, Full}
-use Rattle.model.specs.declared.Entry.{Entry}
+use Rattle.model.specs.Types.{Entry}
 use Rattle.model.specs.Records.{freshEntry, entryAt}
 use Rattle.model.specs.Settling.{credited, credit, debited, apply}
 use Rattle.settling.specs.declared.Funds.{Funds}

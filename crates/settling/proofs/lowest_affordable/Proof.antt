@@ -7,7 +7,7 @@ use mathlib.Core.List.{List}
 use mathlib.Core.Option.{Option·map}
 use lib.ListN.{length}
 use borrow.Author.Needs.{needs}
-use Rattle.model.specs.declared.Entry.{Entry}
+use Rattle.model.specs.Types.{Entry}
 use Rattle.model.specs.Records.{accountOf, freshEntry, entryAt}
 use Rattle.model.specs.Settling.{affordable, lowestAffordable}
 use Rattle.settling.specs.Results.{foundOf}

@@ -9,7 +9,7 @@ use borrow.Author.Tests.{le-leb}
 use Rattle.model.specs.declared.Transfer.{Transfer}
 use Rattle.model.specs.declared.Slot.{Slot}
 use Rattle.model.specs.declared.Slot.the-variants.{Full}
-use Rattle.model.specs.declared.AckSlot.{AckSlot}
+use Rattle.model.specs.Types.{AckSlot}
 use Rattle.model.specs.Acks.{acksFor, noMoreThan}
 use Rattle.tally.specs.declared.Tally.{Tally}
 use Rattle.tally.specs.Results.{tallyOf}

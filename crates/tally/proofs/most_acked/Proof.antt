@@ -11,7 +11,7 @@ use borrow.Author.Tests.{le-leb, leb-true}
 use Rattle.model.specs.declared.Transfer.{Transfer}
 use Rattle.model.specs.declared.Slot.{Slot}
 use Rattle.model.specs.declared.Slot.the-variants.{Empty, Full}
-use Rattle.model.specs.declared.AckSlot.{AckSlot}
+use Rattle.model.specs.Types.{AckSlot}
 use Rattle.model.specs.Acks.{acksFor, noMoreThan, hasMost}
 use Rattle.basics.proofs.Counting.{every-at}
 use Rattle.tally.proofs.most_acked.Statement.{statement}

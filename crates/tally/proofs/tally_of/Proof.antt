@@ -6,7 +6,7 @@ use mathlib.Core.List.{List}
 use lib.ListN.{length, getD}
 use Rattle.model.specs.declared.Transfer.{Transfer}
 use Rattle.model.specs.declared.Slot.the-variants.{Empty}
-use Rattle.model.specs.declared.AckSlot.{AckSlot}
+use Rattle.model.specs.Types.{AckSlot}
 use Rattle.model.specs.Acks.{holds, isFull}
 use Rattle.tally.specs.declared.Tally.{Tally}
 use Rattle.tally.specs.Results.{tallyOf, counted}

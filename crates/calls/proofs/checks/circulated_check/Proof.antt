@@ -1,7 +1,7 @@
 -- What every transfer meets comes first; then the mark, then the funds.
 use mathlib.Core.Path.{sym, _∙_}
 use mathlib.Core.List.{List, [], _∷_}
-use Rattle.model.specs.declared.Entry.{Entry}
+use Rattle.model.specs.Types.{Entry}
 use Rattle.model.specs.declared.Transfer.{Transfer}
 use Rattle.model.specs.declared.Refusal.the-variants.{AlreadyAcked, InsufficientFunds}
 use Rattle.model.specs.Refusals.{Rule, aboveBalance, transferRules}

@@ -1,4 +1,4 @@
--- What the functions' proofs share. Each function's own proof stands in the folder of its module.
+-- Laws of the tests, and from what a call computed to what it promises.
 pub mod Rules
-pub mod Taking
-pub mod Stepping
+pub mod Waiters
+pub mod Ranges

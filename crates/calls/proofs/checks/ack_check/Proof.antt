@@ -1,24 +1,30 @@
 -- The seat comes first, then what every transfer meets, then the ack that this seat has recorded.
-use mathlib.Core.Path.{sym, _∙_}
+use mathlib.Core.Path.{_≡_, sym, _∙_}
 use mathlib.Core.List.{List, [], _∷_}
+use borrow.Author.Needs.{needs}
 use borrow.Author.Tests.{le-leb, lt-leb}
-use Rattle.model.specs.declared.Seat.{Seat}
-use Rattle.model.specs.Types.{Entry}
 use Rattle.model.specs.declared.Transfer.{Transfer}
+use Rattle.model.specs.declared.Seat.{Seat}
 use Rattle.model.specs.declared.Refusal.the-variants.{AckRepeated, AckConflicting}
+use Rattle.model.specs.Types.{Entry}
 use Rattle.model.specs.Acks.{holds, conflicts}
 use Rattle.model.specs.Refusals.{Rule, ackFrom, transferRules}
-use Rattle.turns.proofs.Rules.{passes, fails}
-use borrow.Author.Needs.{needs}
-use Rattle.turns.proofs.checks.ack_check.Statement.{statement}
-use Rattle.turns.proofs.checks.ack_check.Tie as tie
+use Rattle.layout.specs.Layout.{ledgerIn, entryIn}
+use Rattle.basics.proofs.ReadBack.{passed}
+use Rattle.calls.proofs.Rules.{passes, fails}
+use Rattle.calls.proofs.Ranges.{fits, seat-place}
+use Rattle.calls.proofs.checks.ack_check.Statement.{statement}
+use Rattle.calls.proofs.checks.ack_check.Tie as tie
 
 -- the rules after those that every transfer meets
 abbrev after : Entry → Seat → Transfer → List Rule
 after e s t = (holds t (ackFrom e s), AckRepeated) ∷ (conflicts t (ackFrom e s), AckConflicting) ∷ []
 
+seats-of-requires : tie.Need-seats-of-requires
+seats-of-requires c κs = search needs
+
 returns : tie.Need-returns
-returns c = rw (le-leb _ _ (c .if1 .taken))
+returns c = rw (← c .before .before .seats-of .ensures, le-leb _ _ (c .if1 .taken))
 
 transfer-check-requires : tie.Need-transfer-check-requires
 transfer-check-requires c κs = search needs
@@ -30,50 +36,36 @@ enum-told : tie.Need-enum-told
 enum-told c = search needs
 
 ack-from-requires : tie.Need-ack-from-requires
-ack-from-requires c κs = search needs
+ack-from-requires c κs = (c .before .before .before .before .before .before .before .pre, (fits (c .before .before .before .before .before .before .before .args .words .now) (c .before .before .before .before .before .before .before .args .t) (passed _ (sym (c .before .before .transfer-check .ensures) ∙ c .enum-told .given .1)) .range .account, seat-place (c .before .before .before .before .before .before .before .args .words .now) (c .before .before .before .before .before .before .before .args .s) (rw (← c .before .before .before .before .before .seats-of .ensures, lt-leb _ _ (c .before .before .before .if1 .left)))))
 
 is-held-requires : tie.Need-is-held-requires
 is-held-requires c κs = search needs
 
 returns-2 : tie.Need-returns-2
 returns-2 c =
-    let a = c .before .before .before .before .before .before .before .before .before .args in
-    let passed = sym (c .before .before .before .enum-told .given .1) ∙ c .before .before .before .before .before .transfer-check .ensures in
-    rw (lt-leb _ _ (c .before .before .before .before .before .before .if1 .left)) (passes (transferRules (a .l) (a .e) (a .t)) (after (a .e) (a .s) (a .t)) _ passed (rw (← c .before .before .ack-from .ensures, ← c .before .is-held .ensures, c .if2 .taken)))
+    let recorded = c .before .before .ack-from .ensures (fits (c .before .before .before .before .before .before .before .before .before .before .args .words .now) (c .before .before .before .before .before .before .before .before .before .before .args .t) (passed _ (sym (c .before .before .before .before .before .transfer-check .ensures) ∙ c .before .before .before .enum-told .given .1)) .next) in
+    rw (← c .before .before .before .before .before .before .before .before .seats-of .ensures, lt-leb _ _ (c .before .before .before .before .before .before .if1 .left))
+    (passes (transferRules (ledgerIn (c .before .before .before .before .before .before .before .before .before .before .args .words .now)) (entryIn (c .before .before .before .before .before .before .before .before .before .before .args .words .now) (c .before .before .before .before .before .before .before .before .before .before .args .t .account)) (c .before .before .before .before .before .before .before .before .before .before .args .t)) (after (entryIn (c .before .before .before .before .before .before .before .before .before .before .args .words .now) (c .before .before .before .before .before .before .before .before .before .before .args .t .account)) (c .before .before .before .before .before .before .before .before .before .before .args .s) (c .before .before .before .before .before .before .before .before .before .before .args .t)) _ (sym (c .before .before .before .enum-told .given .1) ∙ c .before .before .before .before .before .transfer-check .ensures) (rw (← recorded, ← c .before .is-held .ensures, c .if2 .taken)))
 
 is-against-requires : tie.Need-is-against-requires
 is-against-requires c κs = search needs
 
 returns-3 : tie.Need-returns-3
 returns-3 c =
-    let a = c .before .before .before .before .before .before .before .before .before .before .before .args in
-    let passed = sym (c .before .before .before .before .before .enum-told .given .1) ∙ c .before .before .before .before .before .before .before .transfer-check .ensures in
-    rw (lt-leb _ _ (c .before .before .before .before .before .before .before .before .if1 .left)) (passes (transferRules (a .l) (a .e) (a .t)) (after (a .e) (a .s) (a .t)) _ passed (rw (← c .before .before .before .before .ack-from .ensures, ← c .before .before .before .is-held .ensures, c .before .before .if2 .left, ← c .before .is-against .ensures, c .if3 .taken)))
+    let recorded = c .before .before .before .before .ack-from .ensures (fits (c .before .before .before .before .before .before .before .before .before .before .before .before .args .words .now) (c .before .before .before .before .before .before .before .before .before .before .before .before .args .t) (passed _ (sym (c .before .before .before .before .before .before .before .transfer-check .ensures) ∙ c .before .before .before .before .before .enum-told .given .1)) .next) in
+    rw (← c .before .before .before .before .before .before .before .before .before .before .seats-of .ensures, lt-leb _ _ (c .before .before .before .before .before .before .before .before .if1 .left))
+    (passes (transferRules (ledgerIn (c .before .before .before .before .before .before .before .before .before .before .before .before .args .words .now)) (entryIn (c .before .before .before .before .before .before .before .before .before .before .before .before .args .words .now) (c .before .before .before .before .before .before .before .before .before .before .before .before .args .t .account)) (c .before .before .before .before .before .before .before .before .before .before .before .before .args .t)) (after (entryIn (c .before .before .before .before .before .before .before .before .before .before .before .before .args .words .now) (c .before .before .before .before .before .before .before .before .before .before .before .before .args .t .account)) (c .before .before .before .before .before .before .before .before .before .before .before .before .args .s) (c .before .before .before .before .before .before .before .before .before .before .before .before .args .t)) _ (sym (c .before .before .before .before .before .enum-told .given .1) ∙ c .before .before .before .before .before .before .before .transfer-check .ensures) (rw (← recorded, ← c .before .before .before .is-held .ensures, c .before .before .if2 .left, ← c .before .is-against .ensures, c .if3 .taken)))
 
 returns-4 : tie.Need-returns-4
 returns-4 c =
-    let a = c .before .before .before .before .before .before .before .args in
-    let failed = sym (c .before .r .given .1) ∙ c .before .before .before .transfer-check .ensures in
-    rw (lt-leb _ _ (c .before .before .before .before .if1 .left)) (fails (transferRules (a .l) (a .e) (a .t)) (after (a .e) (a .s) (a .t)) _ failed)
+    rw (← c .before .before .before .before .before .before .seats-of .ensures, lt-leb _ _ (c .before .before .before .before .if1 .left))
+    (fails (transferRules (ledgerIn (c .before .before .before .before .before .before .before .before .args .words .now)) (entryIn (c .before .before .before .before .before .before .before .before .args .words .now) (c .before .before .before .before .before .before .before .before .args .t .account)) (c .before .before .before .before .before .before .before .before .args .t)) (after (entryIn (c .before .before .before .before .before .before .before .before .args .words .now) (c .before .before .before .before .before .before .before .before .args .t .account)) (c .before .before .before .before .before .before .before .before .args .s) (c .before .before .before .before .before .before .before .before .args .t)) _ (sym (c .before .r .given .1) ∙ c .before .before .before .transfer-check .ensures))
 
 returns-5 : tie.Need-returns-5
 returns-5 c =
-    let a = c .before .before .before .before .before .before .before .before .before .before .before .args in
-    let passed = sym (c .before .before .before .before .before .enum-told .given .1) ∙ c .before .before .before .before .before .before .before .transfer-check .ensures in
-    rw (lt-leb _ _ (c .before .before .before .before .before .before .before .before .if1 .left)) (passes (transferRules (a .l) (a .e) (a .t)) (after (a .e) (a .s) (a .t)) _ passed (rw (← c .before .before .before .before .ack-from .ensures, ← c .before .before .before .is-held .ensures, c .before .before .if2 .left, ← c .before .is-against .ensures, c .if3 .left)))
+    let recorded = c .before .before .before .before .ack-from .ensures (fits (c .before .before .before .before .before .before .before .before .before .before .before .before .args .words .now) (c .before .before .before .before .before .before .before .before .before .before .before .before .args .t) (passed _ (sym (c .before .before .before .before .before .before .before .transfer-check .ensures) ∙ c .before .before .before .before .before .enum-told .given .1)) .next) in
+    rw (← c .before .before .before .before .before .before .before .before .before .before .seats-of .ensures, lt-leb _ _ (c .before .before .before .before .before .before .before .before .if1 .left))
+    (passes (transferRules (ledgerIn (c .before .before .before .before .before .before .before .before .before .before .before .before .args .words .now)) (entryIn (c .before .before .before .before .before .before .before .before .before .before .before .before .args .words .now) (c .before .before .before .before .before .before .before .before .before .before .before .before .args .t .account)) (c .before .before .before .before .before .before .before .before .before .before .before .before .args .t)) (after (entryIn (c .before .before .before .before .before .before .before .before .before .before .before .before .args .words .now) (c .before .before .before .before .before .before .before .before .before .before .before .before .args .t .account)) (c .before .before .before .before .before .before .before .before .before .before .before .before .args .s) (c .before .before .before .before .before .before .before .before .before .before .before .before .args .t)) _ (sym (c .before .before .before .before .before .enum-told .given .1) ∙ c .before .before .before .before .before .before .before .transfer-check .ensures) (rw (← recorded, ← c .before .before .before .is-held .ensures, c .before .before .if2 .left, ← c .before .is-against .ensures, c .if3 .left)))
 
 pub ack-check-spec : {M : Type 1} → statement M
-ack-check-spec =
-    tie.close
-    (tie.spec
-    returns
-    transfer-check-requires
-    enum-known-r
-    enum-told
-    ack-from-requires
-    is-held-requires
-    returns-2
-    is-against-requires
-    returns-3
-    returns-4
-    returns-5)
+ack-check-spec = tie.close (tie.spec seats-of-requires returns transfer-check-requires enum-known-r enum-told ack-from-requires is-held-requires returns-2 is-against-requires returns-3 returns-4 returns-5)

@@ -1,14 +1,22 @@
 -- What every transfer meets comes first; then the mark, then the funds.
-use mathlib.Core.Path.{sym, _∙_}
+use mathlib.Core.Path.{_≡_, sym, _∙_}
 use mathlib.Core.List.{List, [], _∷_}
-use Rattle.model.specs.Types.{Entry}
+use borrow.Author.Needs.{needs}
+use borrow.Author.Tests.{lt-ltb, le-ltb}
 use Rattle.model.specs.declared.Transfer.{Transfer}
 use Rattle.model.specs.declared.Refusal.the-variants.{AlreadyAcked, InsufficientFunds}
+use Rattle.model.specs.Types.{Entry}
 use Rattle.model.specs.Refusals.{Rule, aboveBalance, transferRules}
-use Rattle.turns.proofs.Rules.{passes, fails}
-use borrow.Author.Needs.{needs}
-use Rattle.turns.proofs.checks.circulated_check.Statement.{statement}
-use Rattle.turns.proofs.checks.circulated_check.Tie as tie
+use Rattle.layout.specs.Layout.{ledgerIn, entryIn}
+use Rattle.basics.proofs.ReadBack.{passed}
+use Rattle.calls.proofs.Rules.{passes, fails}
+use Rattle.calls.proofs.Ranges.{fits}
+use Rattle.calls.proofs.checks.circulated_check.Statement.{statement}
+use Rattle.calls.proofs.checks.circulated_check.Tie as tie
+
+-- the rules after those that every transfer meets
+abbrev after : Entry → Transfer → List Rule
+after e t = (e .acked, AlreadyAcked) ∷ (aboveBalance e t, InsufficientFunds) ∷ []
 
 transfer-check-requires : tie.Need-transfer-check-requires
 transfer-check-requires c κs = search needs
@@ -19,40 +27,23 @@ enum-known-r c = search needs
 enum-told : tie.Need-enum-told
 enum-told c = search needs
 
--- the rules after those that every transfer meets
-abbrev after : Entry → Transfer → List Rule
-after e t = (e .acked, AlreadyAcked) ∷ (aboveBalance e t, InsufficientFunds) ∷ []
+is-acked-requires : tie.Need-is-acked-requires
+is-acked-requires c κs = (c .before .before .before .before .pre, fits (c .before .before .before .before .args .words .now) (c .before .before .before .before .args .t) (passed _ (sym (c .before .before .transfer-check .ensures) ∙ c .enum-told .given .1)) .range .account)
 
 returns : tie.Need-returns
-returns c =
-    let a = c .before .before .before .before .args in
-    let passed = sym (c .before .enum-told .given .1) ∙ c .before .before .before .transfer-check .ensures in
-    passes (transferRules (a .l) (a .e) (a .t)) (after (a .e) (a .t)) _ passed (rw (c .if1 .taken))
+returns c = passes (transferRules (ledgerIn (c .before .before .before .before .before .before .args .words .now)) (entryIn (c .before .before .before .before .before .before .args .words .now) (c .before .before .before .before .before .before .args .t .account)) (c .before .before .before .before .before .before .args .t)) (after (entryIn (c .before .before .before .before .before .before .args .words .now) (c .before .before .before .before .before .before .args .t .account)) (c .before .before .before .before .before .before .args .t)) _ (sym (c .before .before .enum-told .given .1) ∙ c .before .before .before .before .transfer-check .ensures) (rw (← c .before .is-acked .ensures, c .if1 .taken))
 
-lacks-funds-requires : tie.Need-lacks-funds-requires
-lacks-funds-requires c κs = search needs
+balance-of-requires : tie.Need-balance-of-requires
+balance-of-requires c κs = (c .before .before .before .before .before .before .pre, fits (c .before .before .before .before .before .before .args .words .now) (c .before .before .before .before .before .before .args .t) (passed _ (sym (c .before .before .before .before .transfer-check .ensures) ∙ c .before .before .enum-told .given .1)) .range .account)
 
 returns-2 : tie.Need-returns-2
-returns-2 c =
-    let a = c .before .before .before .before .before .before .args in
-    let passed = sym (c .before .before .before .enum-told .given .1) ∙ c .before .before .before .before .before .transfer-check .ensures in
-    passes (transferRules (a .l) (a .e) (a .t)) (after (a .e) (a .t)) _ passed
-    (rw (c .before .before .if1 .left, ← c .before .lacks-funds .ensures, c .if2 .taken))
+returns-2 c = passes (transferRules (ledgerIn (c .before .before .before .before .before .before .before .before .before .args .words .now)) (entryIn (c .before .before .before .before .before .before .before .before .before .args .words .now) (c .before .before .before .before .before .before .before .before .before .args .t .account)) (c .before .before .before .before .before .before .before .before .before .args .t)) (after (entryIn (c .before .before .before .before .before .before .before .before .before .args .words .now) (c .before .before .before .before .before .before .before .before .before .args .t .account)) (c .before .before .before .before .before .before .before .before .before .args .t)) _ (sym (c .before .before .before .before .before .enum-told .given .1) ∙ c .before .before .before .before .before .before .before .transfer-check .ensures) (rw (← c .before .before .before .before .is-acked .ensures, c .before .before .before .if1 .left, ← c .before .before .balance-of .ensures, lt-ltb _ _ (c .if2 .taken)))
 
 returns-3 : tie.Need-returns-3
-returns-3 c =
-    let a = c .before .before .before .before .args in
-    let failed = sym (c .before .r .given .1) ∙ c .before .before .before .transfer-check .ensures in
-    fails (transferRules (a .l) (a .e) (a .t)) (after (a .e) (a .t)) _ failed
+returns-3 c = fails (transferRules (ledgerIn (c .before .before .before .before .before .args .words .now)) (entryIn (c .before .before .before .before .before .args .words .now) (c .before .before .before .before .before .args .t .account)) (c .before .before .before .before .before .args .t)) (after (entryIn (c .before .before .before .before .before .args .words .now) (c .before .before .before .before .before .args .t .account)) (c .before .before .before .before .before .args .t)) _ (sym (c .before .r .given .1) ∙ c .before .before .before .transfer-check .ensures)
 
 returns-4 : tie.Need-returns-4
-returns-4 c =
-    let a = c .before .before .before .before .before .before .args in
-    let passed = sym (c .before .before .before .enum-told .given .1) ∙ c .before .before .before .before .before .transfer-check .ensures in
-    passes (transferRules (a .l) (a .e) (a .t)) (after (a .e) (a .t)) _ passed
-    (rw (c .before .before .if1 .left, ← c .before .lacks-funds .ensures, c .if2 .left))
+returns-4 c = passes (transferRules (ledgerIn (c .before .before .before .before .before .before .before .before .before .args .words .now)) (entryIn (c .before .before .before .before .before .before .before .before .before .args .words .now) (c .before .before .before .before .before .before .before .before .before .args .t .account)) (c .before .before .before .before .before .before .before .before .before .args .t)) (after (entryIn (c .before .before .before .before .before .before .before .before .before .args .words .now) (c .before .before .before .before .before .before .before .before .before .args .t .account)) (c .before .before .before .before .before .before .before .before .before .args .t)) _ (sym (c .before .before .before .before .before .enum-told .given .1) ∙ c .before .before .before .before .before .before .before .transfer-check .ensures) (rw (← c .before .before .before .before .is-acked .ensures, c .before .before .before .if1 .left, ← c .before .before .balance-of .ensures, le-ltb _ _ (c .if2 .left)))
 
 pub circulated-check-spec : {M : Type 1} → statement M
-circulated-check-spec =
-    tie.close
-    (tie.spec transfer-check-requires enum-known-r enum-told returns lacks-funds-requires returns-2 returns-3 returns-4)
+circulated-check-spec = tie.close (tie.spec transfer-check-requires enum-known-r enum-told is-acked-requires returns balance-of-requires returns-2 returns-3 returns-4)

@@ -1,7 +1,7 @@
 -- By cases on the place.
 use borrow.Author.Needs.{needs}
-use Rattle.turns.proofs.checks.waits.Statement.{statement}
-use Rattle.turns.proofs.checks.waits.Tie as tie
+use Rattle.calls.proofs.checks.waits.Statement.{statement}
+use Rattle.calls.proofs.checks.waits.Tie as tie
 
 enum-told : tie.Need-enum-told
 enum-told c = search needs

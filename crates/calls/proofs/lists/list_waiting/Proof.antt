@@ -1,0 +1,91 @@
+-- The loop keeps at the front of the buffer the accounts that wait among those it has passed, and behind them what the buffer held before.
+use Prim.Native.Nat.{_≤_, _<_, _-_}
+use native.Mathlib.Omega.{arith}
+use mathlib.Core.Path.{refl, ap, sym, _∙_}
+use mathlib.Core.Logic.{⊎-elim}
+use mathlib.Core.List.{[], _∷_}
+use lib.ListN.{length}
+use borrow.Author.Needs.{needs}
+use borrow.Author.Tests.{lt-ltb, le-ltb}
+use Rattle.model.specs.Records.{freshEntry}
+use Rattle.model.specs.Acks.{isFull}
+use Rattle.layout.specs.Layout.{ledgerIn}
+use Rattle.layout.proofs.Blocks.{entries-length}
+use Rattle.calls.proofs.Waiters.{ListedBelow, listed-none, listed-same, listed-more, listed-all}
+use Rattle.calls.proofs.lists.list_waiting.Statement.{statement}
+use Rattle.calls.proofs.lists.list_waiting.Tie as tie
+
+abbrev Inv-loop : tie.InvT-loop
+Inv-loop words buffer₀ n₀ i₀ buffer n i = (i ≤ 32) × ListedBelow (ledgerIn words .entries) i n buffer₀ buffer
+
+abbrev μ-loop : tie.MeasureT-loop
+μ-loop words buffer₀ n₀ i₀ buffer n i = 32 - i
+
+returns : tie.Need-returns Inv-loop μ-loop
+returns c = rw (lt-ltb _ _ (c .if1 .taken)) (refl, refl)
+
+loop-holds : tie.Need-loop-holds Inv-loop μ-loop
+loop-holds c = (omega arith, listed-none _ _)
+
+pending-of-requires : tie.Need-pending-of-requires Inv-loop μ-loop
+pending-of-requires c κs = (c .before .before .before .before .before .pre, omega arith)
+
+is-full-requires : tie.Need-is-full-requires Inv-loop μ-loop
+is-full-requires c κs = search needs
+
+cast-buffer : tie.Need-cast-buffer Inv-loop μ-loop
+cast-buffer c = omega arith
+
+slice-write-buffer : tie.Need-slice-write-buffer Inv-loop μ-loop
+slice-write-buffer c = omega arith
+
+add-n : tie.Need-add-n Inv-loop μ-loop
+add-n c = omega arith
+
+add-i : tie.Need-add-i Inv-loop μ-loop
+add-i c = omega arith
+
+loop-less : tie.Need-loop-less Inv-loop μ-loop
+loop-less c = omega arith
+
+loop-again : tie.Need-loop-again Inv-loop μ-loop
+loop-again c =
+    let at = c .before .before .before .before .loop in
+    let es = ledgerIn (c .before .before .before .before .before .before .before .before .args .words .now) .entries in
+    let inside : at .i < length es = omega (arith, entries-length (c .before .before .before .before .before .before .before .before .args .words .now)) in
+    let found = c .before .is-full .ensures ∙ ap isFull (c .before .before .pending-of .ensures) in (
+      omega arith,
+      ⊎-elim
+          (λ w. rw (w .1, w .2) (listed-more es _ _ _ (freshEntry 0) _ inside (at .inv .1) (sym found ∙ w .0 .taken) (omega arith)))
+          (λ w. rw (w .1, w .2) (listed-same es _ _ _ (freshEntry 0) _ inside (at .inv .1) (sym found ∙ w .0 .left)))
+          (c .if2 .came),
+    )
+
+same-length : tie.Need-same-length Inv-loop μ-loop
+same-length c = c .before .loop .inv .1 .size
+
+returns-2 : tie.Need-returns-2 Inv-loop μ-loop
+returns-2 c =
+    let at = c .before .loop in
+    let l = ledgerIn (c .before .before .before .before .before .args .words .now) in
+    let all : length (l .entries) ≤ at .i = omega (arith, entries-length (c .before .before .before .before .before .args .words .now)) in
+    rw (le-ltb _ _ (c .before .before .if1 .left)) (listed-all l _ _ _ _ all (at .inv .1))
+
+pub list-waiting-spec : {M : Type 1} → statement M
+list-waiting-spec =
+    tie.close
+    (tie.spec
+    Inv-loop
+    μ-loop
+    returns
+    loop-holds
+    pending-of-requires
+    is-full-requires
+    cast-buffer
+    slice-write-buffer
+    add-n
+    add-i
+    loop-less
+    loop-again
+    same-length
+    returns-2)

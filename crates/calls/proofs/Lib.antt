@@ -2,3 +2,4 @@
 pub mod Rules
 pub mod Waiters
 pub mod Ranges
+pub mod Taking

@@ -1,0 +1,127 @@
+-- From what a call computed to what it promises.
+use Prim.Native.Nat.{ℕ, _+_, _≤_, _<_}
+use native.Mathlib.Omega.{arith}
+use mathlib.Core.Path.{_≡_, refl, ap, sym, _∙_}
+use mathlib.Core.Bool.{Bool, true, false}
+use mathlib.Core.List.{List}
+use lib.ListN.{length, set, length-set}
+use lib.Seq.{getD-set-same}
+use Rattle.model.specs.declared.Seat.{Seat}
+use Rattle.model.specs.declared.Account.{Account}
+use Rattle.model.specs.declared.Transfer.{Transfer}
+use Rattle.model.specs.declared.Slot.the-variants.{Empty, Full}
+use Rattle.model.specs.Types.{AckSlot, Entry, Ledger}
+use Rattle.model.specs.declared.Refusal.{Refusal}
+use Rattle.model.specs.declared.Message.{Message}
+use Rattle.model.specs.declared.Message.the-variants.{Ack}
+use Rattle.model.specs.declared.Reply.{Reply}
+use Rattle.model.specs.declared.Reply.the-variants.{Accept, Refuse, Note, Propose}
+use Rattle.model.specs.Basics.{bit}
+use Rattle.model.specs.Records.{withAck, withPending, withProposed, withEntry}
+use Rattle.model.specs.Acks.{holds, acksFor, acksRecorded, enough, mustPropose, hasMost}
+use Rattle.model.specs.Refusals.{firstRefusal}
+use Rattle.model.specs.Calls.{Due, replied, accepts, Effect, tallied, waits, finishedBy, finished}
+use Rattle.model.proofs.Equality.{equal-refl}
+use Rattle.model.proofs.Sums.{impossible, sum-at-least}
+use Rattle.model.proofs.Access.{set-entry-twice, with-entry-read, with-entry-same}
+use Rattle.model.proofs.Refusing.{rulesIn, effectIn, refuses, not-refused}
+use Rattle.layout.specs.Layout.{ledgerIn, entryIn}
+use Rattle.layout.proofs.Blocks.{entries-length}
+use Rattle.basics.specs.declared.results.Check.{Check}
+use Rattle.basics.specs.declared.results.Check.the-variants.{Passed, Failed}
+use Rattle.basics.specs.Results.{checkOf}
+use Rattle.basics.proofs.ReadBack.{passed, failed}
+use Rattle.settling.specs.Results.{Settles}
+use Rattle.tally.specs.declared.Tally.{Tally}
+use Rattle.tally.specs.Results.{tallyOf}
+use Rattle.calls.specs.Promises.{Turned, Taken}
+
+-- A message whose rules were tried: refused with the words as they were, or served by its effect.
+module _ (ws : List ℕ) (m : Message) (q : Check) (q-is : q ≡ checkOf (firstRefusal (rulesIn (ledgerIn ws) m))) where
+  pub refused : (r : Refusal) → q ≡ Failed r → Turned ws m (Refuse r) ws
+  refused r found =
+      let step-is = refuses (ledgerIn ws) m r (failed (firstRefusal (rulesIn (ledgerIn ws) m)) r (sym q-is ∙ found)) in
+      record { meets = rw step-is (refl, refl); kept = λ code e. refl }
+
+  pub served : (r : Reply) (after : List ℕ) → q ≡ Passed → Taken (effectIn (ledgerIn ws) m) r after → Turned ws m r after
+  served r after found x =
+      let step-is = not-refused (ledgerIn ws) m (passed (firstRefusal (rulesIn (ledgerIn ws) m)) (sym q-is ∙ found)) in
+      record { meets = rw step-is (x .meets); kept = λ code e. absurd (x .not-refused code e) }
+
+-- An entry that is stored is overwritten where a turn is finished.
+finished-again : (l : Ledger) (a : Account) (e : Entry) (x : Effect) → finished (withEntry l a e) a x ≡ finished l a x
+finished-again l a e x = go (x .due) (x .entry)
+  where
+    go : (d : Due) (e' : Entry) → finishedBy (withEntry l a e) a d e' ≡ finishedBy l a d e'
+    go (replied c) e' = rw (set-entry-twice (l .entries) a e e')
+    go accepts e' = rw (set-entry-twice (l .entries) a e e')
+
+-- a seat's ack that is recorded is among those that are equal to its slip
+counted-in : (acks : List AckSlot) (s : ℕ) (t : Transfer) → s < length acks → 0 < acksFor t (set acks s (record { slot = Full t }))
+counted-in acks s t inside =
+    let d : AckSlot = record { slot = Empty } in
+    let new : AckSlot = record { slot = Full t } in
+    let at = sum-at-least (λ (a : AckSlot). bit (holds t (a .slot))) (set acks s new) s d (rw (length-set acks s new) inside) in
+    let one : bit (holds t (Full t)) ≡ 1 = ap bit (equal-refl t) in
+    omega (arith, one, rw (getD-set-same acks s new d inside) at at)
+
+-- The slip's ack is recorded in the words, and what follows is what the message does.
+module _
+    (before mid : List ℕ) (s : Seat) (t : Transfer) (account : t .account .0 < 32)
+    (stored : ledgerIn mid ≡ withEntry (ledgerIn before) (t .account) (withAck (entryIn before (t .account)) s t))
+  where
+    here : entryIn mid (t .account) ≡ withAck (entryIn before (t .account)) s t
+    here = rw stored (with-entry-same (ledgerIn before) (t .account) (withAck (entryIn before (t .account)) s t) (omega (arith, entries-length before)))
+
+    pub still-next : t .number ≡ entryIn before (t .account) .current + 1 → t .number ≡ entryIn mid (t .account) .current + 1
+    still-next e = rw here e
+
+    pub recorded : s .0 < length (entryIn before (t .account) .acks) → 0 < acksFor t (entryIn mid (t .account) .acks)
+    recorded seat = rw here (counted-in (entryIn before (t .account) .acks) (s .0) t seat)
+
+    pub whole : (r : Reply) (after : List ℕ) → Taken (finished (ledgerIn mid) (t .account) (tallied (ledgerIn mid) (entryIn mid (t .account)) t)) r after
+        → Taken (effectIn (ledgerIn before) (Ack s t)) r after
+    whole r after x =
+        let e = withAck (entryIn before (t .account)) s t in
+        rw (here, stored, finished-again (ledgerIn before) (t .account) e (tallied (ledgerIn before) e t)) at x
+
+-- A slip that waits is settled: K.
+pub settled : (before mid after : List ℕ) (t : Transfer) (n : ℕ)
+    → ledgerIn mid ≡ withEntry (ledgerIn before) (t .account) (withPending (entryIn before (t .account)) t)
+    → Settles mid after n → Taken (finished (ledgerIn before) (t .account) (waits (entryIn before (t .account)) t)) (Accept n) after
+settled before mid after t n stored x =
+    record {
+      meets = (ap Accept (rw stored at (x .count)), rw stored at (x .ledger));
+      not-refused = λ code e. impossible (cc);
+    }
+
+-- What the tally decides: K, else P, else N.
+module _
+    (ws : List ℕ) (t : Transfer) (y : Tally) (y-is : y ≡ tallyOf t (entryIn ws (t .account) .acks))
+    (k : Bool) (k-is : k ≡ enough (ledgerIn ws .seats) (ledgerIn ws .faults) (y .equal))
+  where
+    accepts-is : k ≡ enough (ledgerIn ws .seats) (ledgerIn ws .faults) (acksFor t (entryIn ws (t .account) .acks))
+    accepts-is = k-is ∙ ap (λ (z : Tally). enough (ledgerIn ws .seats) (ledgerIn ws .faults) (z .equal)) y-is
+
+    -- what follows from the entry in words
+    abbrev pub Decided : Reply → List ℕ → Type 0
+    Decided r after = Taken (finished (ledgerIn ws) (t .account) (tallied (ledgerIn ws) (entryIn ws (t .account)) t)) r after
+
+    pub tally-accepts : (r : Reply) (after : List ℕ) → k ≡ true
+        → Taken (finished (ledgerIn ws) (t .account) (waits (entryIn ws (t .account)) t)) r after → Decided r after
+    tally-accepts r after holds x = rw (sym accepts-is ∙ holds) x
+
+    module _ (few : k ≡ false) (p : Bool) (p-is : p ≡ mustPropose (ledgerIn ws .seats) (ledgerIn ws .faults) (y .recorded) (entryIn ws (t .account))) where
+      proposes-is : p ≡ mustPropose (ledgerIn ws .seats) (ledgerIn ws .faults) (acksRecorded (entryIn ws (t .account) .acks)) (entryIn ws (t .account))
+      proposes-is = p-is ∙ ap (λ (z : Tally). mustPropose (ledgerIn ws .seats) (ledgerIn ws .faults) (z .recorded) (entryIn ws (t .account))) y-is
+
+      pub tally-proposes : (u : Transfer) (after : List ℕ) → p ≡ true → hasMost (entryIn ws (t .account) .acks) u ≡ true
+          → ledgerIn after ≡ withEntry (ledgerIn ws) (t .account) (withProposed (entryIn ws (t .account))) → Decided (Propose u) after
+      tally-proposes u after due most marked =
+          rw (sym accepts-is ∙ few, sym proposes-is ∙ due)
+          (record { meets = ((u, refl, most), marked); not-refused = λ code e. impossible (cc) })
+
+      pub tally-notes : p ≡ false → Decided Note ws
+      tally-notes not-due =
+          rw (sym accepts-is ∙ few, sym proposes-is ∙ not-due)
+          (record { meets = (refl, sym (with-entry-read (ledgerIn ws) (t .account))); not-refused = λ code e. impossible (cc) })

@@ -1,3 +1,4 @@
--- What the functions' proofs share, and the laws of funds for callers. Each function's own proof stands in its folder.
+-- What the functions' proofs share. Each function's own proof stands in its folder.
+-- ReadBack: what the answer of the search tells. Turns: one turn of settling.
 pub mod ReadBack
-pub mod FundsLaws
+pub mod Turns

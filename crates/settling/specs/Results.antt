@@ -1,5 +1,5 @@
 -- What the search for the lowest affordable account answers and what settling leaves, given by the model's definitions.
-use Prim.Native.Nat.{ℕ, _≤_}
+use Prim.Native.Nat.{ℕ}
 use mathlib.Core.Path.{_≡_}
 use mathlib.Core.List.{List}
 use mathlib.Core.Option.{Option, none, some}

@@ -1,4 +1,2 @@
--- What the functions' proofs share. Each function's own proof stands in the folder of its module.
-pub mod Waiters
+-- From what a call promises to what the operation promises.
 pub mod Promising
-pub mod Finishing

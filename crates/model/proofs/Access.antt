@@ -111,5 +111,10 @@ module _ (l : Ledger) where
   pub with-entry-read : (a : Account) → withEntry l a (entryOf l a) ≡ l
   with-entry-read a = ap (withEntries l) (set-entry-read (l .entries) a)
 
+  -- a store for an account, and then one that changes what was stored, is one store
+  pub with-entry-again : (a : Account) (e : Entry) (change : Entry → Entry) → a .0 < length (l .entries)
+      → withEntry (withEntry l a e) a (change (entryOf (withEntry l a e) a)) ≡ withEntry l a (change e)
+  with-entry-again a e change h = rw (with-entry-same a e h) (ap (withEntries l) (set-entry-twice (l .entries) a e (change e)))
+
   pub with-entry-other : (a b : Account) (e : Entry) → b .0 ≢ a .0 → entryOf (withEntry l a e) b ≡ entryOf l b
   with-entry-other a b e h = entry-set-other (l .entries) a e b h

@@ -24,6 +24,12 @@ pub table-length : {A : Type 0} (f : ℕ → A) (n i : ℕ) → length (tableFro
 table-length f zero i = refl
 table-length f (suc n) i = ap suc (table-length f n (suc i))
 
+-- what holds of each, and of what is read behind the last, holds at every place
+pub table-each : {A : Type 0} (P : A → Type 0) (f : ℕ → A) (n i j : ℕ) (d : A) → P d → ((k : ℕ) → P (f k)) → P (getD (tableFrom f n i) j d)
+table-each P f zero i j d last each = last
+table-each P f (suc n) i zero d last each = each i
+table-each P f (suc n) i (suc j) d last each = table-each P f n (suc i) j d last each
+
 -- tables of functions that agree at the table's places
 pub table-same : {A : Type 0} (f g : ℕ → A) (n i : ℕ) → ((k : ℕ) → i ≤ k → k < i + n → g k ≡ f k) → tableFrom g n i ≡ tableFrom f n i
 table-same f g zero i same = refl

@@ -1,11 +1,13 @@
 -- What is stored in an account's block, and what that makes of the account's entry; and the group's words.
-use Prim.Native.Nat.{ℕ, _+_, _*_, _≤_, _<_}
+use Prim.Native.Nat.{ℕ, _+_, _*_, _%_, _≤_, _<_}
 use native.Mathlib.Nat.{zero-add, mod-eq-of-lt}
 use native.Mathlib.Decide.{decLt}
 use native.Mathlib.Omega.{arith}
 use mathlib.Core.Path.{_≡_, refl, ap, sym, _∙_, fun-ext}
 use mathlib.Core.Logic.{_≢_}
+use mathlib.Core.Bool.{Bool, true, false, cond}
 use mathlib.Core.List.{List}
+use lib.Dec.{eqb}
 use lib.ListN.{length, getD, set, length-set}
 use lib.Seq.{getD-set-same, getD-set-other}
 use borrow.Author.Tests.{lt-ltb, le-ltb, ne-eqb, le-leb}
@@ -13,12 +15,13 @@ use Rattle.model.specs.declared.Seat.{Seat}
 use Rattle.model.specs.declared.Account.{Account}
 use Rattle.model.specs.declared.Transfer.{Transfer}
 use Rattle.model.specs.declared.Slot.the-variants.{Empty, Full}
-use Rattle.model.specs.Types.{Entry}
-use Rattle.model.specs.Records.{entryOf, withEntry, withBalance, withAcked, withAck, withProposed, withPending}
+use Rattle.model.specs.Types.{AckSlot, Entry}
+use Rattle.model.specs.Records.{accountOf, entryOf, withEntry, withBalance, withAcked, withAck, withProposed, withPending}
 use Rattle.model.specs.Refusals.{ackFrom}
+use Rattle.model.proofs.Sums.{impossible}
 use Rattle.layout.specs.Layout.{blockWords, groupPlace, bookWords, Block, block, currentIn, slotBy, ackIn, tableFrom, entryBy, entriesIn, ledgerIn}
 use Rattle.layout.specs.Blocks.{put, Changes}
-use Rattle.layout.proofs.Blocks.{table-at, table-same, table-set, put-here, put-else, entry-in, changed-ledger}
+use Rattle.layout.proofs.Blocks.{table-at, table-each, table-length, table-same, table-set, put-here, put-else, entry-in, changed-ledger}
 
 -- an account's block was changed so that its entry is changed in a way: so is the entry in the ledger
 pub entry-changed : (ws after : List ℕ) (a : Account) (w : Block) (change : Entry → Entry) → a .0 < 32 → Changes ws (a .0) w after
@@ -65,6 +68,37 @@ pub ack-read : (ws : List ℕ) (a : Account) (s : Seat) (value number recipient 
     → slotBy (a .0) value number recipient ≡ ackFrom (entryOf (ledgerIn ws) a) s
 ack-read ws a s value number recipient account seat v r n =
     rw (v, r, n, current-in ws a account) (sym (ap (λ e. ackFrom e s) (entry-in ws a account) ∙ ack-in (a .0) (block ws (a .0)) s seat))
+
+-- each of the 16 seats has a place, and an ack in it is of the account and its next number
+pub acks-length : (ws : List ℕ) (a : Account) → a .0 < 32 → length (entryOf (ledgerIn ws) a .acks) ≡ 16
+unfolding entryBy
+acks-length ws a h = ap (λ e. length (e .acks)) (entry-in ws a h) ∙ table-length (ackIn (a .0) (block ws (a .0))) 16 0
+
+slot-of-next : (a value number recipient : ℕ) (u : Transfer) → slotBy a value number recipient ≡ Full u → (u .account ≡ accountOf a) × (u .number ≡ number)
+slot-of-next a value number recipient u = go (eqb value 0)
+  where
+    t : Transfer
+    t = record { account = accountOf a; number = number; value = value; recipient = accountOf (recipient % 256) }
+
+    go : (b : Bool) → cond b Empty (Full t) ≡ Full u → (u .account ≡ accountOf a) × (u .number ≡ number)
+    go true e = impossible (cc)
+    go false e = let same : t ≡ u = cc in (rw (← same), rw (← same))
+
+pub ack-of-next : (ws : List ℕ) (a : Account) (s : Seat) (u : Transfer) → a .0 < 32 → ackFrom (entryOf (ledgerIn ws) a) s ≡ Full u
+    → (u .account ≡ a) × (u .number ≡ entryOf (ledgerIn ws) a .current + 1)
+unfolding entryBy
+ack-of-next ws a s u h = rw (entry-in ws a h) 
+    (table-each OfNext (ackIn (a .0) w) 16 0 (s .0) none (λ e. impossible (cc))
+    (λ k. slot-of-next (a .0) (w (7 + k)) (currentIn w + 1) (w (23 + k)) u))
+  where
+    w : Block
+    w = block ws (a .0)
+
+    none : AckSlot
+    none = record { slot = Empty }
+
+    OfNext : AckSlot → Type 0
+    OfNext k = k .slot ≡ Full u → (u .account ≡ a) × (u .number ≡ currentIn w + 1)
 
 module _ (w : Block) (s : Seat) (t : Transfer) (seat : s .0 < 16) (value : 0 < t .value) (byte : t .recipient .0 < 256) (next : t .number ≡ currentIn w + 1) where
   -- a block that is the same but at the seat's two places

@@ -1,2 +1,3 @@
--- What the walks of this crate share.
+-- Plain: what the walks of this crate share. Conflicts: when two of the acks conflict.
 mod Plain
+pub mod Conflicts

@@ -112,15 +112,17 @@ fn better(words: &[u32], best: Leader, s: Seat) -> Leader
     ensures { λ r. ⌜ Leads (now (words .entry)) best s r ⌝ }
 {
     let first = best.transfer;
-    let slot = ack_from(words, first.account, s, first.number);
+    let account = first.account;
+    let slot = ack_from(words, account, s, first.number);
     match slot {
         Slot::Empty => best,
         Slot::Full(u) => {
+            let recipient = u.recipient;
             let other = Transfer {
-                account: first.account,
+                account: account,
                 number: first.number,
                 value: u.value,
-                recipient: u.recipient,
+                recipient: recipient,
             };
             let y = tally_of(words, other);
             if best.acks < y.equal {

@@ -1,33 +1,94 @@
--- Each of the two early returns shows that one part of the definition's test fails; after them its third part decides.
-use Prim.Native.Nat.{_-_}
+-- Each of the two early returns shows that one part of the definition's test fails; after them its third part decides: the acks in words are all of the
+-- account and its next number.
+use Prim.Native.Nat.{ℕ, _+_, _-_, _<_}
 use native.Mathlib.Omega.{arith}
+use mathlib.Core.Path.{_≡_, ap, sym, _∙_}
 use mathlib.Core.Bool.{and-true, and-false}
+use mathlib.Core.List.{List}
+use lib.Dec.{ltb}
 use borrow.Author.Needs.{needs}
-use Rattle.model.specs.Acks.{twoConflict}
 use borrow.Author.Tests.{le-leb, lt-leb}
+use Rattle.model.specs.declared.Account.{Account}
+use Rattle.model.specs.declared.Transfer.{Transfer}
+use Rattle.model.specs.Acks.{twoConflict}
+use Rattle.layout.specs.Layout.{ledgerIn, entryIn}
+use Rattle.layout.proofs.Entries.{ack-of-next}
+use Rattle.tally.specs.declared.Tally.{Tally}
+use Rattle.tally.specs.Results.{tallyOf}
+use Rattle.tally.proofs.Conflicts.{AllOf, two-conflict-fewer}
 use Rattle.tally.proofs.must_propose.Statement.{statement}
 use Rattle.tally.proofs.must_propose.Tie as tie
 
+-- the tally tells whether two conflict
+conflict-told : (ws : List ℕ) (a : Account) (y : Tally) (t : Transfer) → a .0 < 32 → t .account ≡ a → t .number ≡ entryIn ws a .current + 1
+    → y ≡ tallyOf t (entryIn ws a .acks) → 0 < y .equal → ltb (y .equal) (y .recorded) ≡ twoConflict (entryIn ws a .acks)
+conflict-told ws a y t inside account number tally some =
+    rw tally (two-conflict-fewer t (entryIn ws a .acks) all (rw tally at some))
+  where
+    all : AllOf t (entryIn ws a .acks)
+    all i u e = let of = ack-of-next ws a (record { 0 = i }) u inside e in (of .0 ∙ sym account, of .1 ∙ sym number)
+
+is-proposed-requires : tie.Need-is-proposed-requires
+is-proposed-requires c κs = search needs
+
 returns : tie.Need-returns
-returns c = rw (c .if1 .taken, and-false)
+returns c = record { decided = λ t account number tally some. rw (← c .before .is-proposed .ensures, c .if1 .taken, and-false) }
+
+cast-if2 : tie.Need-cast-if2
+cast-if2 c = search needs
+
+faults-of-requires : tie.Need-faults-of-requires
+faults-of-requires c κs = search needs
+
+cast-if2-2 : tie.Need-cast-if2-2
+cast-if2-2 c = search needs
 
 add-if2 : tie.Need-add-if2
 add-if2 c = search needs
 
+seats-of-requires : tie.Need-seats-of-requires
+seats-of-requires c κs = search needs
+
+cast-if2-3 : tie.Need-cast-if2-3
+cast-if2-3 c = search needs
+
 returns-2 : tie.Need-returns-2
 returns-2 c =
-    let a = c .before .before .before .args in
-    rw (lt-leb (a .seats - a .faults) (a .recorded) (omega arith))
-
-two-conflict-requires : tie.Need-two-conflict-requires
-two-conflict-requires c κs = search needs
+    let start = c .before .before .before .before .before .before .before in
+    let l = ledgerIn (start .args .words .now) in
+    record {
+      decided = λ t account number tally some. rw (lt-leb (l .seats - l .faults) (start .args .y .recorded) (omega (arith, c .before .seats-of .ensures, c .before .before .faults-of .ensures)));
+    }
 
 returns-3 : tie.Need-returns-3
 returns-3 c =
-    let a = c .before .before .before .before .args in
-    rw (le-leb (a .seats - a .faults) (a .recorded) (omega arith), c .before .before .if1 .left, and-true (twoConflict (a .e .acks))) (c .two-conflict .ensures)
+    let start = c .before .before .before .before .before .before .before .before in
+    let ws = start .args .words .now in
+    let l = ledgerIn ws in
+    let e = entryIn ws (start .args .a) in
+    record {
+      decided =
+        λ t account number tally some.
+        rw (
+          le-leb (l .seats - l .faults) (start .args .y .recorded) (omega (arith, c .before .before .seats-of .ensures, c .before .before .before .faults-of .ensures)),
+          ← c .before .before .before .before .before .before .is-proposed .ensures,
+          c .before .before .before .before .before .if1 .left,
+          and-true (twoConflict (e .acks)),
+        )
+        (conflict-told ws (start .args .a) (start .args .y) t (omega arith) account number tally some);
+    }
 
 pub must-propose-spec : {M : Type 1} → statement M
 must-propose-spec =
     tie.close
-    (tie.spec returns add-if2 returns-2 two-conflict-requires returns-3)
+    (tie.spec
+    is-proposed-requires
+    returns
+    cast-if2
+    faults-of-requires
+    cast-if2-2
+    add-if2
+    seats-of-requires
+    cast-if2-3
+    returns-2
+    returns-3)

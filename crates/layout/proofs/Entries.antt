@@ -87,7 +87,7 @@ slot-of-next a value number recipient u = go (eqb value 0)
 pub ack-of-next : (ws : List ℕ) (a : Account) (s : Seat) (u : Transfer) → a .0 < 32 → ackFrom (entryOf (ledgerIn ws) a) s ≡ Full u
     → (u .account ≡ a) × (u .number ≡ entryOf (ledgerIn ws) a .current + 1)
 unfolding entryBy
-ack-of-next ws a s u h = rw (entry-in ws a h) 
+ack-of-next ws a s u h = rw (entry-in ws a h)
     (table-each OfNext (ackIn (a .0) w) 16 0 (s .0) none (λ e. impossible (cc))
     (λ k. slot-of-next (a .0) (w (7 + k)) (currentIn w + 1) (w (23 + k)) u))
   where

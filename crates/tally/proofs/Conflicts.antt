@@ -2,7 +2,7 @@
 use Prim.Native.Nat.{ℕ, zero, suc, _+_, _≤_, _<_}
 use native.Mathlib.Decide.{decLt}
 use native.Mathlib.Omega.{arith}
-use mathlib.Core.Path.{_≡_, refl, ap, sym, _∙_}
+use mathlib.Core.Path.{_≡_, refl, ap, _∙_}
 use mathlib.Core.Bool.{Bool, true, false, not}
 use mathlib.Core.List.{List, [], _∷_}
 use lib.Dec.{ltb}
@@ -17,7 +17,7 @@ use Rattle.model.specs.Basics.{bit, count}
 use Rattle.model.specs.Transfers.{equal, conflict}
 use Rattle.model.specs.Acks.{holds, conflicts, isFull, acksFor, acksRecorded, twoConflict}
 use Rattle.model.proofs.Sums.{impossible, some-counted, sum-at-least}
-use Rattle.model.proofs.Equality.{equal-sound, equal-refl, conflict-sound}
+use Rattle.model.proofs.Equality.{equal-sound}
 use Rattle.model.proofs.Tallies.{TwoConflict, two-conflict-sound, two-conflict-complete}
 
 abbrev none : AckSlot

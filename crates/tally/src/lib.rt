@@ -17,7 +17,7 @@ ghost use lib.ListN.{length};
 ghost use Rattle.model.specs.Basics.{bit};
 ghost use Rattle.model.specs.Acks.{hasMost};
 ghost use Rattle.layout.specs.Layout.{bookWords, entryIn};
-ghost use Rattle.tally.specs.Results.{tallyOf, counted, Tallies, Decides, Leads};
+ghost use Rattle.tally.specs.Results.{counted, Tallies, Decides, Leads};
 
 // The running tally of one number, for one transfer.
 pub struct Tally {

@@ -2,7 +2,7 @@
 -- account and its next number.
 use Prim.Native.Nat.{ℕ, _+_, _-_, _<_}
 use native.Mathlib.Omega.{arith}
-use mathlib.Core.Path.{_≡_, ap, sym, _∙_}
+use mathlib.Core.Path.{_≡_, sym, _∙_}
 use mathlib.Core.Bool.{and-true, and-false}
 use mathlib.Core.List.{List}
 use lib.Dec.{ltb}
@@ -68,14 +68,14 @@ returns-3 c =
     let e = entryIn ws (start .args .a) in
     record {
       decided =
-        λ t account number tally some.
-        rw (
-          le-leb (l .seats - l .faults) (start .args .y .recorded) (omega (arith, c .before .before .seats-of .ensures, c .before .before .before .faults-of .ensures)),
-          ← c .before .before .before .before .before .before .is-proposed .ensures,
-          c .before .before .before .before .before .if1 .left,
-          and-true (twoConflict (e .acks)),
-        )
-        (conflict-told ws (start .args .a) (start .args .y) t (omega arith) account number tally some);
+          λ t account number tally some.
+          rw (
+            le-leb (l .seats - l .faults) (start .args .y .recorded) (omega (arith, c .before .before .seats-of .ensures, c .before .before .before .faults-of .ensures)),
+            ← c .before .before .before .before .before .before .is-proposed .ensures,
+            c .before .before .before .before .before .if1 .left,
+            and-true (twoConflict (e .acks)),
+          )
+          (conflict-told ws (start .args .a) (start .args .y) t (omega arith) account number tally some);
     }
 
 pub must-propose-spec : {M : Type 1} → statement M

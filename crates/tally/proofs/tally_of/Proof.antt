@@ -2,7 +2,7 @@
 -- end the whole counts.
 use Prim.Native.Nat.{ℕ, _+_, _-_, _≤_, _<_}
 use native.Mathlib.Omega.{arith}
-use mathlib.Core.Path.{_≡_, _∙_, ap}
+use mathlib.Core.Path.{_≡_}
 use mathlib.Core.Bool.{Bool, true, false}
 use mathlib.Core.List.{List}
 use lib.ListN.{length, getD}
@@ -76,15 +76,14 @@ loop-again c =
     let start = c .before .before .before .before .before in
     let t = start .args .t in
     let acks = acksIn (start .args .words .now) t in
-    let s = c .before .ack-from .result in
-    (
+    let s = c .before .ack-from .result in (
       omega arith,
       few-more (loop .i) (loop .y) t s (c .plus-ack .result) (c .plus-ack .ensures) (loop .inv .1),
       λ next.
-      tallied-more t acks (loop .i) (loop .y) (loop .inv .2 next) s (c .plus-ack .result)
-      (omega (arith, acks-length (start .args .words .now) (t .account) (omega arith)))
-      (c .before .ack-from .ensures next)
-      (c .plus-ack .ensures),
+          tallied-more t acks (loop .i) (loop .y) (loop .inv .2 next) s (c .plus-ack .result)
+          (omega (arith, acks-length (start .args .words .now) (t .account) (omega arith)))
+          (c .before .ack-from .ensures next)
+          (c .plus-ack .ensures),
     )
 
 returns : tie.Need-returns Inv-loop μ-loop
@@ -94,9 +93,9 @@ returns c =
     let t = start .args .t in
     record {
       tally =
-        λ next.
-        tallied-all t (acksIn (start .args .words .now) t) (loop .i) (loop .y) (loop .inv .2 next)
-        (omega (arith, acks-length (start .args .words .now) (t .account) (omega arith)));
+          λ next.
+          tallied-all t (acksIn (start .args .words .now) t) (loop .i) (loop .y) (loop .inv .2 next)
+          (omega (arith, acks-length (start .args .words .now) (t .account) (omega arith)));
     }
 
 pub tally-of-spec : {M : Type 1} → statement M

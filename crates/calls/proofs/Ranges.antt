@@ -10,7 +10,7 @@ use borrow.Author.Tests.{leb-false, eqb-false}
 use Rattle.model.specs.declared.Seat.{Seat}
 use Rattle.model.specs.declared.Account.{Account}
 use Rattle.model.specs.declared.Transfer.{Transfer}
-use Rattle.model.specs.Refusals.{firstRefusal, unknownSeat, unknownAccount, outOfRange, pastNumber, futureNumber, transferRules}
+use Rattle.model.specs.Refusals.{firstRefusal, unknownSeat, unknownAccount, outOfRange, pastNumber, futureNumber, transferRules, circulatedRules, ackRules}
 use Rattle.model.proofs.Sums.{neither}
 use Rattle.model.proofs.Refusing.{none-holds, next-number}
 use Rattle.layout.specs.Layout.{ledgerIn, entryIn}
@@ -44,7 +44,21 @@ module _ (ws : List ℕ) (t : Transfer) where
     pub range : InRange
     pub next : t .number ≡ entryIn ws (t .account) .current + 1
 
+  fits-by : outOfRange (ledgerIn ws) t ≡ false → pastNumber (entryIn ws (t .account)) t ≡ false → futureNumber (entryIn ws (t .account)) t ≡ false → Fits
+  fits-by inside past future = record { range = in-range inside; next = next-number (entryIn ws (t .account)) t past future }
+
   pub fits : firstRefusal (transferRules (ledgerIn ws) (entryIn ws (t .account)) t) ≡ none → Fits
   fits passed =
       let fail = none-holds (transferRules (ledgerIn ws) (entryIn ws (t .account)) t) passed in
-      record { range = in-range (fail .0); next = next-number (entryIn ws (t .account)) t (fail .1 .0) (fail .1 .1 .0) }
+      fits-by (fail .0) (fail .1 .0) (fail .1 .1 .0)
+
+  -- the same of a circulated slip, and of an ack, whose seat has its place too
+  pub circulated-fits : firstRefusal (circulatedRules (ledgerIn ws) (entryIn ws (t .account)) t) ≡ none → Fits
+  circulated-fits passed =
+      let fail = none-holds (circulatedRules (ledgerIn ws) (entryIn ws (t .account)) t) passed in
+      fits-by (fail .0) (fail .1 .0) (fail .1 .1 .0)
+
+  pub ack-fits : (s : Seat) → firstRefusal (ackRules (ledgerIn ws) (entryIn ws (t .account)) s t) ≡ none → Fits × (s .0 < 16)
+  ack-fits s passed =
+      let fail = none-holds (ackRules (ledgerIn ws) (entryIn ws (t .account)) s t) passed in
+      (fits-by (fail .1 .0) (fail .1 .1 .0) (fail .1 .1 .1 .0), seat-place ws s (fail .0))

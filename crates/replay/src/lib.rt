@@ -71,7 +71,13 @@ fn put_closing(words: &[u32], out: &mut [u8], at: usize) -> usize
     let mut filled = at;
     let mut a: u8 = 0;
     while a < accounts {
-        filled = put_account(out, filled, a, balance_of(words, Account(a)), current_of(words, Account(a)));
+        filled = put_account(
+            out,
+            filled,
+            a,
+            balance_of(words, Account(a)),
+            current_of(words, Account(a)),
+        );
         a += 1;
     }
     filled

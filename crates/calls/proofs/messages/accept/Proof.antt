@@ -1,0 +1,20 @@
+-- The slip waits, and what settling leaves is what the model says.
+use Rattle.calls.proofs.Taking.{settled}
+use borrow.Author.Needs.{needs}
+use Rattle.calls.proofs.messages.accept.Statement.{statement}
+use Rattle.calls.proofs.messages.accept.Tie as tie
+
+put-pending-requires : tie.Need-put-pending-requires
+put-pending-requires c κs = search needs
+
+settle-all-requires : tie.Need-settle-all-requires
+settle-all-requires c κs = search needs
+
+same-length : tie.Need-same-length
+same-length c = search needs
+
+returns : tie.Need-returns
+returns c = record { settled = λ value. settled (c .before .before .before .before .before .before .before .before .before .args .words .now) _ _ (c .before .before .before .before .before .before .before .before .before .args .t) _ (c .before .before .before .before .before .before .put-pending .ensures .waits value) (c .before .before .settle-all .ensures) }
+
+pub accept-spec : {M : Type 1} → statement M
+accept-spec = tie.close (tie.spec put-pending-requires settle-all-requires same-length returns)

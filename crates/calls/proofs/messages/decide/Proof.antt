@@ -1,0 +1,48 @@
+-- Refused by its rules, or accepted.
+use mathlib.Core.Path.{_≡_, refl, sym, _∙_}
+use Rattle.basics.proofs.ReadBack.{passed}
+use Rattle.model.specs.declared.Message.the-variants.{Decision}
+use Rattle.calls.proofs.Ranges.{fits}
+use Rattle.calls.proofs.Taking.{refused, served}
+use borrow.Author.Needs.{needs}
+use Rattle.calls.proofs.messages.decide.Statement.{statement}
+use Rattle.calls.proofs.messages.decide.Tie as tie
+
+transfer-check-requires : tie.Need-transfer-check-requires
+transfer-check-requires c κs = search needs
+
+enum-known-r : tie.Need-enum-known-r
+enum-known-r c = search needs
+
+enum-told : tie.Need-enum-told
+enum-told c = search needs
+
+accept-requires : tie.Need-accept-requires
+accept-requires c κs = (c .before .before .before .before .before .before .pre, fits (c .before .before .before .before .before .before .args .words .now) (c .before .before .before .before .before .before .args .t) (passed _ (sym (c .before .before .before .transfer-check .ensures) ∙ c .before .enum-told .given .1)) .range .account)
+
+same-length : tie.Need-same-length
+same-length c = search needs
+
+returns : tie.Need-returns
+returns c = refused (c .before .before .before .before .before .before .args .words .now) (Decision (c .before .before .before .before .before .before .args .t)) _ (c .before .before .before .transfer-check .ensures) _ (c .before .r .given .1)
+
+same-length-2 : tie.Need-same-length-2
+same-length-2 c = search needs
+
+returns-2 : tie.Need-returns-2
+returns-2 c =
+    let fit = fits (c .before .before .before .before .before .before .before .before .before .args .words .now) (c .before .before .before .before .before .before .before .before .before .args .t) (passed _ (sym (c .before .before .before .before .before .before .transfer-check .ensures) ∙ c .before .before .before .before .enum-told .given .1)) in
+    served (c .before .before .before .before .before .before .before .before .before .args .words .now) (Decision (c .before .before .before .before .before .before .before .before .before .args .t)) _ (c .before .before .before .before .before .before .transfer-check .ensures) _ _ (c .before .before .before .before .enum-told .given .1) (c .before .before .accept .ensures .settled (fit .range .value))
+
+pub decide-spec : {M : Type 1} → statement M
+decide-spec =
+    tie.close
+    (tie.spec
+    transfer-check-requires
+    enum-known-r
+    enum-told
+    accept-requires
+    same-length
+    returns
+    same-length-2
+    returns-2)

@@ -1,0 +1,32 @@
+-- Refused where there is no such account, else its balance; the words stay as they are.
+use mathlib.Core.Path.{refl, ap, sym}
+use borrow.Author.Tests.{le-leb, lt-leb}
+use Rattle.model.specs.declared.Message.the-variants.{Inquiry}
+use Rattle.model.specs.declared.Refusal.the-variants.{OutOfRange}
+use Rattle.model.specs.declared.Reply.the-variants.{Balance}
+use Rattle.model.proofs.Sums.{impossible}
+use Rattle.model.proofs.Access.{with-entry-read}
+use Rattle.layout.specs.Layout.{ledgerIn}
+use Rattle.basics.specs.declared.results.Check.the-variants.{Passed, Failed}
+use Rattle.calls.proofs.Ranges.{account-place}
+use Rattle.calls.proofs.Taking.{refused, served}
+use borrow.Author.Needs.{needs}
+use Rattle.calls.proofs.messages.inquire.Statement.{statement}
+use Rattle.calls.proofs.messages.inquire.Tie as tie
+
+accounts-of-requires : tie.Need-accounts-of-requires
+accounts-of-requires c κs = search needs
+
+returns : tie.Need-returns
+returns c = refused (c .before .before .before .before .args .words .now) (Inquiry (c .before .before .before .before .args .a)) (Failed OutOfRange) (rw (← c .before .before .accounts-of .ensures, le-leb _ _ (c .if1 .taken))) OutOfRange refl
+
+balance-of-requires : tie.Need-balance-of-requires
+balance-of-requires c κs = (c .before .before .before .before .pre, account-place (c .before .before .before .before .args .words .now) (c .before .before .before .before .args .a) (rw (← c .before .before .accounts-of .ensures, lt-leb _ _ (c .if1 .left))))
+
+returns-2 : tie.Need-returns-2
+returns-2 c =
+    served (c .before .before .before .before .before .args .words .now) (Inquiry (c .before .before .before .before .before .args .a)) Passed (rw (← c .before .before .before .accounts-of .ensures, lt-leb _ _ (c .before .if1 .left))) _ _ refl
+    (record { meets = (ap Balance (c .balance-of .ensures), sym (with-entry-read (ledgerIn (c .before .before .before .before .before .args .words .now)) (c .before .before .before .before .before .args .a))); not-refused = λ code e. impossible (cc) })
+
+pub inquire-spec : {M : Type 1} → statement M
+inquire-spec = tie.close (tie.spec accounts-of-requires returns balance-of-requires returns-2)

@@ -1,0 +1,62 @@
+-- Refused by its rules; or recorded, and the tally decides.
+use native.Mathlib.Omega.{arith}
+use mathlib.Core.Path.{_≡_, sym, _∙_}
+use Rattle.model.specs.declared.Message.the-variants.{Ack}
+use Rattle.layout.proofs.Entries.{acks-length}
+use Rattle.basics.proofs.ReadBack.{passed}
+use Rattle.calls.specs.Promises.{Next}
+use Rattle.calls.proofs.Ranges.{ack-fits}
+use Rattle.calls.proofs.Taking.{refused, served, still-next, recorded, whole}
+use borrow.Author.Needs.{needs}
+use Rattle.calls.proofs.messages.record_ack.Statement.{statement}
+use Rattle.calls.proofs.messages.record_ack.Tie as tie
+
+ack-check-requires : tie.Need-ack-check-requires
+ack-check-requires c κs = search needs
+
+enum-known-r : tie.Need-enum-known-r
+enum-known-r c = search needs
+
+enum-told : tie.Need-enum-told
+enum-told c = search needs
+
+put-ack-requires : tie.Need-put-ack-requires
+put-ack-requires c κs =
+    let fit = ack-fits (c .before .before .before .before .before .before .args .words .now) (c .before .before .before .before .before .before .args .t) (c .before .before .before .before .before .before .args .s) (passed _ (sym (c .before .before .before .ack-check .ensures) ∙ c .before .enum-told .given .1)) in
+    (c .before .before .before .before .before .before .pre, (fit .0 .range .account, fit .1))
+
+by-tally-requires : tie.Need-by-tally-requires
+by-tally-requires c κs = (search needs, ack-fits (c .before .before .before .before .before .before .before .before .before .before .args .words .now) (c .before .before .before .before .before .before .before .before .before .before .args .t) (c .before .before .before .before .before .before .before .before .before .before .args .s) (passed _ (sym (c .before .before .before .before .before .before .before .ack-check .ensures) ∙ c .before .before .before .before .before .enum-told .given .1)) .0 .range .account)
+
+same-length : tie.Need-same-length
+same-length c = search needs
+
+returns : tie.Need-returns
+returns c = refused (c .before .before .before .before .before .before .args .words .now) (Ack (c .before .before .before .before .before .before .args .s) (c .before .before .before .before .before .before .args .t)) _ (c .before .before .before .ack-check .ensures) _ (c .before .r .given .1)
+
+same-length-2 : tie.Need-same-length-2
+same-length-2 c = search needs
+
+returns-2 : tie.Need-returns-2
+returns-2 c =
+    let fit = ack-fits (c .before .before .before .before .before .before .before .before .before .before .before .before .before .args .words .now) (c .before .before .before .before .before .before .before .before .before .before .before .before .before .args .t) (c .before .before .before .before .before .before .before .before .before .before .before .before .before .args .s) (passed _ (sym (c .before .before .before .before .before .before .before .before .before .before .ack-check .ensures) ∙ c .before .before .before .before .before .before .before .before .enum-told .given .1)) in
+    let account = fit .0 .range .account in
+    let stored = c .before .before .before .before .before .before .put-ack .ensures .recorded (fit .0 .next) (fit .0 .range .value) in
+    let next : Next _ _ = record { number = still-next (c .before .before .before .before .before .before .before .before .before .before .before .before .before .args .words .now) _ (c .before .before .before .before .before .before .before .before .before .before .before .before .before .args .s) (c .before .before .before .before .before .before .before .before .before .before .before .before .before .args .t) account stored (fit .0 .next); value = fit .0 .range .value } in
+    let among = recorded (c .before .before .before .before .before .before .before .before .before .before .before .before .before .args .words .now) _ (c .before .before .before .before .before .before .before .before .before .before .before .before .before .args .s) (c .before .before .before .before .before .before .before .before .before .before .before .before .before .args .t) account stored (omega (arith, fit .1, acks-length (c .before .before .before .before .before .before .before .before .before .before .before .before .before .args .words .now) (c .before .before .before .before .before .before .before .before .before .before .before .before .before .args .t .account) account)) in
+    served (c .before .before .before .before .before .before .before .before .before .before .before .before .before .args .words .now) (Ack (c .before .before .before .before .before .before .before .before .before .before .before .before .before .args .s) (c .before .before .before .before .before .before .before .before .before .before .before .before .before .args .t)) _ (c .before .before .before .before .before .before .before .before .before .before .ack-check .ensures) _ _ (c .before .before .before .before .before .before .before .before .enum-told .given .1)
+    (whole (c .before .before .before .before .before .before .before .before .before .before .before .before .before .args .words .now) _ (c .before .before .before .before .before .before .before .before .before .before .before .before .before .args .s) (c .before .before .before .before .before .before .before .before .before .before .before .before .before .args .t) account stored _ _ (c .before .before .by-tally .ensures .decided next among))
+
+pub record-ack-spec : {M : Type 1} → statement M
+record-ack-spec =
+    tie.close
+    (tie.spec
+    ack-check-requires
+    enum-known-r
+    enum-told
+    put-ack-requires
+    by-tally-requires
+    same-length
+    returns
+    same-length-2
+    returns-2)

@@ -143,10 +143,10 @@ pub fn most_acked(words: &[u32], first: Transfer) -> Transfer
     requires { ⌜ first .account .0 < 32 ⌝ }
     ensures { λ r. ⌜ (first .number ≡ entryIn (now (words .entry)) (first .account) .current + 1 → hasMost (entryIn (now (words .entry)) (first .account) .acks) r ≡ true) ⌝ }
 {
-    let y = tally_of(words, first);
+    let own = tally_of(words, first);
     let mut best = Leader {
         transfer: first,
-        acks: y.equal,
+        acks: own.equal,
     };
     let mut i: u8 = 0;
     while i < 16 {

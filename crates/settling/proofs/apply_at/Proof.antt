@@ -47,21 +47,19 @@ module _ (l : Ledger) (a : Account) where
   unfolding apply
   none-waits none = rw none
 
-  module _ (t : Transfer) (waits : entryOf l a .pending ≡ Full t) where
-    -- the ledger when the payer's debit is stored
-    abbrev paid : Ledger
-    paid = withEntry l a (debited (entryOf l a) t)
-
+  -- the transfer t waits there, and the payer's debit is stored
+  module _ (t : Transfer) (waits : entryOf l a .pending ≡ Full t) (m : Ledger) (paid : m ≡ withEntry l a (debited (entryOf l a) t)) where
     -- what is left to do is the recipient's credit
-    received : withEntry paid (t .recipient) (credited (entryOf paid (t .recipient)) (t .value)) ≡ withEntries l (apply (l .entries) a)
+    received : (after : Ledger) → after ≡ withEntry m (t .recipient) (credited (entryOf m (t .recipient)) (t .value))
+        → after ≡ withEntries l (apply (l .entries) a)
     unfolding apply
-    received = rw waits
+    received after given = given ∙ rw (paid, waits)
 
     -- there is no such recipient
-    lost : length (l .entries) ≤ t .recipient .0 → paid ≡ withEntries l (apply (l .entries) a)
+    lost : length (l .entries) ≤ t .recipient .0 → m ≡ withEntries l (apply (l .entries) a)
     lost none =
-        ap (withEntries l) (sym (set-out (paid .entries) (t .recipient .0) _ (omega (arith, set-entry-length (l .entries) a (debited (entryOf l a) t)))))
-        ∙ received
+        let size = ap (λ (n : Ledger). length (n .entries)) paid ∙ set-entry-length (l .entries) a (debited (entryOf l a) t) in
+        received m (ap (withEntries m) (sym (set-out (m .entries) (t .recipient .0) _ (omega arith))))
 
 returns : tie.Need-returns
 returns c =
@@ -73,9 +71,8 @@ returns-2 c =
     let debited = c .before .before .before .before .before .before .before .before .before in
     let told = debited .before .before .before in
     let start = told .before .before .before .before .before in
-    let ws = start .args .words .now in
-    c .before .before .credit .ensures
-    ∙ rw (debited .debit .ensures) (received (ledgerIn ws) (start .args .a) _ (sym (told .before .before .pending-of .ensures) ∙ told .pending .given .1))
+    let waits = sym (told .before .before .pending-of .ensures) ∙ told .pending .given .1 in
+    received (ledgerIn (start .args .words .now)) (start .args .a) _ waits _ (debited .debit .ensures) _ (c .before .before .credit .ensures)
 
 returns-3 : tie.Need-returns-3
 returns-3 c =
@@ -83,8 +80,8 @@ returns-3 c =
     let told = debited .before .before .before in
     let start = told .before .before .before .before .before in
     let ws = start .args .words .now in
-    debited .debit .ensures
-    ∙ lost (ledgerIn ws) (start .args .a) _ (sym (told .before .before .pending-of .ensures) ∙ told .pending .given .1) (omega (arith, entries-length ws))
+    let waits = sym (told .before .before .pending-of .ensures) ∙ told .pending .given .1 in
+    lost (ledgerIn ws) (start .args .a) _ waits _ (debited .debit .ensures) (omega (arith, entries-length ws))
 
 pub apply-at-spec : {M : Type 1} → statement M
 apply-at-spec =

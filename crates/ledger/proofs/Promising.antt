@@ -4,6 +4,7 @@ use mathlib.Core.Path.{_≡_, refl, ap, _∙_}
 use mathlib.Core.List.{List, [], _∷_}
 use mathlib.Core.Option.{Option, none, some}
 use lib.ListN.{length}
+use Rattle.model.specs.Types.{Ledger}
 use Rattle.model.specs.declared.Opening.{Opening}
 use Rattle.model.specs.declared.Refusal.{Refusal}
 use Rattle.model.specs.declared.Message.{Message}
@@ -16,7 +17,6 @@ use Rattle.model.specs.Openings.{openRules, openReplyBy, openReply}
 use Rattle.model.specs.Settling.{waiting}
 use Rattle.model.specs.Calls.{ListsUnlessRefused, Lists}
 use Rattle.model.proofs.Listing.{list-count}
-use Rattle.layout.specs.Layout.{ledgerIn}
 use Rattle.opening.specs.Promises.{Opens}
 use Rattle.calls.specs.Promises.{Turned}
 use Rattle.ledger.specs.Promises.{Answered, codeIfAny, OpenedAs, listValues, ListedAs}
@@ -32,11 +32,10 @@ opened before page r after h = record { opens = h; told = ap valuesOfOpen (h .re
     go none = refl
     go (some q) = refl
 
-pub listed : (ws before : List ℕ) (r : ListReply) (after : List ℕ) → Lists (ledgerIn ws) before r after → ListedAs ws before r after
-listed ws before r after h = record { meets = h; told = go (firstRefusal (listRules before)) refl h }
+pub listed : (l : Ledger) (before : List ℕ) (r : ListReply) (after : List ℕ) → Lists l before r after → ListedAs l before r after
+listed l before r after h = record { meets = h; told = go (firstRefusal (listRules before)) refl h }
   where
-    go : (o : Option Refusal) → firstRefusal (listRules before) ≡ o → ListsUnlessRefused o (ledgerIn ws) before r after
-        → valuesOfList r ≡ listValues o (waiting (ledgerIn ws .entries))
+    go : (o : Option Refusal) → firstRefusal (listRules before) ≡ o → ListsUnlessRefused o l before r after → valuesOfList r ≡ listValues o (waiting (l .entries))
     go none e w =
-        ap valuesOfList (w .2) ∙ ap (λ (n : ℕ). 0 ∷ n ∷ []) (list-count (ledgerIn ws) before after (length (w .0)) (rw (w .2) at h))
+        ap valuesOfList (w .2) ∙ ap (λ (n : ℕ). 0 ∷ n ∷ []) (list-count l before after (length (w .0)) (rw (w .2) at h))
     go (some q) e w = ap valuesOfList (w .0)

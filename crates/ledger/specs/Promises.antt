@@ -6,6 +6,7 @@ use Prim.Native.Nat.{ℕ}
 use mathlib.Core.Path.{_≡_}
 use mathlib.Core.List.{List, [], _∷_}
 use mathlib.Core.Option.{Option, none, some}
+use Rattle.model.specs.Types.{Ledger}
 use Rattle.model.specs.declared.Opening.{Opening}
 use Rattle.model.specs.declared.Refusal.{Refusal}
 use Rattle.model.specs.declared.Message.{Message}
@@ -46,6 +47,6 @@ listValues none count = 0 ∷ count ∷ []
 listValues (some r) count = codeOf r ∷ []
 
 -- The waiting list: the reply, and the buffer after it, given the buffer before it.
-pub record ListedAs (words before : List ℕ) (r : ListReply) (after : List ℕ) : Type 0 where
-  pub meets : Lists (ledgerIn words) before r after
-  pub told : valuesOfList r ≡ listValues (firstRefusal (listRules before)) (waiting (ledgerIn words .entries))
+pub record ListedAs (l : Ledger) (before : List ℕ) (r : ListReply) (after : List ℕ) : Type 0 where
+  pub meets : Lists l before r after
+  pub told : valuesOfList r ≡ listValues (firstRefusal (listRules before)) (waiting (l .entries))

@@ -14,6 +14,7 @@ use model::Seat;
 use model::Transfer;
 use opening::open_page;
 ghost use Rattle.model.specs.declared.Message.the-variants.{Request, Circulated, Ack, Decision, Inquiry};
+ghost use Rattle.layout.specs.Layout.{ledgerIn};
 ghost use Rattle.ledger.specs.Promises.{Answered, OpenedAs, ListedAs};
 
 // The opening: the words are the page's ledger, whatever they were; or it is refused, and they are as they were.
@@ -73,7 +74,7 @@ pub fn inquire(words: &[u32; BOOK_WORDS], a: Account) -> Reply
 
 // The waiting list: the accounts at which a transfer waits, in rising order, into the front of the buffer. The words stay the same.
 pub fn list_waiting(words: &[u32; BOOK_WORDS], buffer: &mut [u8]) -> ListReply
-    ensures { λ r. ⌜ ListedAs (now (words .entry)) (now (buffer .entry)) r (now (buffer .exit)) ⌝ }
+    ensures { λ r. ⌜ ListedAs (ledgerIn (now (words .entry))) (now (buffer .entry)) r (now (buffer .exit)) ⌝ }
 {
     lists::list_waiting(words, buffer)
 }

@@ -2,16 +2,12 @@
 use Prim.Native.Nat.{ℕ, _+_, _-_, _*_, _≤_, _<_}
 use mathlib.Core.Path.{_≡_}
 use mathlib.Core.List.{List, _++_}
-use lib.ListN.{length, getD, take, drop}
-use Rattle.model.specs.Types.{Entry, Ledger}
-use Rattle.model.specs.Records.{freshEntry, withEntries}
+use lib.ListN.{length, take, drop}
 use Rattle.model.specs.Bundles.{entryCount}
+use Rattle.layout.specs.Layout.{ledgerIn}
 use Rattle.bundle.specs.Promises.{longest}
-use Rattle.settling.specs.declared.Funds.{Funds}
-use Rattle.settling.specs.Funds.{fundsOf, withAllFunds}
 use Rattle.text.specs.Outputs.{Writes}
-use Rattle.replay.specs.declared.Played.{Played}
-use Rattle.replay.specs.Text.{ledgerFrom, Row, rowsFrom, closing, LinesFrom, TextOf}
+use Rattle.replay.specs.Text.{ledgerFrom, closing, LinesFrom, TextOf}
 
 -- How long a text can be. The longest line of an entry is that of P: the entry in 3 digits, the letter, account and recipient in 3 digits
 -- each, number and value in 10 each, their spaces and the end of the line: 36 bytes, for 999 entries. The line of an account has 27, for 32.
@@ -52,25 +48,10 @@ pub record Wrote (Right : List ℕ → Type 0) (before after : List ℕ) (r : �
   pub right : Right text
   pub writes : Writes before 0 text textMost after r
 
--- the funds of an account; behind the last those of a fresh entry
-abbrev pub fundsAt : List Funds → ℕ → Funds
-fundsAt fs a = getD fs a (fundsOf (freshEntry 0))
-
--- the ledger whose accounts have these funds, and whose acks and marks are those of these entries
-abbrev pub live : Ledger → List Entry → List Funds → Ledger
-live l es fs = withEntries l (withAllFunds es fs)
-
--- the rows of the `left` accounts from a on, told by the accounts' funds
-abbrev pub rowsBy : List Funds → ℕ → ℕ → List Row
-rowsBy fs = rowsFrom (λ a. record { balance = fundsAt fs a .balance; current = fundsAt fs a .current })
-
--- All entries from 1 on: their lines stand at the buffer's front, and the funds are those of the ledger that is left, whose closing lines
--- are still to come.
-pub record PlayedAll (bytes : List ℕ) (l : Ledger) (before after : List ℕ) (r : Played) : Type 0 where
+-- All entries from 1 on: their lines stand at the buffer's front, and the words are the ledger that is left, whose closing lines are still to
+-- come.
+pub record PlayedAll (bytes words left before after : List ℕ) (r : ℕ) : Type 0 where
   pub lines : List ℕ
-  pub entries : List Entry
-  pub places : length entries ≡ 32
-  pub funds-places : length (r .funds) ≡ 32
-  pub left : live l entries (r .funds) ≡ ledgerFrom bytes (entryCount bytes - 1) 1 l
-  pub right : LinesFrom bytes (entryCount bytes - 1) 1 l (lines ++ closing (live l entries (r .funds)))
-  pub writes : Writes before 0 lines linesMost after (r .filled)
+  pub ledger : ledgerIn left ≡ ledgerFrom bytes (entryCount bytes - 1) 1 (ledgerIn words)
+  pub right : LinesFrom bytes (entryCount bytes - 1) 1 (ledgerIn words) (lines ++ closing (ledgerIn left))
+  pub writes : Writes before 0 lines linesMost after r

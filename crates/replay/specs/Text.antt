@@ -8,14 +8,13 @@ use Rattle.model.specs.Types.{Entry, Ledger}
 use Rattle.model.specs.declared.Message.{Message}
 use Rattle.model.specs.declared.Opening.{Opening}
 use Rattle.model.specs.declared.Reply.{Reply}
-use Rattle.model.specs.declared.OpenAnswer.{OpenAnswer}
 use Rattle.model.specs.declared.OpenReply.{OpenReply}
 use Rattle.model.specs.declared.OpenReply.the-variants.{Opened, OpenRefused}
 use Rattle.model.specs.declared.BundleReply.{BundleReply}
 use Rattle.model.specs.declared.BundleReply.the-variants.{Sound, BundleRefused}
-use Rattle.model.specs.Records.{accountOf, entryOf}
+use Rattle.model.specs.Records.{accountOf, entryOf, freshLedger}
 use Rattle.model.specs.Replies.{codeOf}
-use Rattle.model.specs.Openings.{openLedger}
+use Rattle.model.specs.Openings.{openReply}
 use Rattle.model.specs.Calls.{step, Answers}
 use Rattle.model.specs.Bundles.{pageAt, messageOf, openingOf, checkBundle}
 use Rattle.text.specs.Lines.{refusalLine, replyLine, accountLine}
@@ -70,22 +69,23 @@ LinesFrom bytes (suc left) i l text =
     × LinesFrom bytes left (suc i) (ledgerAfter l (messageOf (pageAt bytes i))) rest
     × (text ≡ line ++ rest)
 
--- the text of an opening's answer. "`F code entry` for a bundle or opening that is refused (entry 0 for codes 1, 2, 3 ..)"
-abbrev pub OpenedText : List ℕ → ℕ → OpenReply → Ledger → List ℕ → Type 0
-OpenedText bytes m (OpenRefused r) l text = text ≡ refusalLine (codeOf r) 0
-OpenedText bytes m Opened l text = LinesFrom bytes (m - 1) 1 l text
-
 -- "page 0 is the opening page"
 abbrev pub openingPage : List ℕ → Opening
 openingPage bytes = openingOf (pageAt bytes 0 .body)
 
-abbrev pub opened : List ℕ → OpenAnswer
-opened bytes = openLedger (openingPage bytes)
+-- what it is answered
+abbrev pub opened : List ℕ → OpenReply
+opened bytes = openReply (openingPage bytes)
+
+-- the text of an opening's answer. "`F code entry` for a bundle or opening that is refused (entry 0 for codes 1, 2, 3 ..)"
+abbrev pub OpenedText : List ℕ → ℕ → OpenReply → List ℕ → Type 0
+OpenedText bytes m (OpenRefused r) text = text ≡ refusalLine (codeOf r) 0
+OpenedText bytes m Opened text = LinesFrom bytes (m - 1) 1 (freshLedger (openingPage bytes)) text
 
 -- the text of the check's answer: nothing is opened before the whole bundle is checked
 abbrev pub CheckedText : List ℕ → BundleReply → List ℕ → Type 0
 CheckedText bytes (BundleRefused r i) text = text ≡ refusalLine (codeOf r) i
-CheckedText bytes (Sound m) text = OpenedText bytes m (opened bytes .reply) (opened bytes .ledger) text
+CheckedText bytes (Sound m) text = OpenedText bytes m (opened bytes) text
 
 -- what `daybook` writes for these bytes
 abbrev pub TextOf : List ℕ → List ℕ → Type 0

@@ -12,7 +12,7 @@ use Rattle.model.specs.Types.{Entry, Ledger}
 use Rattle.model.specs.Records.{accountOf, noAcks, noLedger, entryOf}
 use Rattle.model.specs.Calls.{step}
 use Rattle.model.proofs.Refusing.{refusal, no-ledger-refuses}
-use Rattle.layout.specs.Layout.{bookWords, entryBy, entriesIn, ledgerIn}
+use Rattle.layout.specs.Layout.{bookWords, slotBy, entryBy, entriesIn, ledgerIn}
 
 -- words that are all 0 are the ledger with nothing in it, which refuses every message
 pub zeros : ledgerIn (replicate bookWords 0) ≡ noLedger
@@ -23,10 +23,10 @@ pub zeros-refuse : (m : Message) → (r : Refusal) × (step (ledgerIn (replicate
 zeros-refuse m = rw zeros (no-ledger-refuses m)
 
 -- Account 0 was acked, and has the ack of seat 15; for account 1 a slip was put forward, and one waits; account 31 has a balance.
--- A number or a recipient where the value is 0 means nothing, a mark is any word but 0, and 257 is account 1.
+-- A number or a recipient where the value is 0 means nothing, and a mark is any word but 0.
 abbrev book : ℕ → ℕ → ℕ → List ℕ
 book n f k =
-    7 ∷ 2 ∷ 1 ∷ 0 ∷ 0 ∷ 6 ∷ 8 ∷ set (replicate 16 0) 15 5 ++ set (replicate 16 0) 15 257
+    7 ∷ 2 ∷ 1 ∷ 0 ∷ 0 ∷ 6 ∷ 8 ∷ set (replicate 16 0) 15 5 ++ set (replicate 16 0) 15 1
     ++ 9 ∷ 4 ∷ 0 ∷ 2 ∷ 12 ∷ 5 ∷ 31 ∷ replicate 16 0 ++ set (replicate 16 0) 0 3
     ++ replicate (29 * 39) 0
     ++ 3 ∷ replicate 38 0
@@ -72,3 +72,7 @@ waiting = (refl, refl)
 acks : (entry 0 .acks ≡ set noAcks 15 (record { slot = slipOf 0 3 5 1 })) × (entry 1 .acks ≡ noAcks)
 unfolding noAcks entryBy entriesIn ledgerIn
 acks = (refl, refl)
+
+-- a recipient is a byte
+bytes : slotBy 0 5 3 257 ≡ slipOf 0 3 5 1
+bytes = refl

@@ -1,6 +1,5 @@
 -- Laws of replaying.
 pub mod Sound
-pub mod Turning
 pub mod Playing
 pub mod Closing
 pub mod Telling

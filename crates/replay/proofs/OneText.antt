@@ -10,13 +10,14 @@ use Rattle.model.specs.declared.OpenReply.{OpenReply}
 use Rattle.model.specs.declared.OpenReply.the-variants.{Opened, OpenRefused}
 use Rattle.model.specs.declared.BundleReply.{BundleReply}
 use Rattle.model.specs.declared.BundleReply.the-variants.{Sound, BundleRefused}
+use Rattle.model.specs.Records.{freshLedger}
 use Rattle.model.specs.Replies.{codeOf, Choice, exactly, proposes}
 use Rattle.model.specs.Calls.{step}
 use Rattle.model.specs.Bundles.{pageAt, messageOf, checkBundle}
 use Rattle.model.proofs.Sums.{impossible}
 use Rattle.model.proofs.Witnesses.{some-answer}
 use Rattle.text.specs.Lines.{refusalLine, replyLine}
-use Rattle.replay.specs.Text.{EntryText, ledgerAfter, closing, LinesFrom, OpenedText, opened, CheckedText, TextOf}
+use Rattle.replay.specs.Text.{EntryText, ledgerAfter, closing, LinesFrom, openingPage, OpenedText, opened, CheckedText, TextOf}
 
 -- the line of a reply that is fixed; none for P
 abbrev pub fixedLine : ℕ → Choice → Option (List ℕ)
@@ -39,12 +40,12 @@ fixedFrom bytes (suc left) i l =
     let asked = messageOf (pageAt bytes i) in
     joined (fixedEntry i l asked) (fixedFrom bytes left (suc i) (ledgerAfter l asked))
 
-abbrev pub fixedOpened : List ℕ → ℕ → OpenReply → Ledger → Option (List ℕ)
-fixedOpened bytes m Opened l = fixedFrom bytes (m - 1) 1 l
-fixedOpened bytes m (OpenRefused r) l = some (refusalLine (codeOf r) 0)
+abbrev pub fixedOpened : List ℕ → ℕ → OpenReply → Option (List ℕ)
+fixedOpened bytes m Opened = fixedFrom bytes (m - 1) 1 (freshLedger (openingPage bytes))
+fixedOpened bytes m (OpenRefused r) = some (refusalLine (codeOf r) 0)
 
 abbrev pub fixedChecked : List ℕ → BundleReply → Option (List ℕ)
-fixedChecked bytes (Sound m) = fixedOpened bytes m (opened bytes .reply) (opened bytes .ledger)
+fixedChecked bytes (Sound m) = fixedOpened bytes m (opened bytes)
 fixedChecked bytes (BundleRefused r i) = some (refusalLine (codeOf r) i)
 
 -- the text of a bundle in which no call replies P
@@ -100,14 +101,13 @@ one-lines bytes (suc left) i l {t} e =
 pub one-text : (bytes : List ℕ) {t : List ℕ} → fixedText bytes ≡ some t → Only (TextOf bytes) t
 one-text bytes {t} e = go (checkBundle bytes) e
   where
-    of-opening : (m : ℕ) (r : OpenReply) → fixedOpened bytes m r (opened bytes .ledger) ≡ some t
-        → Only (OpenedText bytes m r (opened bytes .ledger)) t
-    of-opening m Opened e = one-lines bytes (m - 1) 1 (opened bytes .ledger) e
+    of-opening : (m : ℕ) (r : OpenReply) → fixedOpened bytes m r ≡ some t → Only (OpenedText bytes m r) t
+    of-opening m Opened e = one-lines bytes (m - 1) 1 (freshLedger (openingPage bytes)) e
     of-opening m (OpenRefused q) e = exact (refusalLine (codeOf q) 0) (λ u h. h) refl e
 
     go : (r : BundleReply) → fixedChecked bytes r ≡ some t → Only (CheckedText bytes r) t
     go (BundleRefused q i) e = exact (refusalLine (codeOf q) i) (λ u h. h) refl e
-    go (Sound m) e = of-opening m (opened bytes .reply) e
+    go (Sound m) e = of-opening m (opened bytes) e
 
 -- Every bundle has a text, whatever its bytes are.
 some-line : (i : ℕ) (l : Ledger) (asked : Option Message) → (text : List ℕ) × EntryText i l asked text
@@ -125,10 +125,10 @@ some-lines bytes (suc left) i l =
 pub some-text : (bytes : List ℕ) → (text : List ℕ) × TextOf bytes text
 some-text bytes = go (checkBundle bytes)
   where
-    of-opening : (m : ℕ) (r : OpenReply) → (text : List ℕ) × OpenedText bytes m r (opened bytes .ledger) text
-    of-opening m Opened = some-lines bytes (m - 1) 1 (opened bytes .ledger)
+    of-opening : (m : ℕ) (r : OpenReply) → (text : List ℕ) × OpenedText bytes m r text
+    of-opening m Opened = some-lines bytes (m - 1) 1 (freshLedger (openingPage bytes))
     of-opening m (OpenRefused q) = (refusalLine (codeOf q) 0, refl)
 
     go : (r : BundleReply) → (text : List ℕ) × CheckedText bytes r text
     go (BundleRefused q i) = (refusalLine (codeOf q) i, refl)
-    go (Sound m) = of-opening m (opened bytes .reply)
+    go (Sound m) = of-opening m (opened bytes)

@@ -7,7 +7,7 @@ use mathlib.Core.Path.{_≡_, refl, subst}
 use mathlib.Core.List.{List, [], _++_, append-assoc}
 use mathlib.Core.Option.{Option, none, some}
 use lib.ListN.{length}
-use Rattle.model.specs.Types.{Entry, Ledger, Answer}
+use Rattle.model.specs.Types.{Ledger, Answer}
 use Rattle.model.specs.declared.Message.{Message}
 use Rattle.model.specs.Replies.{Meets}
 use Rattle.model.specs.Calls.{step}
@@ -16,9 +16,9 @@ use Rattle.text.specs.Lines.{decimal, replyLine}
 use Rattle.text.specs.Outputs.{Writes}
 use Rattle.text.proofs.Writing.{nothing, then, within}
 use Rattle.text.proofs.Decimals.{three-digits}
-use Rattle.replay.specs.declared.Played.{Played}
 use Rattle.replay.specs.Text.{EntryText, ledgerAfter, ledgerFrom, closing, LinesFrom}
-use Rattle.replay.specs.Promises.{live, PlayedAll}
+use Rattle.layout.specs.Layout.{ledgerIn}
+use Rattle.replay.specs.Promises.{PlayedAll}
 
 -- One entry: what it adds to the text is written at a place of the buffer, and the ledger is the one after it.
 pub record PlayedEntry (i : ℕ) (l : Ledger) (asked : Option Message) (before : List ℕ) (at : ℕ) (after : List ℕ) (filled : ℕ) (next : Ledger) : Type 0 where
@@ -92,17 +92,14 @@ module _ (bytes : List ℕ) (l : Ledger) (before : List ℕ) where
             rw (append-assoc (p .lines) (e .line) rest)
             (p .goes-on (e .line ++ rest) (rw one (e .line, rest, e .right, left, refl)))
 
-  -- after the last entry: the ledger so far is the one that is left
-  pub played-all : {i : ℕ} {mid : List ℕ} (es : List Entry) (r : Played) → PlayedTo i (live l es (r .funds)) mid (r .filled)
-      → length es ≡ 32 → length (r .funds) ≡ 32 → entryCount bytes ≤ i → PlayedAll bytes l before mid r
-  played-all {i} es r p places funds-places over =
-      let none-left : entryCount bytes - i ≡ 0 = omega arith in
-      record {
-        lines = p .lines;
-        entries = es;
-        places = places;
-        funds-places = funds-places;
-        left = rw none-left at (p .left);
-        right = p .goes-on (closing (live l es (r .funds))) (rw none-left refl);
-        writes = within (omega (arith, p .few)) (p .writes);
-      }
+-- after the last entry: the words so far are the ledger that is left
+pub played-all : (bytes words before : List ℕ) {i : ℕ} {left after : List ℕ} {filled : ℕ} → PlayedTo bytes (ledgerIn words) before i (ledgerIn left) after filled
+    → entryCount bytes ≤ i → PlayedAll bytes words left before after filled
+played-all bytes words before {i} {left} p over =
+    let none-left : entryCount bytes - i ≡ 0 = omega arith in
+    record {
+      lines = p .lines;
+      ledger = rw none-left at (p .left);
+      right = p .goes-on (closing (ledgerIn left)) (rw none-left refl);
+      writes = within (omega (arith, p .few)) (p .writes);
+    }

@@ -6,8 +6,7 @@ use mathlib.Core.List.{List, _++_}
 use lib.ListN.{length, take, drop, length-append}
 use lib.Seq.{take-append-seam}
 use Rattle.model.specs.declared.Refusal.{Refusal}
-use Rattle.model.specs.Types.{Ledger}
-use Rattle.model.specs.declared.OpenAnswer.{OpenAnswer}
+use Rattle.model.specs.declared.OpenReply.{OpenReply}
 use Rattle.model.specs.declared.OpenReply.the-variants.{Opened, OpenRefused}
 use Rattle.model.specs.declared.BundleReply.the-variants.{Sound, BundleRefused}
 use Rattle.model.specs.Bundles.{entryCount, checkBundle}
@@ -15,10 +14,11 @@ use Rattle.model.specs.Replies.{codeOf}
 use Rattle.text.specs.Lines.{refusalLine}
 use Rattle.text.specs.Outputs.{Writes}
 use Rattle.text.proofs.Writing.{then, within, whole}
-use Rattle.replay.specs.declared.Played.{Played}
-use Rattle.replay.proofs.Closing.{closing-told}
-use Rattle.replay.specs.Text.{rowLines, LinesFrom, opened, CheckedText, TextOf}
-use Rattle.replay.specs.Promises.{closingMost, rowsBy, textMost, Replayed, Wrote, PlayedAll}
+use Rattle.layout.specs.Layout.{ledgerIn}
+use Rattle.opening.specs.Promises.{Opens}
+use Rattle.replay.proofs.Sound.{fresh-words}
+use Rattle.replay.specs.Text.{closing, LinesFrom, openingPage, CheckedText, TextOf}
+use Rattle.replay.specs.Promises.{closingMost, textMost, Replayed, Wrote, PlayedAll}
 
 -- what is right by one definition is right by another that follows from it
 rightly : {P Q : List ℕ → Type 0} {before after : List ℕ} {r : ℕ} → ((text : List ℕ) → P text → Q text) → Wrote P before after r → Wrote Q before after r
@@ -30,28 +30,29 @@ single-line : {P : List ℕ → Type 0} {before after : List ℕ} {r most : ℕ}
 single-line line h most w = record { text = line; right = h; writes = within most w }
 
 module _ (bytes : List ℕ) {before : List ℕ} where
-  -- the entries' lines, and behind them the closing lines
-  pub wrote-lines : {l : Ledger} {mid after : List ℕ} {p : Played} {r : ℕ} → PlayedAll bytes l before mid p
-      → l .accounts ≤ 32 → Writes mid (p .filled) (rowLines 0 (rowsBy (p .funds) (l .accounts) 0)) closingMost after r
-      → Wrote (LinesFrom bytes (entryCount bytes - 1) 1 l) before after r
-  wrote-lines {l} {p = p} played few closes =
+  -- the entries' lines, and behind them the closing lines of the ledger that they leave
+  pub wrote-lines : {words left mid after : List ℕ} {filled r : ℕ} → PlayedAll bytes words left before mid filled
+      → Writes mid filled (closing (ledgerIn left)) closingMost after r → Wrote (LinesFrom bytes (entryCount bytes - 1) 1 (ledgerIn words)) before after r
+  wrote-lines {left = left} played closes =
       record {
-        text = played .lines ++ rowLines 0 (rowsBy (p .funds) (l .accounts) 0);
-        right = rw (closing-told l (played .entries) (p .funds) (played .places) (played .funds-places) few) at (played .right);
+        text = played .lines ++ closing (ledgerIn left);
+        right = played .right;
         writes = within (omega arith) (then (played .writes) closes);
       }
 
   module _ {after : List ℕ} {r : ℕ} where
     -- the answer of the opening page decides what follows
-    pub wrote-opened : (a : OpenAnswer) → a ≡ opened bytes → a .reply ≡ Opened
-        → Wrote (LinesFrom bytes (entryCount bytes - 1) 1 (a .ledger)) before after r
+    pub wrote-opened : (words held : List ℕ) (a : OpenReply) → Opens words (openingPage bytes) a held → a ≡ Opened
+        → Wrote (LinesFrom bytes (entryCount bytes - 1) 1 (ledgerIn held)) before after r
         → Wrote (CheckedText bytes (Sound (entryCount bytes))) before after r
-    wrote-opened a same opens w = rightly (λ text h. rw (← same, opens) h) w
+    wrote-opened words held a answer opens w =
+        rightly (λ text h. rw (← answer .reply, opens) (rw (fresh-words words held (openingPage bytes) a answer opens) at h)) w
 
-    pub wrote-not-opened : (a : OpenAnswer) (q : Refusal) → a ≡ opened bytes → a .reply ≡ OpenRefused q
+    pub wrote-not-opened : (words held : List ℕ) (a : OpenReply) (q : Refusal) → Opens words (openingPage bytes) a held → a ≡ OpenRefused q
         → Writes before 0 (refusalLine (codeOf q) 0) 24 after r
         → Wrote (CheckedText bytes (Sound (entryCount bytes))) before after r
-    wrote-not-opened a q same refused w = single-line (refusalLine (codeOf q) 0) (rw (← same, refused) refl) (omega arith) w
+    wrote-not-opened words held a q answer refused w =
+        single-line (refusalLine (codeOf q) 0) (rw (← answer .reply, refused) refl) (omega arith) w
 
     -- and so does that of the check
     pub wrote-sound : {m : ℕ} → checkBundle bytes ≡ Sound m → m ≡ entryCount bytes

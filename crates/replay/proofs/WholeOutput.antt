@@ -6,7 +6,7 @@ use mathlib.Core.Option.{some}
 use lib.ListN.{set, replicate}
 use Rattle.model.specs.Records.{noAcks}
 use Rattle.model.specs.Transfers.{equal, conflict}
-use Rattle.model.specs.Openings.{openLedger}
+use Rattle.model.specs.Openings.{openReply}
 use Rattle.model.specs.Acks.{hasMost}
 use Rattle.model.specs.Settling.{lowestAffordable, apply, settleAtMost, settle}
 use Rattle.model.specs.Calls.{step}
@@ -68,7 +68,7 @@ pub facts : (fixedText case ≡ some nineLines)
     × (fixedText zeros ≡ some (bytesOf "F 1 0\n"))
     × (fixedText (set case 200 1) ≡ some (bytesOf "F 16 1\n"))
     × (fixedText [] ≡ some (bytesOf "F 13 0\n"))
-unfolding case funds zeros decimal noAcks equal conflict hasMost openLedger lowestAffordable apply settleAtMost settle step checkBundle
+unfolding case funds zeros decimal noAcks equal conflict hasMost openReply lowestAffordable apply settleAtMost settle step checkBundle
 facts = (refl, refl, refl, refl, refl)
 
 -- document 01's nine lines are the text of its case, and nothing else is

@@ -34,7 +34,7 @@ CheckedList bytes (Sound m) before reply after = OpenedList bytes (opened bytes)
 
 -- the list of a bundle that is sound
 pub record SoundList (bytes before : List ℕ) (reply : ListReply) (after : List ℕ) : Type 0 where
-  pub meets : CheckedList bytes (Sound (entryCount bytes)) before reply after
+  pub meets : OpenedList bytes (opened bytes) before reply after
 
 -- The whole of it: the reply, and the buffer after it, given the buffer before it.
 pub record ListOf (bytes before : List ℕ) (reply : ListReply) (after : List ℕ) : Type 0 where

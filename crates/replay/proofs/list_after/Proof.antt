@@ -30,7 +30,7 @@ same-length c = search needs
 returns : tie.Need-returns
 returns c =
     let told = c .before .before .before .before in
-    list-of-sound _ _ (sound told) (sound-count _ _ (sound told) .0) (c .before .before .list-sound .ensures)
+    list-of-sound _ _ (sound told) (c .before .before .list-sound .ensures)
 
 returns-2 : tie.Need-returns-2
 returns-2 c =

@@ -1,7 +1,6 @@
 -- Page 0's body is read as an opening page, and opened.
 use mathlib.Core.Path.{ap, _∙_}
 use Rattle.model.specs.Bundles.{openingOf}
-use Rattle.model.specs.Openings.{openLedger}
 use Rattle.reader.proofs.Pages.{opens-with}
 use borrow.Author.Needs.{needs}
 use Rattle.replay.proofs.open_bundle.Statement.{statement}
@@ -18,15 +17,9 @@ open-requires c κs = search needs
 
 returns : tie.Need-returns
 returns c =
-    let start = c .before .before .before .before in
-    c .«open» .ensures .meets
-    ∙ ap openLedger (c .before .opening-of .ensures ∙ ap openingOf (c .before .before .opening-body .ensures ∙ opens-with (start .args .bytes .now) (start .pre)))
+    let page = c .before .opening-of .ensures ∙ ap openingOf (c .before .before .before .opening-body .ensures ∙ opens-with (c .before .before .before .before .before .args .bytes .now) (c .before .before .before .before .before .pre)) in
+    rw page at (c .«open» .ensures .opens)
 
 pub open-bundle-spec : {M : Type 1} → statement M
 open-bundle-spec =
-    tie.close
-    (tie.spec
-    opening-body-requires
-    opening-of-requires
-    open-requires
-    returns)
+    tie.close (tie.spec opening-body-requires opening-of-requires open-requires returns)

@@ -1,11 +1,8 @@
 -- The loop over the accounts keeps `ClosedTo`.
 use Prim.Native.Nat.{_-_, _≤_}
 use native.Mathlib.Omega.{arith}
-use mathlib.Core.Path.{_≡_}
-use lib.ListN.{length}
-use Rattle.basics.proofs.Loops.{there}
-use Rattle.model.specs.Records.{freshEntry}
-use Rattle.settling.specs.Funds.{fundsOf}
+use Rattle.layout.specs.Layout.{ledgerIn}
+use Rattle.layout.proofs.Ranges.{accounts-fit}
 use Rattle.text.proofs.Writing as Text
 use Rattle.replay.proofs.Closing.{ClosedTo, closed-none, closed-more, closed-all}
 use borrow.Author.Needs.{needs}
@@ -13,22 +10,22 @@ use Rattle.replay.proofs.put_closing.Statement.{statement}
 use Rattle.replay.proofs.put_closing.Tie as tie
 
 abbrev Inv-loop : tie.InvT-loop
-Inv-loop accounts out₀ at fs filled₀ a₀ out filled a = (a ≤ 32) × ClosedTo fs accounts out₀ at a out filled
+Inv-loop words out₀ at accounts filled₀ a₀ out filled a = (a ≤ 32) × ClosedTo (ledgerIn words) out₀ at a out filled
 
 abbrev μ-loop : tie.MeasureT-loop
-μ-loop accounts out₀ at fs filled₀ a₀ out filled a = accounts - a
+μ-loop words out₀ at accounts filled₀ a₀ out filled a = accounts - a
+
+accounts-of-requires : tie.Need-accounts-of-requires Inv-loop μ-loop
+accounts-of-requires c κs = c .before .before .pre
 
 loop-holds : tie.Need-loop-holds Inv-loop μ-loop
-loop-holds c = (omega arith, closed-none _ _ _ _)
+loop-holds c = (omega arith, closed-none _ _ _)
 
-cast-f : tie.Need-cast-f Inv-loop μ-loop
-cast-f c = omega arith
+balance-of-requires : tie.Need-balance-of-requires Inv-loop μ-loop
+balance-of-requires c κs = (c .before .before .before .before .before .before .pre, omega (arith, c .before .before .before .accounts-of .ensures, accounts-fit (c .before .before .before .before .before .before .args .words .now)))
 
-mul-f : tie.Need-mul-f Inv-loop μ-loop
-mul-f c = omega arith
-
-array-copy-out-f : tie.Need-array-copy-out-f Inv-loop μ-loop
-array-copy-out-f c = omega arith
+current-of-requires : tie.Need-current-of-requires Inv-loop μ-loop
+current-of-requires c κs = (c .before .before .before .before .before .before .before .pre, omega (arith, c .before .before .before .before .accounts-of .ensures, accounts-fit (c .before .before .before .before .before .before .before .args .words .now)))
 
 put-account-requires : tie.Need-put-account-requires Inv-loop μ-loop
 put-account-requires c κs = search needs
@@ -41,16 +38,15 @@ loop-less c = omega arith
 
 loop-again : tie.Need-loop-again Inv-loop μ-loop
 loop-again c =
-    let start = c .before .before .before .before .before .before .before .before in
-    let at = c .before .before .before .before .before .before .loop in
-    let places : length (start .args .t2) ≡ 32 = start .good .1 .0 .1 .0 .1 in
-    (omega (arith, start .pre), closed-more _ _ _ _ (at .inv .1) _ (there (start .args .t2) (at .a) _ (fundsOf (freshEntry 0)) (omega (arith, places, start .pre))) (omega arith) (start .pre) (c .before .before .put-account .ensures))
+    let few = accounts-fit (c .before .before .before .before .before .before .before .before .before .before .before .args .words .now) in
+    let below = c .before .before .before .before .before .before .before .before .accounts-of .ensures in
+    (omega (arith, few, below), closed-more _ _ _ (c .before .before .before .before .before .before .before .loop .inv .1) (c .before .before .before .before .balance-of .ensures) (c .before .before .before .current-of .ensures) (omega (arith, below)) few (c .before .before .put-account .ensures))
 
 same-length : tie.Need-same-length Inv-loop μ-loop
 same-length c = Text.same-length (c .before .loop .inv .1 .writes)
 
 returns : tie.Need-returns Inv-loop μ-loop
-returns c = closed-all _ _ _ _ (c .before .loop .inv .1) (omega arith) (c .before .loop .inv .0)
+returns c = closed-all _ _ _ (c .before .loop .inv .1) (omega (arith, c .before .before .accounts-of .ensures)) (c .before .loop .inv .0)
 
 pub put-closing-spec : {M : Type 1} → statement M
 put-closing-spec =
@@ -58,10 +54,10 @@ put-closing-spec =
     (tie.spec
     Inv-loop
     μ-loop
+    accounts-of-requires
     loop-holds
-    cast-f
-    mul-f
-    array-copy-out-f
+    balance-of-requires
+    current-of-requires
     put-account-requires
     add-a
     loop-less

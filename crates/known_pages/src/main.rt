@@ -2,9 +2,9 @@
 // What it must write is the file `stdout` beside src/, taken from document 01.
 use basics::codes::code_of;
 use basics::codes::letter_of;
+use layout::BOOK_WORDS;
 use libc::STDOUT_FILENO;
 use model::Account;
-use model::Ledger;
 use model::ListReply;
 use model::Message;
 use model::OpenReply;
@@ -58,8 +58,8 @@ fn show(r: Reply) {
     put(b'\n');
 }
 
-// The opening of two accounts: its code, 0 where it opens, and the ledger.
-fn opening(seats: u8, faults: u8, first: u32, second: u32) -> Ledger {
+// The opening of two accounts: its code, 0 where it opens.
+fn opening(words: &mut [u32; BOOK_WORDS], seats: u8, faults: u8, first: u32, second: u32) {
     let mut balances: [u32; 32] = [0; 32];
     balances[0] = first;
     balances[1] = second;
@@ -69,38 +69,34 @@ fn opening(seats: u8, faults: u8, first: u32, second: u32) -> Ledger {
         accounts: 2,
         balances: balances,
     };
-    let answer = ledger::open(page);
-    let reply = answer.reply;
+    let reply = ledger::open(words, page);
     put(b'O');
     match reply {
         OpenReply::Opened => number(0),
         OpenReply::OpenRefused(r) => small(code_of(r)),
     }
     put(b'\n');
-    answer.ledger
 }
 
-// One message, its reply written; the ledger after it.
-fn play(l: Ledger, m: Message) -> Ledger {
-    let answer = ledger::call(l, m);
-    let reply = answer.reply;
+// One message, its reply written.
+fn play(words: &mut [u32; BOOK_WORDS], m: Message) {
+    let reply = ledger::call(words, m);
     show(reply);
-    answer.ledger
 }
 
-fn ack(l: Ledger, seat: u8, t: Transfer) -> Ledger {
-    play(l, Message::Ack(Seat(seat), t))
+fn ack(words: &mut [u32; BOOK_WORDS], seat: u8, t: Transfer) {
+    play(words, Message::Ack(Seat(seat), t));
 }
 
-fn question(l: Ledger, account: u8) -> Ledger {
-    play(l, Message::Inquiry(Account(account)))
+fn question(words: &mut [u32; BOOK_WORDS], account: u8) {
+    play(words, Message::Inquiry(Account(account)));
 }
 
 // The waiting list: how many, and the first byte of the buffer.
-fn waiting(l: Ledger) {
+fn waiting(words: &[u32; BOOK_WORDS]) {
     let mut buffer = [99u8; 32];
     put(b'W');
-    match ledger::list_waiting(l, &mut buffer) {
+    match ledger::list_waiting(words, &mut buffer) {
         ListReply::Listed(count) => number(count),
         ListReply::ListRefused(r) => small(code_of(r)),
     }
@@ -110,68 +106,75 @@ fn waiting(l: Ledger) {
 
 // "n 5, f 1 and n 17, f 0 are refused with 1."
 fn openings() {
-    opening(5, 1, 10, 5);
-    opening(17, 0, 10, 5);
+    let mut book = [0u32; BOOK_WORDS];
+    opening(&mut book, 5, 1, 10, 5);
+    opening(&mut book, 17, 0, 10, 5);
 }
 
 // "acks for t from seats 0, 1, 2, for u from 3, 4: the fifth gives P t; seat 5 for t gives N."
 fn split_three_two() {
     let t = transfer(0, 1, 4, 1);
     let u = transfer(0, 1, 5, 1);
-    let l = opening(6, 1, 10, 3);
-    let l = ack(l, 0, t);
-    let l = ack(l, 1, t);
-    let l = ack(l, 2, t);
-    let l = ack(l, 3, u);
-    let l = ack(l, 4, u);
-    let l = ack(l, 5, t);
-    ack(l, 5, u);
+    let mut book = [0u32; BOOK_WORDS];
+    opening(&mut book, 6, 1, 10, 3);
+    ack(&mut book, 0, t);
+    ack(&mut book, 1, t);
+    ack(&mut book, 2, t);
+    ack(&mut book, 3, u);
+    ack(&mut book, 4, u);
+    ack(&mut book, 5, t);
+    ack(&mut book, 5, u);
 }
 
 // "Same, but t from 0 to 3 and u from 4: P t, then seat 5 for t gives K."
 fn split_four_one() {
     let t = transfer(0, 1, 4, 1);
-    let l = opening(6, 1, 10, 3);
-    let l = ack(l, 0, t);
-    let l = ack(l, 1, t);
-    let l = ack(l, 2, t);
-    let l = ack(l, 3, t);
-    let l = ack(l, 4, transfer(0, 1, 5, 1));
-    ack(l, 5, t);
+    let mut book = [0u32; BOOK_WORDS];
+    opening(&mut book, 6, 1, 10, 3);
+    ack(&mut book, 0, t);
+    ack(&mut book, 1, t);
+    ack(&mut book, 2, t);
+    ack(&mut book, 3, t);
+    ack(&mut book, 4, transfer(0, 1, 5, 1));
+    ack(&mut book, 5, t);
 }
 
 // "Balances 10 and 5, just opened: a first slip from account 0 of 10 gives A; one of 11 in its place gives 11; one of 16 gives 5."
 fn funds() {
-    let l = opening(6, 1, 10, 5);
-    play(l, Message::Circulated(transfer(0, 1, 10, 1)));
-    play(l, Message::Circulated(transfer(0, 1, 11, 1)));
-    play(l, Message::Circulated(transfer(0, 1, 16, 1)));
-    play(l, Message::Request(transfer(0, 1, 10, 1)));
+    let mut book = [0u32; BOOK_WORDS];
+    opening(&mut book, 6, 1, 10, 5);
+    let mut other = book;
+    play(&mut other, Message::Circulated(transfer(0, 1, 10, 1)));
+    play(&mut book, Message::Circulated(transfer(0, 1, 11, 1)));
+    play(&mut book, Message::Circulated(transfer(0, 1, 16, 1)));
+    play(&mut book, Message::Request(transfer(0, 1, 10, 1)));
 }
 
 // "Balances 0 and 5: ruling (0, 1, 5, 1) gives K 0; then ruling (1, 1, 5, 0) gives K 2, balances 0 and 5."
 fn rulings() {
-    let l = opening(6, 1, 0, 5);
-    let l = play(l, Message::Decision(transfer(0, 1, 5, 1)));
-    waiting(l);
-    let l = play(l, Message::Decision(transfer(1, 1, 5, 0)));
-    waiting(l);
-    let l = question(l, 0);
-    question(l, 1);
+    let mut book = [0u32; BOOK_WORDS];
+    opening(&mut book, 6, 1, 0, 5);
+    play(&mut book, Message::Decision(transfer(0, 1, 5, 1)));
+    waiting(&book);
+    play(&mut book, Message::Decision(transfer(1, 1, 5, 0)));
+    waiting(&book);
+    question(&mut book, 0);
+    question(&mut book, 1);
 }
 
 // The case of document 01's whole output: a slip, its acks from seats 0 to 4, a question.
 fn whole_case() {
     let t = transfer(0, 1, 4, 1);
-    let l = opening(6, 1, 10, 3);
-    let l = play(l, Message::Circulated(t));
-    let l = ack(l, 0, t);
-    let l = ack(l, 1, t);
-    let l = ack(l, 2, t);
-    let l = ack(l, 3, t);
-    let l = ack(l, 4, t);
-    let l = question(l, 1);
-    question(l, 0);
+    let mut book = [0u32; BOOK_WORDS];
+    opening(&mut book, 6, 1, 10, 3);
+    play(&mut book, Message::Circulated(t));
+    ack(&mut book, 0, t);
+    ack(&mut book, 1, t);
+    ack(&mut book, 2, t);
+    ack(&mut book, 3, t);
+    ack(&mut book, 4, t);
+    question(&mut book, 1);
+    question(&mut book, 0);
 }
 
 fn main() {

@@ -91,19 +91,19 @@ pub enum Reply {
 }
 
 /// What the book holds for one account.
-#[derive(Clone, PartialEq, Eq, Debug)]
-struct Account {
-    balance: u32,
+#[derive(Clone, Default, PartialEq, Eq, Debug)]
+pub struct Account {
+    pub balance: u32,
     /// the number last booked, 0 at opening
-    current: u32,
+    pub current: u32,
     /// whether this seat has acked the next number
-    acked: bool,
+    pub acked: bool,
     /// each seat's first ack for the next number
-    acks: [Option<Slip>; MOST_SEATS],
+    pub acks: [Option<Slip>; MOST_SEATS],
     /// whether a slip was put forward for the next number
-    put_forward: bool,
+    pub put_forward: bool,
     /// the accepted slip that waits to be booked
-    waiting: Option<Slip>,
+    pub waiting: Option<Slip>,
 }
 
 impl Account {
@@ -206,6 +206,11 @@ impl Book {
     /// k
     pub fn accounts(&self) -> usize {
         self.accounts.len()
+    }
+
+    /// All that is held for an account below k.
+    pub fn account(&self, account: usize) -> &Account {
+        &self.accounts[account]
     }
 
     /// The balance of an account below k.

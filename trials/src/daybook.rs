@@ -8,7 +8,6 @@ extern "C" {
     fn daybook_text(bytes: *const u8, length: usize, text: *mut [u8; TEXT_SIZE]) -> usize;
     fn daybook_waiting(bytes: *const u8, length: usize, list: *mut u8, list_length: usize) -> u32;
     fn bundle_sum(bytes: *const u8, length: usize) -> u32;
-    fn ledger_opening_code(page: *const u8, length: usize) -> u8;
     fn ledger_acks_needed(seats: u8, faults: u8) -> u16;
     fn ledger_is_enough(seats: u8, faults: u8, acks: u8) -> bool;
 }
@@ -64,11 +63,6 @@ pub fn waiting(bytes: &[u8], list: &mut [u8]) -> (u8, u8) {
 /// The sum of these bytes, as a contents entry has it of a body.
 pub fn sum(bytes: &[u8]) -> u32 {
     unsafe { bundle_sum(bytes.as_ptr(), bytes.len()) }
-}
-
-/// The code by which an opening page's body is refused, or 0. Bytes that are missing count as 0.
-pub fn opening_code(page: &[u8]) -> u8 {
-    unsafe { ledger_opening_code(page.as_ptr(), page.len()) }
 }
 
 /// How many equal acks accept a slip.

@@ -27,6 +27,21 @@ pub fn living(dice: &mut Dice, most: usize) -> Vec<u8> {
     bundle::write(&life.page, &life.messages)
 }
 
+/// So many messages to a book that this page opens and that never comes to a stop, however long it lives.
+pub fn lasting(dice: &mut Dice, page: &OpeningPage, most: usize) -> Vec<Message> {
+    let mut life = Life::open(dice, page.clone(), most);
+    life.lasts = true;
+    life.chain(true);
+    while life.messages.len() < most {
+        match life.dice.below(32) {
+            0 => life.chain(true),
+            1 | 2 => life.relief(),
+            _ => life.scene(),
+        }
+    }
+    life.messages
+}
+
 /// A book and the messages that it has got.
 struct Life<'a> {
     dice: &'a mut Dice,
@@ -38,6 +53,8 @@ struct Life<'a> {
     favourite: u8,
     messages: Vec<Message>,
     most: usize,
+    /// no slip is accepted that could wait for ever
+    lasts: bool,
 }
 
 impl<'a> Life<'a> {
@@ -53,11 +70,22 @@ impl<'a> Life<'a> {
             favourite,
             messages: Vec::new(),
             most,
+            lasts: false,
         }
     }
 
-    /// A message comes. Once the bundle is full it is left out, and so is all that follows.
+    /// A message comes. In a life that lasts, a slip that could wait for ever is only asked for.
     fn say(&mut self, message: Message) -> Reply {
+        match message {
+            Message::Ack { slip, .. } | Message::Ruling(slip) if self.lasts && self.could_stop(slip) => {
+                self.tell(Message::Request(slip))
+            }
+            _ => self.tell(message),
+        }
+    }
+
+    /// Once the bundle is full a message is left out, and so is all that follows.
+    fn tell(&mut self, message: Message) -> Reply {
         if self.messages.len() < self.most {
             self.messages.push(message);
         }
@@ -101,6 +129,28 @@ impl<'a> Life<'a> {
 
     fn current(&self, account: u8) -> u32 {
         self.book.current(usize::from(account))
+    }
+
+    /// What an account that waits lacks; 0 if none of its slips waits.
+    fn lack(&self, account: u8) -> u32 {
+        let account = self.book.account(usize::from(account));
+        account.waiting.map_or(0, |slip| slip.value - account.balance)
+    }
+
+    /// As long as all that the waiting accounts lack is no more than what the others have, these can pay one of them,
+    /// and then it is so again. Whether this slip, if it is accepted, could end that.
+    fn could_stop(&self, slip: Slip) -> bool {
+        if slip.account >= self.page.k || slip.value <= self.balance(slip.account) {
+            return false;
+        }
+        let (mut free, mut lacking) = (0, 0);
+        for account in 0..self.page.k {
+            match self.lack(account) {
+                0 => free += u64::from(self.balance(account)),
+                lack => lacking += u64::from(lack),
+            }
+        }
+        u64::from(slip.value) + lacking > free
     }
 
     /// A value that the account mostly can pay.
@@ -158,7 +208,7 @@ impl<'a> Life<'a> {
 
     /// The slip is accepted: by a ruling, or in a small group perhaps by acks.
     fn accept(&mut self, slip: Slip) {
-        if self.page.n > 3 || self.dice.once_in(2) {
+        if self.page.n > 3 || self.lasts || self.dice.once_in(2) {
             self.say(Message::Ruling(slip));
             return;
         }
@@ -282,9 +332,33 @@ impl<'a> Life<'a> {
         let first = slips.remove(0);
         self.dice.shuffle(&mut slips);
         for slip in slips {
-            self.say(Message::Ruling(slip));
+            // none waits for ever: the first lets all of them be booked
+            self.tell(Message::Ruling(slip));
         }
         self.accept(first);
+    }
+
+    /// Accounts that do not wait pay one that does what it lacks, as far as they can.
+    fn relief(&mut self) {
+        let mut payers = self.accounts_that_do_not_wait();
+        let waiting: Vec<u8> = (0..self.page.k).filter(|account| !payers.contains(account)).collect();
+        if waiting.is_empty() {
+            return self.question();
+        }
+        let poor = *self.dice.pick(&waiting);
+        self.dice.shuffle(&mut payers);
+        for account in payers {
+            let value = self.balance(account).min(self.lack(poor));
+            if value > 0 {
+                let number = self.current(account) + 1;
+                self.accept(Slip {
+                    account,
+                    number,
+                    value,
+                    recipient: poor,
+                });
+            }
+        }
     }
 
     fn accounts_that_do_not_wait(&self) -> Vec<u8> {

@@ -1,13 +1,16 @@
 //! What the trials share: the compiled `daybook`, dice, the counting of checks, and the bundles that are tried.
 
+pub mod any_words;
 pub mod checks;
 pub mod damage;
 pub mod daybook;
 pub mod dice;
 pub mod edges;
 pub mod groups;
+pub mod held;
 pub mod known;
 pub mod ledgers;
+pub mod lent;
 pub mod openings;
 pub mod tallies;
 pub mod trial;

@@ -1,4 +1,4 @@
-//! How often each reply and each refusal occurred, counted from what `daybook` printed.
+//! How often each reply and each refusal occurred, counted from what the compiled ledger replied or `daybook` printed.
 
 use crate::checks::Checks;
 use crate::waiting::Answer;
@@ -20,40 +20,73 @@ const KINDS: [(&str, &[&str]); 5] = [
     ("question", &["B", "R 5"]),
 ];
 
-/// The other rows of the table.
-const ROWS: [&[&str]; 7] = [
+/// The other rows of every table.
+const ROWS: [&[&str]; 5] = [
     &["A", "C", "K", "P", "N", "B", "R"],
     &["K 0", "K 1", "K 2", "K 3 to 31", "K 32"],
     &["P free on a tie", "P not free"],
     &["R 4", "R 5", "R 6", "R 7", "R 8", "R 9", "R 10", "R 11", "R 12"],
-    &["F 1", "F 2", "F 3", "F 13", "F 14", "F 15", "F 16"],
-    &[
-        "F 14 at entry 0",
-        "F 14 at a later one",
-        "F 16 at entry 0",
-        "F 16 at a later one",
-    ],
-    &[
-        "none waits",
-        "one waits",
-        "more wait",
-        "waiting list 17",
-        "waiting list F",
-    ],
+    &["none waits", "one waits", "more wait", "waiting list 17"],
 ];
 
-#[derive(Default)]
+/// The rows of bundles alone.
+const BUNDLE_ROWS: [&str; 12] = [
+    "F 1",
+    "F 2",
+    "F 3",
+    "F 13",
+    "F 14",
+    "F 15",
+    "F 16",
+    "F 14 at entry 0",
+    "F 14 at a later one",
+    "F 16 at entry 0",
+    "F 16 at a later one",
+    "waiting list F",
+];
+
+/// The rows of held books alone.
+pub const NO_MESSAGE: &str = "no message";
+pub const SETTLED_LATER: &str = "settled by another's";
+
 pub struct Tallies {
-    counts: BTreeMap<String, [u64; CLASSES.len()]>,
+    columns: &'static [&'static str],
+    /// each row has to be met in one of so many first columns
+    decisive: usize,
+    rows: Vec<String>,
+    counts: BTreeMap<String, Vec<u64>>,
 }
 
 impl Tallies {
-    fn add(&mut self, class: usize, row: &str) {
+    /// Of the random bundles: each row has to be met.
+    pub fn of_bundles() -> Tallies {
+        Tallies::new(&CLASSES, CLASSES.len(), &BUNDLE_ROWS)
+    }
+
+    /// Of books that are held: each row has to be met in the first column.
+    pub fn of_lives(columns: &'static [&'static str]) -> Tallies {
+        Tallies::new(columns, 1, &[NO_MESSAGE, SETTLED_LATER])
+    }
+
+    fn new(columns: &'static [&'static str], decisive: usize, more: &[&str]) -> Tallies {
+        let mut rows: Vec<String> = ROWS.concat().iter().chain(more).map(|row| row.to_string()).collect();
+        for (word, replies) in KINDS {
+            rows.extend(replies.iter().map(|reply| format!("{word}: {reply}")));
+        }
+        Tallies {
+            columns,
+            decisive,
+            rows,
+            counts: BTreeMap::new(),
+        }
+    }
+
+    pub fn add(&mut self, column: usize, row: &str) {
         match self.counts.get_mut(row) {
-            Some(counts) => counts[class] += 1,
+            Some(counts) => counts[column] += 1,
             None => {
-                self.counts.insert(row.to_string(), [0; CLASSES.len()]);
-                self.add(class, row);
+                self.counts.insert(row.to_string(), vec![0; self.columns.len()]);
+                self.add(column, row);
             }
         }
     }
@@ -74,8 +107,8 @@ impl Tallies {
                 ["=", ..] => {}
                 [entry, ref reply @ ..] => {
                     let entry = entry.parse().unwrap_or(0);
-                    self.reply(class, reply, free.iter().any(|line| line.entry == entry));
-                    self.reply_to_kind(class, bytes.get(2 + 8 * entry), reply);
+                    let kind = bytes.get(2 + 8 * entry).copied().unwrap_or(0);
+                    self.reply(class, kind, reply, free.iter().any(|line| line.entry == entry));
                 }
                 [] => {}
             }
@@ -91,8 +124,8 @@ impl Tallies {
         }
     }
 
-    /// The line of an entry, without the entry.
-    fn reply(&mut self, class: usize, reply: &[&str], free: bool) {
+    /// The reply to a message of this kind: letter and values, and whether document 01 allows others.
+    pub fn reply(&mut self, class: usize, kind: u8, reply: &[&str], free: bool) {
         self.add(class, reply.first().unwrap_or(&"no letter"));
         match reply {
             ["K", count @ ("0" | "1" | "2" | "32")] => self.add(class, &format!("K {count}")),
@@ -101,11 +134,7 @@ impl Tallies {
             ["R", code] => self.add(class, &format!("R {code}")),
             _ => {}
         }
-    }
-
-    /// The same line, by the kind of the message, which its entry in the contents has.
-    fn reply_to_kind(&mut self, class: usize, kind: Option<&u8>, reply: &[&str]) {
-        let place = kind.map_or(0, |kind| usize::from(*kind)).wrapping_sub(1);
+        let place = usize::from(kind).wrapping_sub(1);
         let word = KINDS.get(place).map_or("no kind", |(word, _)| word);
         match reply {
             ["R", code] => self.add(class, &format!("{word}: R {code}")),
@@ -128,33 +157,23 @@ impl Tallies {
 
     /// Prints the table. Each row is a check, and so is each reply that has no row: no message may get it.
     pub fn table(&self, checks: &mut Checks) {
-        println!(
-            "{:20} {:>9} {}",
-            "",
-            "all",
-            CLASSES.map(|class| format!("{class:>9}")).join(" ")
-        );
-        let rows = rows();
-        for row in &rows {
-            let counts = self.counts.get(row).copied().unwrap_or_default();
+        let line = |row: &str, all: &str, counts: Vec<String>| {
+            let counts: Vec<String> = counts.iter().map(|count| format!("{count:>11}")).collect();
+            println!("{row:20} {all:>9} {}", counts.join(" "));
+        };
+        line("", "all", self.columns.iter().map(|name| name.to_string()).collect());
+        let none = vec![0; self.columns.len()];
+        for row in &self.rows {
+            let counts = self.counts.get(row).unwrap_or(&none);
             let all: u64 = counts.iter().sum();
-            println!(
-                "{row:20} {all:>9} {}",
-                counts.map(|count| format!("{count:>9}")).join(" ")
+            line(row, &all.to_string(), counts.iter().map(u64::to_string).collect());
+            checks.that(
+                &format!("never seen: {row}"),
+                counts[..self.decisive].iter().any(|count| *count > 0),
             );
-            checks.that(&format!("never seen: {row}"), all > 0);
         }
-        for row in self.counts.keys().filter(|row| !rows.contains(row)) {
+        for row in self.counts.keys().filter(|row| !self.rows.contains(row)) {
             checks.fail(&format!("not a reply of document 01: {row}"));
         }
     }
-}
-
-/// Every row of the table, in its order.
-fn rows() -> Vec<String> {
-    let mut rows: Vec<String> = ROWS.concat().iter().map(|row| row.to_string()).collect();
-    for (word, replies) in KINDS {
-        rows.extend(replies.iter().map(|reply| format!("{word}: {reply}")));
-    }
-    rows
 }

@@ -21,8 +21,18 @@ pub fn tried(bytes: &[u8], length: usize) -> Result<Answer, String> {
 }
 
 fn ask(bytes: &[u8], length: usize) -> Result<Answer, String> {
+    answered(length, |list| daybook::waiting(bytes, list), expected(bytes, length))
+}
+
+/// Asks with a buffer of this length, and holds the code and the count that come back, and the buffer, to what is wanted: the
+/// accounts that wait, rising, or the code of the refusal.
+pub fn answered(
+    length: usize,
+    ask: impl FnOnce(&mut [u8]) -> (u8, u8),
+    wanted: Result<Vec<u8>, u8>,
+) -> Result<Answer, String> {
     let mut list = vec![UNTOUCHED; length];
-    let (code, count) = daybook::waiting(bytes, &mut list);
+    let (code, count) = ask(&mut list);
     let count = usize::from(count);
     if count > length {
         return Err(format!("the waiting list has {count} accounts in {length} bytes"));
@@ -34,7 +44,6 @@ fn ask(bytes: &[u8], length: usize) -> Result<Answer, String> {
     }
     // document 01 leaves the order free
     list[..count].sort_unstable();
-    let wanted = expected(bytes, length);
     let (code_due, accounts_due) = match &wanted {
         Ok(accounts) => (0, &accounts[..]),
         Err(code) => (*code, &[][..]),
@@ -48,13 +57,18 @@ fn ask(bytes: &[u8], length: usize) -> Result<Answer, String> {
     Ok(if code == 0 { Ok(count) } else { Err(code) })
 }
 
-/// The accounts that wait by the second program, rising, or the code of the refusal.
+/// The accounts that wait after a bundle by the second program, rising, or the code of the refusal.
 fn expected(bytes: &[u8], length: usize) -> Result<Vec<u8>, u8> {
     let (page, messages) = bundle::read(bytes).map_err(|fault| fault.code)?;
     let mut book = Book::open(&page)?;
     for message in &messages {
         book.call(message);
     }
+    listed(&book, length)
+}
+
+/// The accounts that wait in a book of the second program, rising, or the code of the refusal.
+pub fn listed(book: &Book, length: usize) -> Result<Vec<u8>, u8> {
     let mut list = vec![UNTOUCHED; length];
     let count = book.waiting_list(&mut list)?;
     list.truncate(count);

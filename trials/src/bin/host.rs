@@ -5,8 +5,9 @@
 //! with the folder of examples. The last line is `N passed, M failed`, and the status is 1 if one failed.
 
 use std::process::ExitCode;
+use trials::any_words::try_opening;
 use trials::checks::Checks;
-use trials::daybook::{acks_needed, is_enough, opening_code, text_of, waiting, UNTOUCHED};
+use trials::daybook::{acks_needed, is_enough, text_of, waiting, UNTOUCHED};
 use trials::edges::wait_of;
 use trials::known::{self, page};
 
@@ -24,7 +25,7 @@ fn acks(checks: &mut Checks) {
 }
 
 fn openings(checks: &mut Checks) {
-    let mut code = |wanted, what, page: &[u8]| checks.same(what, opening_code(page), wanted);
+    let mut code = |code, what, page: &[u8]| try_opening(checks, what, page, code);
     let max = u32::MAX;
     let mut last = [0; 32];
     last[31] = 1 << 24;

@@ -1,4 +1,4 @@
-//! Very many bundles through the compiled `daybook`, held to the second program:
+//! Very many bundles through the compiled `daybook`, and books held for long in lent words, held to the second program:
 //!
 //!     trials --examples DIR --program PATH [--seed N] [--bundles N] [--only INDEX]
 //!
@@ -11,7 +11,7 @@ use std::process::ExitCode;
 use trials::checks::Checks;
 use trials::dice::{self, Dice};
 use trials::tallies::{Tallies, CLASSES};
-use trials::{damage, daybook, edges, known, ledgers, openings, trial, waiting, wild};
+use trials::{any_words, damage, daybook, edges, held, known, ledgers, openings, trial, waiting, wild};
 
 const USAGE: &str = "trials --examples DIR --program PATH [--seed N] [--bundles N] [--only INDEX]";
 
@@ -147,7 +147,7 @@ fn try_every_byte(checks: &mut Checks) {
     }
 }
 
-/// Sums of random bytes and codes of random opening pages, through the functions that the static library exports.
+/// Sums of random bytes and openings from random pages, through the functions that the static library exports.
 fn try_functions(checks: &mut Checks, seed: u64) {
     let mut dice = Dice::new(seed);
     for _ in 0..2_000 {
@@ -160,11 +160,8 @@ fn try_functions(checks: &mut Checks, seed: u64) {
         );
         let page = openings::wild(&mut dice);
         let body = known::page(page.n, page.f, page.k, &page.balances);
-        checks.same(
-            &format!("the code of {page:?}"),
-            daybook::opening_code(&body),
-            Book::open(&page).err().unwrap_or(0),
-        );
+        let code = Book::open(&page).err().unwrap_or(0);
+        any_words::try_opening(checks, &format!("{page:?}"), &body, code);
     }
 }
 
@@ -173,7 +170,7 @@ fn show(checks: &mut Checks, options: &Options, index: u64) {
     let (class, bytes, _) = random(options.seed, index);
     println!("bundle {index}, class {}:", CLASSES[class]);
     print!("{}", shown(&bytes));
-    try_random(checks, &mut Tallies::default(), options, index, true);
+    try_random(checks, &mut Tallies::of_bundles(), options, index, true);
 }
 
 fn run(checks: &mut Checks, options: &Options) {
@@ -184,10 +181,14 @@ fn run(checks: &mut Checks, options: &Options) {
     try_edges(checks, options);
     checks.part("exported functions");
     try_functions(checks, options.seed);
+    checks.part("words of any content");
+    any_words::try_messages(checks, options.seed);
+    checks.part("books held for long");
+    held::lives(checks, options.seed);
     checks.part("every byte changed");
     try_every_byte(checks);
     checks.part("random bundles");
-    let mut tallies = Tallies::default();
+    let mut tallies = Tallies::of_bundles();
     for index in 0..options.bundles {
         try_random(checks, &mut tallies, options, index, false);
     }

@@ -1,0 +1,290 @@
+//! Words of any content, most of which no opening can make: openings over them, and messages to the book that they are.
+
+use crate::checks::Checks;
+use crate::daybook::UNTOUCHED;
+use crate::dice::Dice;
+use crate::held::same_words;
+use crate::ledgers::with_slip;
+use crate::lent::{told, Lent, Sent, BLOCK, GROUP, NOTHING, REPLY, WORDS};
+use crate::trial::caught;
+use crate::waiting;
+use reference::book::{Account, Book, Message, Reply, Slip};
+use reference::bundle::read_opening;
+use std::collections::BTreeMap;
+
+/// So many contents, each of which gets so many messages.
+const CONTENTS: u64 = 3_000;
+const MESSAGES: usize = 12;
+
+const MAX: u32 = u32::MAX;
+
+/// Opens the page over words that are 0, that are all the same, and that are anything: each time the code has to be this
+/// one. A refusal leaves every word; an opening replaces whatever the words held.
+pub fn try_opening(checks: &mut Checks, what: &str, page: &[u8], code: u8) {
+    let same = Lent {
+        words: Box::new([u32::from_le_bytes([UNTOUCHED; 4]); WORDS]),
+    };
+    let any = content(&mut Dice::new(u64::from(code)));
+    for before in [Lent::default(), same, any] {
+        checks.same(what, opened(&before, page), Ok(code));
+    }
+}
+
+/// The code of the opening, once the words after it are seen to be right.
+fn opened(before: &Lent, page: &[u8]) -> Result<u8, String> {
+    let mut lent = before.clone();
+    let code = lent.open(page);
+    if code > 0 {
+        return same_words(before, &lent).map(|()| code);
+    }
+    // bytes that are missing count as 0
+    let page = read_opening(&[page, &[0; 131]].concat());
+    let book = Book::open(&page).map_err(|code| format!("opened, where {code} is due"))?;
+    lent.holds(&page, &book).map(|()| code)
+}
+
+/// Messages to words that are 0, and to many contents.
+pub fn try_messages(checks: &mut Checks, seed: u64) {
+    let mut dice = Dice::of(seed, 0);
+    for _ in 0..1_000 {
+        let refused = refused_by_none(&mut dice);
+        checks.same("words that are all 0", refused, Ok(()));
+    }
+    let mut seen = BTreeMap::new();
+    for index in 1..=CONTENTS {
+        let mut dice = Dice::of(seed, index);
+        let mut lent = content(&mut dice);
+        for _ in 0..MESSAGES {
+            let met = caught(|| meet(&mut dice, &mut lent)).and_then(|met| met);
+            if let Ok(row) = &met {
+                *seen.entry(row.clone()).or_insert(0) += 1;
+            }
+            checks.same(&format!("content {index} of seed {seed}"), met.map(drop), Ok(()));
+        }
+    }
+    let codes = (4..=12).map(|code| format!("R {code}"));
+    for row in ["C", "A", "K", "P", "N", "B"].map(str::to_string).into_iter().chain(codes) {
+        let times: u64 = seen.get(&row).copied().unwrap_or(0);
+        println!("{row:20} {times:>9}");
+        checks.that(&format!("never seen: {row}"), times > 0);
+    }
+}
+
+/// Words that are all 0 are a book with no seats and no accounts: every message is refused, an ack by its seat.
+fn refused_by_none(dice: &mut Dice) -> Result<(), String> {
+    let mut lent = Lent::default();
+    let message = message(dice, &lent);
+    let reply = lent.call(&Sent::of(&message));
+    let code = if let Message::Ack { .. } = message { 4 } else { 5 };
+    if reply != told(&Reply::Refused(code)) {
+        return Err(format!("{message:?}: {reply:?} and not the refusal by {code}"));
+    }
+    same_words(&Lent::default(), &lent)
+}
+
+/// One message, or what is no message, and the waiting list after it: the reply's letter, and a refusal's code.
+fn meet(dice: &mut Dice, lent: &mut Lent) -> Result<String, String> {
+    let before = lent.clone();
+    if dice.once_in(20) {
+        let sent = Sent::nothing(dice);
+        if lent.call(&sent) != NOTHING {
+            return Err(format!("{sent:?} is no message, and was answered"));
+        }
+        return same_words(&before, lent).map(|()| String::new());
+    }
+    let message = message(dice, lent);
+    let reply = lent.call(&Sent::of(&message));
+    judge(&before, &message, reply, lent).map_err(|what| format!("{message:?}: {reply:?}: {what}"))?;
+    let length = waiting::length(dice);
+    let wanted = if length < 32 { Err(17) } else { Ok(lent.that_wait()) };
+    waiting::answered(length, |list| lent.waiting(list), wanted).map(drop)?;
+    let letter = reply[0] as u8 as char;
+    Ok(if letter == 'R' {
+        format!("R {}", reply[1])
+    } else {
+        letter.to_string()
+    })
+}
+
+// What is made.
+
+/// Words of any content. The group's are mostly in range, so that not every message is refused.
+fn content(dice: &mut Dice) -> Lent {
+    let mut lent = Lent::default();
+    let full = dice.within(1, 8);
+    for word in lent.words.iter_mut() {
+        *word = if dice.below(8) < full { any_word(dice) } else { 0 };
+    }
+    let group = &mut lent.words[GROUP..];
+    for (word, limit) in group.iter_mut().zip([16, 3, 32]) {
+        let within = dice.portions(0, limit);
+        *word = *dice.pick(&[limit, limit, within, within, within, within, 256 + within, *word]);
+    }
+    group[3] = *dice.pick(&[300, MAX, MAX, MAX, group[3]]);
+    lent
+}
+
+fn any_word(dice: &mut Dice) -> u32 {
+    let any = dice.any() as u32;
+    let small = dice.portions(0, 3);
+    *dice.pick(&[0, 1, small, small, 31, 32, 255, 256, 257, 1 << 31, MAX - 1, MAX, any])
+}
+
+/// A message near what the words hold, so that each test is met and just missed.
+fn message(dice: &mut Dice, lent: &Lent) -> Message {
+    let [n, _, k] = group(lent);
+    let account = mostly_below(dice, k);
+    if dice.once_in(12) {
+        return Message::Question { account };
+    }
+    let held = lent.account(usize::from(account) % 32);
+    let next = held.current.wrapping_add(1);
+    let any = any_word(dice);
+    let seat = mostly_below(dice, n);
+    let own = held.acks[usize::from(seat) % 16];
+    let value = *dice.pick(&[held.balance, held.balance.wrapping_add(1), 1, any]);
+    let recipient = mostly_below(dice, k);
+    let number = *dice.pick(&[next, next, next, next, next, held.current, next.wrapping_add(1), any]);
+    let slip = Slip {
+        account,
+        number,
+        value,
+        recipient,
+    };
+    // or a slip that is recorded
+    let other = *dice.pick(&held.acks);
+    let slip = dice.pick(&[None, None, own, other]).unwrap_or(slip);
+    with_slip(dice, seat, slip)
+}
+
+fn mostly_below(dice: &mut Dice, limit: u32) -> u8 {
+    if limit == 0 || dice.once_in(16) {
+        return *dice.pick(&[0, limit as u8, 16, 31, 32, 255]);
+    }
+    dice.below(limit.into()) as u8
+}
+
+// What is due, by document 01, of the accounts that the words are.
+
+/// n, f and k; a number above its limit counts as 0.
+fn group(lent: &Lent) -> [u32; 3] {
+    let word = |place: usize, limit| Some(lent.words[GROUP + place]).filter(|word| *word <= limit);
+    [word(0, 16), word(1, 16), word(2, 32)].map(|word| word.unwrap_or(0))
+}
+
+/// The code by which the message is refused.
+fn refusal(lent: &Lent, message: &Message) -> Option<u8> {
+    let [n, _, k] = group(lent);
+    let unknown = |account: u8| u32::from(account) >= k;
+    let slip = match *message {
+        Message::Question { account } => return unknown(account).then(|| 5),
+        Message::Ack { seat, .. } if u32::from(seat) >= n => return Some(4),
+        Message::Ack { slip, .. } | Message::Request(slip) | Message::Slip(slip) | Message::Ruling(slip) => slip,
+    };
+    let above = slip.value > lent.words[GROUP + 3];
+    if unknown(slip.account) || unknown(slip.recipient) || slip.number == 0 || slip.value == 0 || above {
+        return Some(5);
+    }
+    let held = lent.account(slip.account.into());
+    let funds = (slip.value > held.balance).then(|| 11);
+    match *message {
+        _ if slip.number <= held.current => Some(6),
+        _ if slip.number - held.current > 1 => Some(7),
+        _ if held.waiting.map(|waiting| waiting.number) == Some(slip.number) => Some(8),
+        Message::Ack { seat, .. } => held.acks[usize::from(seat)].map(|first| if first == slip { 9 } else { 10 }),
+        Message::Slip(_) if held.acked => Some(12),
+        Message::Slip(_) | Message::Request(_) => funds,
+        _ => None,
+    }
+}
+
+/// Whether this reply is right, and the words after it.
+fn judge(before: &Lent, message: &Message, reply: [u32; REPLY], after: &Lent) -> Result<(), String> {
+    if let Some(code) = refusal(before, message) {
+        wanted(reply, &[Reply::Refused(code)])?;
+        return same_words(before, after);
+    }
+    let account = match *message {
+        Message::Question { account } => account,
+        Message::Ack { slip, .. } | Message::Request(slip) | Message::Slip(slip) | Message::Ruling(slip) => slip.account,
+    };
+    let mut held = before.account(account.into());
+    let replies = match *message {
+        Message::Question { .. } => vec![Reply::Balance(held.balance)],
+        Message::Request(_) => vec![Reply::Circulate],
+        Message::Slip(_) => {
+            held.acked = true;
+            vec![Reply::Ack]
+        }
+        Message::Ack { seat, slip } => {
+            held.acks[usize::from(seat)] = Some(slip);
+            tallied(before, &mut held, slip)
+        }
+        Message::Ruling(_) => Vec::new(),
+    };
+    if replies.is_empty() {
+        return settled(before, account, reply, after);
+    }
+    wanted(reply, &replies)?;
+    stored(before, account, &held, after)
+}
+
+fn wanted(reply: [u32; REPLY], replies: &[Reply]) -> Result<(), String> {
+    if replies.iter().any(|due| reply == told(due)) {
+        return Ok(());
+    }
+    Err(format!("the reply has to be one of {replies:?}"))
+}
+
+/// The replies that an ack may get once it is recorded, none if its slip is accepted; P leaves its mark.
+fn tallied(before: &Lent, held: &mut Account, slip: Slip) -> Vec<Reply> {
+    let [n, f, _] = group(before).map(|number| number as usize);
+    let recorded: Vec<Slip> = held.acks.iter().flatten().copied().collect();
+    let acks_for = |slip: &Slip| recorded.iter().filter(|acked| *acked == slip).count();
+    if 2 * acks_for(&slip) > n + 3 * f {
+        return Vec::new();
+    }
+    let conflict = recorded.iter().any(|acked| *acked != slip);
+    if recorded.len() + f < n || !conflict || held.put_forward {
+        return vec![Reply::Noted];
+    }
+    held.put_forward = true;
+    let most = recorded.iter().map(acks_for).max();
+    let best = recorded.iter().filter(|slip| Some(acks_for(slip)) == most);
+    best.map(|slip| Reply::PutForward { slip: *slip }).collect()
+}
+
+/// The account holds this now, and every word of the others is as it was.
+fn stored(before: &Lent, account: u8, held: &Account, after: &Lent) -> Result<(), String> {
+    let account = usize::from(account);
+    if after.account(account) != *held {
+        return Err(format!(
+            "account {account} is {:?} and not {held:?}",
+            after.account(account)
+        ));
+    }
+    let mut others = after.clone();
+    let block = account * BLOCK..(account + 1) * BLOCK;
+    others.words[block.clone()].copy_from_slice(&before.words[block]);
+    same_words(before, &others)
+}
+
+/// The slip of this account was accepted: K counts the accounts that waited, this one too, and no longer do; and none
+/// is left that could be booked.
+fn settled(before: &Lent, account: u8, reply: [u32; REPLY], after: &Lent) -> Result<(), String> {
+    let mut waited = before.that_wait();
+    if !waited.contains(&account) {
+        waited.push(account);
+    }
+    let waiting = after.that_wait();
+    let booked = waited.len() - waiting.iter().filter(|account| waited.contains(account)).count();
+    wanted(reply, &[Reply::Accepted { booked: booked as u32 }])?;
+    for account in waiting {
+        let held = after.account(account.into());
+        let bookable = held.waiting.map_or(false, |slip| slip.value <= held.balance);
+        if bookable || !waited.contains(&account) {
+            return Err(format!("account {account} waits: {held:?}"));
+        }
+    }
+    Ok(())
+}

@@ -1,0 +1,163 @@
+//! Books that are held for long, in lent words: each reply, the whole book after it and the waiting list, held to the
+//! second program, and the words themselves where nothing may be stored.
+
+use crate::checks::Checks;
+use crate::dice::Dice;
+use crate::known;
+use crate::ledgers;
+use crate::lent::{told, Lent, Sent, NOTHING};
+use crate::openings;
+use crate::tallies::{Tallies, NO_MESSAGE, SETTLED_LATER};
+use crate::trial::caught;
+use crate::waiting;
+use reference::book::{Book, Message, OpeningPage, Reply};
+
+/// The columns of the table; the first is the long life.
+const LIVES: [&str; 3] = ["n 16, k 32", "n 6, k 3", "any group"];
+/// The long life is the same in every run.
+const LONG_SEED: u64 = 16;
+const LONG: usize = 200_000;
+const SHORTER: usize = 20_000;
+/// So many lives of any group, with so many messages each.
+const GROUPS: u64 = 60;
+const SHORT: usize = 500;
+/// One in so many messages comes in another form, and before one in so many comes what is no message.
+const VARIED_EACH: u64 = 4;
+const NOTHING_EACH: u64 = 50;
+
+/// The long life, a shorter one of a small group, and short ones of any group; each message is a check.
+pub fn lives(checks: &mut Checks, seed: u64) {
+    let mut tallies = Tallies::of_lives(&LIVES);
+    let large = OpeningPage::of(16, 3, &[100; 32]);
+    println!("one book gets {LONG} messages");
+    live(checks, &mut tallies, 0, &mut Dice::new(LONG_SEED), &large, LONG);
+    let small = OpeningPage::of(6, 1, &[10, 3, 0]);
+    live(checks, &mut tallies, 1, &mut Dice::of(seed, 0), &small, SHORTER);
+    for index in 1..=GROUPS {
+        let mut dice = Dice::of(seed, index);
+        let page = openings::sound(&mut dice);
+        live(checks, &mut tallies, 2, &mut dice, &page, SHORT);
+    }
+    tallies.table(checks);
+}
+
+/// A life with so many messages. It ends at the first fault, since all behind it would differ.
+fn live(checks: &mut Checks, tallies: &mut Tallies, column: usize, dice: &mut Dice, page: &OpeningPage, most: usize) {
+    let lived = caught(|| {
+        let messages = ledgers::lasting(dice, page, most);
+        let mut held = Held::open(page)?;
+        for (place, message) in (1..).zip(&messages) {
+            let met = held.meet(dice, message, tallies, column);
+            met.map_err(|what| format!("message {place}, {message:?}: {what}"))?;
+            checks.pass();
+        }
+        Ok(held)
+    });
+    match lived.and_then(|lived| lived) {
+        Ok(held) if column < 2 => println!("{}: {}", LIVES[column], held.told()),
+        Ok(_) => {}
+        Err(what) => {
+            checks.fail(&format!("{}, {page:?}: {what}", LIVES[column]));
+        }
+    }
+}
+
+/// A book in lent words beside the second program's.
+struct Held {
+    page: OpeningPage,
+    lent: Lent,
+    book: Book,
+    most_waiting: usize,
+}
+
+impl Held {
+    fn open(page: &OpeningPage) -> Result<Held, String> {
+        let mut lent = Lent::default();
+        let book = Book::open(page).map_err(|code| format!("the second program refuses the page by {code}"))?;
+        match lent.open(&known::page(page.n, page.f, page.k, &page.balances)) {
+            0 => lent.holds(page, &book)?,
+            code => return Err(format!("the page is refused by {code}")),
+        }
+        Ok(Held {
+            page: page.clone(),
+            lent,
+            book,
+            most_waiting: 0,
+        })
+    }
+
+    /// One message, and perhaps before it what is no message; then the whole book and the waiting list.
+    fn meet(&mut self, dice: &mut Dice, message: &Message, tallies: &mut Tallies, column: usize) -> Result<(), String> {
+        if dice.once_in(NOTHING_EACH) {
+            self.meet_nothing(&Sent::nothing(dice))?;
+            tallies.add(column, NO_MESSAGE);
+        }
+        let mut sent = Sent::of(message);
+        let kind = sent.kind;
+        if dice.once_in(VARIED_EACH) {
+            sent.vary(dice);
+        }
+        let before = self.lent.clone();
+        let reply = self.lent.call(&sent);
+        let due = self.book.call(message);
+        let free = self.allowed(&due, reply)?;
+        if let Reply::Refused(_) = due {
+            same_words(&before, &self.lent)?;
+        }
+        self.lent.holds(&self.page, &self.book)?;
+        tallies.reply(column, kind, &due.to_string().split(' ').collect::<Vec<_>>(), free);
+        if let Reply::Accepted { booked: 1.. } = due {
+            let waiting = self.lent.that_wait();
+            if before.that_wait().iter().any(|account| !waiting.contains(account)) {
+                tallies.add(column, SETTLED_LATER);
+            }
+        }
+        let length = waiting::length(dice);
+        let wanted = waiting::listed(&self.book, length);
+        let answer = waiting::answered(length, |list| self.lent.waiting(list), wanted)?;
+        self.most_waiting = self.most_waiting.max(answer.unwrap_or(0));
+        tallies.waiting(column, answer);
+        Ok(())
+    }
+
+    fn meet_nothing(&mut self, sent: &Sent) -> Result<(), String> {
+        let before = self.lent.clone();
+        let reply = self.lent.call(sent);
+        if reply != NOTHING {
+            return Err(format!("{sent:?} is no message, and the reply is {reply:?}"));
+        }
+        same_words(&before, &self.lent)
+    }
+
+    /// Whether this reply was the one that is due, or a P that is as good; says whether P was free.
+    fn allowed(&self, due: &Reply, reply: [u32; 5]) -> Result<bool, String> {
+        let slips = match due {
+            Reply::PutForward { slip } => self.book.most_acked(usize::from(slip.account)),
+            _ => Vec::new(),
+        };
+        if reply == told(due) || slips.iter().any(|slip| reply == told(&Reply::PutForward { slip: *slip })) {
+            return Ok(slips.len() > 1);
+        }
+        Err(format!("the reply is {reply:?} and not {due}"))
+    }
+
+    /// What became of the book, for people.
+    fn told(&self) -> String {
+        let currents = || (0..self.book.accounts()).map(|account| self.book.current(account));
+        let (least, most) = (currents().min().unwrap_or(0), currents().max().unwrap_or(0));
+        let waiting = self.most_waiting;
+        format!("current numbers {least} to {most} at the end; at most {waiting} accounts seen to wait at once")
+    }
+}
+
+/// Whether every word is as it was.
+pub fn same_words(before: &Lent, after: &Lent) -> Result<(), String> {
+    let mut places = before.words.iter().zip(&after.words[..]);
+    match places.position(|(was, is)| was != is) {
+        None => Ok(()),
+        Some(place) => Err(format!(
+            "word {place} was {} and is {}, where nothing may be stored",
+            before.words[place], after.words[place]
+        )),
+    }
+}

@@ -1,0 +1,202 @@
+//! A book in words that a host lends, through the functions that the static library exports; and a reader of the words.
+
+use crate::dice::Dice;
+use reference::book::{Account, Book, Message, OpeningPage, Reply, Slip};
+use reference::bundle::{ACK, QUESTION, REQUEST, RULING, SLIP};
+
+extern "C" {
+    // As in `daybook`: a slice is passed as its pointer, then its length; a reference to an array as its pointer alone.
+    fn ledger_open(words: *mut [u32; WORDS], page: *const u8, length: usize) -> u8;
+    fn ledger_call(
+        words: *mut [u32; WORDS],
+        kind: u8,
+        seat: u8,
+        body: *const u8,
+        length: usize,
+        reply: *mut [u32; REPLY],
+    );
+    fn ledger_waiting(words: *const [u32; WORDS], list: *mut u8, length: usize) -> u32;
+}
+
+/// How many words a book has, and how many a reply.
+pub const WORDS: usize = 1_252;
+pub const REPLY: usize = 5;
+/// How many words an account has: balance, current number, two marks, value, number and recipient of the slip that waits,
+/// and for each seat the value and then for each seat the recipient of its ack.
+pub const BLOCK: usize = 39;
+/// Behind the accounts stand n, f, k and the opening sum.
+pub const GROUP: usize = 32 * BLOCK;
+
+/// The reply to what is no message.
+pub const NOTHING: [u32; REPLY] = [0; REPLY];
+
+#[derive(Clone, PartialEq, Eq)]
+pub struct Lent {
+    pub words: Box<[u32; WORDS]>,
+}
+
+/// Words that are all 0, which is a book with no seats.
+impl Default for Lent {
+    fn default() -> Lent {
+        Lent {
+            words: Box::new([0; WORDS]),
+        }
+    }
+}
+
+impl Lent {
+    /// Opens the book from a page's bytes: the code by which it is refused, or 0. Bytes that are missing count as 0.
+    pub fn open(&mut self, page: &[u8]) -> u8 {
+        unsafe { ledger_open(&mut *self.words, page.as_ptr(), page.len()) }
+    }
+
+    /// One message as a bundle has it, and its reply.
+    pub fn call(&mut self, sent: &Sent) -> [u32; REPLY] {
+        // what the buffer held is to be replaced
+        let mut reply = [u32::MAX; REPLY];
+        let body = &sent.body;
+        unsafe {
+            ledger_call(
+                &mut *self.words,
+                sent.kind,
+                sent.seat,
+                body.as_ptr(),
+                body.len(),
+                &mut reply,
+            )
+        };
+        reply
+    }
+
+    /// The waiting list, into the front of `list`: the code, 0 if it is listed, and how many accounts are written.
+    pub fn waiting(&self, list: &mut [u8]) -> (u8, u8) {
+        let reply = unsafe { ledger_waiting(&*self.words, list.as_mut_ptr(), list.len()) };
+        ((reply / 256) as u8, (reply % 256) as u8)
+    }
+
+    /// What the words hold for an account below 32.
+    pub fn account(&self, account: usize) -> Account {
+        let block = &self.words[account * BLOCK..(account + 1) * BLOCK];
+        let slip = |value, number, recipient: u32| {
+            let (account, recipient) = (account as u8, recipient as u8);
+            (value > 0).then(|| Slip {
+                account,
+                number,
+                value,
+                recipient,
+            })
+        };
+        let next = block[1].wrapping_add(1);
+        let (values, recipients) = (&block[7..23], &block[23..]);
+        Account {
+            balance: block[0],
+            current: block[1],
+            acked: block[2] > 0,
+            put_forward: block[3] > 0,
+            waiting: slip(block[4], block[5], block[6]),
+            acks: std::array::from_fn(|seat| slip(values[seat], next, recipients[seat])),
+        }
+    }
+
+    /// The accounts that wait, rising.
+    pub fn that_wait(&self) -> Vec<u8> {
+        (0..32)
+            .filter(|account| self.account(usize::from(*account)).waiting.is_some())
+            .collect()
+    }
+
+    /// Whether the words hold this book, which this page opened: the group, every account, and nothing behind the k-th.
+    pub fn holds(&self, page: &OpeningPage, book: &Book) -> Result<(), String> {
+        let group = [page.n.into(), page.f.into(), page.k.into(), page.sum() as u32];
+        if self.words[GROUP..] != group {
+            return Err(format!("the group is {:?} and not {group:?}", &self.words[GROUP..]));
+        }
+        let none = Account::default();
+        for account in 0..32 {
+            let due = if account < book.accounts() {
+                book.account(account)
+            } else {
+                &none
+            };
+            let held = self.account(account);
+            if held != *due {
+                return Err(format!("account {account} is {held:?} and not {due:?}"));
+            }
+        }
+        Ok(())
+    }
+}
+
+/// A message as it is handed over.
+#[derive(Clone, PartialEq, Eq, Debug)]
+pub struct Sent {
+    pub kind: u8,
+    pub seat: u8,
+    pub body: Vec<u8>,
+}
+
+impl Sent {
+    /// The message as a bundle has it.
+    pub fn of(message: &Message) -> Sent {
+        let (kind, seat, slip) = match *message {
+            Message::Request(slip) => (REQUEST, 0, slip),
+            Message::Slip(slip) => (SLIP, 0, slip),
+            Message::Ack { seat, slip } => (ACK, seat, slip),
+            Message::Ruling(slip) => (RULING, 0, slip),
+            Message::Question { account } => {
+                return Sent {
+                    kind: QUESTION,
+                    seat: 0,
+                    body: vec![account],
+                }
+            }
+        };
+        let mut body = vec![slip.account];
+        body.extend(slip.number.to_le_bytes());
+        body.extend(slip.value.to_le_bytes());
+        body.push(slip.recipient);
+        Sent { kind, seat, body }
+    }
+
+    /// The same message in another form: a seat that is not read; a body without the zeros at its end, since what is
+    /// missing counts as 0; or one with bytes behind its end.
+    pub fn vary(&mut self, dice: &mut Dice) {
+        if self.kind != ACK {
+            self.seat = dice.byte();
+        }
+        if dice.once_in(2) {
+            self.body.extend((0..dice.below(9)).map(|_| dice.byte()));
+            return;
+        }
+        while self.body.last() == Some(&0) && !dice.once_in(4) {
+            self.body.pop();
+        }
+    }
+
+    /// What is no message: kind 0, or one above 5.
+    pub fn nothing(dice: &mut Dice) -> Sent {
+        let any = dice.within(6, 255) as u8;
+        let kind = *dice.pick(&[0, 6, 255, any]);
+        let body = (0..dice.below(140)).map(|_| dice.byte()).collect();
+        let seat = dice.below(17) as u8;
+        Sent { kind, seat, body }
+    }
+}
+
+/// A reply as the lent buffer has it: the letter, its values, and zeros.
+pub fn told(reply: &Reply) -> [u32; REPLY] {
+    let (letter, values) = match *reply {
+        Reply::Circulate => (b'C', [0; 4]),
+        Reply::Ack => (b'A', [0; 4]),
+        Reply::Accepted { booked } => (b'K', [booked, 0, 0, 0]),
+        Reply::PutForward { slip } => (
+            b'P',
+            [slip.account.into(), slip.number, slip.value, slip.recipient.into()],
+        ),
+        Reply::Noted => (b'N', [0; 4]),
+        Reply::Balance(balance) => (b'B', [balance, 0, 0, 0]),
+        Reply::Refused(code) => (b'R', [code.into(), 0, 0, 0]),
+    };
+    let [first, second, third, fourth] = values;
+    [letter.into(), first, second, third, fourth]
+}

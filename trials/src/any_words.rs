@@ -63,7 +63,11 @@ pub fn try_messages(checks: &mut Checks, seed: u64) {
         }
     }
     let codes = (4..=12).map(|code| format!("R {code}"));
-    for row in ["C", "A", "K", "P", "N", "B"].map(str::to_string).into_iter().chain(codes) {
+    for row in ["C", "A", "K", "P", "N", "B"]
+        .map(str::to_string)
+        .into_iter()
+        .chain(codes)
+    {
         let times: u64 = seen.get(&row).copied().unwrap_or(0);
         println!("{row:20} {times:>9}");
         checks.that(&format!("never seen: {row}"), times > 0);
@@ -177,7 +181,7 @@ fn refusal(lent: &Lent, message: &Message) -> Option<u8> {
     let [n, _, k] = group(lent);
     let unknown = |account: u8| u32::from(account) >= k;
     let slip = match *message {
-        Message::Question { account } => return unknown(account).then(|| 5),
+        Message::Question { account } => return unknown(account).then_some(5),
         Message::Ack { seat, .. } if u32::from(seat) >= n => return Some(4),
         Message::Ack { slip, .. } | Message::Request(slip) | Message::Slip(slip) | Message::Ruling(slip) => slip,
     };
@@ -186,7 +190,7 @@ fn refusal(lent: &Lent, message: &Message) -> Option<u8> {
         return Some(5);
     }
     let held = lent.account(slip.account.into());
-    let funds = (slip.value > held.balance).then(|| 11);
+    let funds = (slip.value > held.balance).then_some(11);
     match *message {
         _ if slip.number <= held.current => Some(6),
         _ if slip.number - held.current > 1 => Some(7),
@@ -206,7 +210,9 @@ fn judge(before: &Lent, message: &Message, reply: [u32; REPLY], after: &Lent) ->
     }
     let account = match *message {
         Message::Question { account } => account,
-        Message::Ack { slip, .. } | Message::Request(slip) | Message::Slip(slip) | Message::Ruling(slip) => slip.account,
+        Message::Ack { slip, .. } | Message::Request(slip) | Message::Slip(slip) | Message::Ruling(slip) => {
+            slip.account
+        }
     };
     let mut held = before.account(account.into());
     let replies = match *message {

@@ -57,7 +57,7 @@ fn live(checks: &mut Checks, tallies: &mut Tallies, column: usize, dice: &mut Di
         Ok(held) if column < 2 => println!("{}: {}", LIVES[column], held.told()),
         Ok(_) => {}
         Err(what) => {
-            checks.fail(&format!("{}, {page:?}: {what}", LIVES[column]));
+            checks.fail(&format!("{}: {what}; opened by {page:?}", LIVES[column]));
         }
     }
 }
@@ -135,7 +135,11 @@ impl Held {
             Reply::PutForward { slip } => self.book.most_acked(usize::from(slip.account)),
             _ => Vec::new(),
         };
-        if reply == told(due) || slips.iter().any(|slip| reply == told(&Reply::PutForward { slip: *slip })) {
+        if reply == told(due)
+            || slips
+                .iter()
+                .any(|slip| reply == told(&Reply::PutForward { slip: *slip }))
+        {
             return Ok(slips.len() > 1);
         }
         Err(format!("the reply is {reply:?} and not {due}"))

@@ -79,7 +79,7 @@ impl Lent {
         let block = &self.words[account * BLOCK..(account + 1) * BLOCK];
         let slip = |value, number, recipient: u32| {
             let (account, recipient) = (account as u8, recipient as u8);
-            (value > 0).then(|| Slip {
+            (value > 0).then_some(Slip {
                 account,
                 number,
                 value,

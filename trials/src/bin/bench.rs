@@ -5,6 +5,7 @@
 //!
 //! Instructions are those that callgrind counts of the two programs, less those of a bundle with no message, so that
 //! starting a program is left out. Time is that of the two libraries in this process, the best of many rounds in turn.
+//! The status is 1 where the ratio of instructions is above the limit, and the last lines say where.
 
 use reference::book::{Message, OpeningPage, Slip};
 use reference::bundle::write;
@@ -14,6 +15,8 @@ use trials::daybook::Replay;
 
 /// How many messages the bundles have; the last is the longest bundle.
 const SIZES: [usize; 4] = [124, 249, 499, 999];
+/// The most instructions that `daybook` may take, as a ratio.
+const MOST: f64 = 0.8;
 /// The libraries are timed in turn so often, and the best time counts.
 const ROUNDS: usize = 60;
 
@@ -56,6 +59,23 @@ fn chain(index: usize) -> Message {
     })
 }
 
+/// As often as sixteen seats can come to P: thirteen acks for two slips, seven and six, which are twelve N and P; then a
+/// ruling for the one with the most acks, K 1, so that the next number may begin. The accounts take turns. (At P the second
+/// program also lists every slip that P may carry, for its free lines: a quarter of the instructions that it takes here.)
+fn conflict(index: usize) -> Message {
+    let (round, step) = (index / 14, index % 14);
+    let slip = Slip {
+        account: (round % 32) as u8,
+        number: (round / 32) as u32 + 1,
+        value: 1 + (step % 2) as u32,
+        recipient: ((round + 1) % 32) as u8,
+    };
+    match step {
+        13 => Message::Ruling(Slip { value: 1, ..slip }),
+        seat => Message::Ack { seat: seat as u8, slip },
+    }
+}
+
 /// Slips, acks and rulings whose number is ahead: R 7.
 fn refused(index: usize) -> Message {
     let slip = Slip {
@@ -74,7 +94,7 @@ fn refused(index: usize) -> Message {
     }
 }
 
-fn loads() -> [Load; 3] {
+fn loads() -> [Load; 4] {
     let mut first = [0; 32];
     first[0] = 5;
     [
@@ -92,6 +112,11 @@ fn loads() -> [Load; 3] {
             name: "refusals",
             page: page([100; 32]),
             message: refused,
+        },
+        Load {
+            name: "conflicts",
+            page: page([100; 32]),
+            message: conflict,
         },
     ]
 }
@@ -131,30 +156,34 @@ fn best(round: &mut dyn FnMut() -> usize) -> (Duration, usize) {
     (times.min().unwrap_or_default(), bytes)
 }
 
-/// One row: how much of each a message takes, and how many times as much the first takes.
-fn row(messages: usize, what: &str, daybook: f64, reference: f64) {
+/// One row: how much of each a message takes, and how many times as much the first takes, which is returned.
+fn row(messages: usize, what: &str, daybook: f64, reference: f64) -> f64 {
     let (daybook, reference) = (daybook / messages as f64, reference / messages as f64);
-    println!(
-        "{messages:>9}  {what:<12}  {daybook:>9.1}  {reference:>14.1}  {:>6.2}",
-        daybook / reference
-    );
+    let ratio = daybook / reference;
+    println!("{messages:>9}  {what:<12}  {daybook:>9.1}  {reference:>14.1}  {ratio:>6.2}");
+    ratio
 }
 
-fn measure(load: &Load, programs: &[String; 2], replay: &mut Replay) -> Result<(), String> {
+/// Prints the rows of a load; says where the ratio of instructions is above the limit.
+fn measure(load: &Load, programs: &[String; 2], replay: &mut Replay) -> Result<Vec<String>, String> {
     println!("{}:", load.name);
     println!(" messages  per message     daybook  second program   ratio");
     let [daybook, reference] = programs;
     let none = load.bundle(0);
     let start = [instructions(daybook, &none)?, instructions(reference, &none)?];
+    let mut above = Vec::new();
     for messages in SIZES {
         let bundle = load.bundle(messages);
         let counts = [instructions(daybook, &bundle)?, instructions(reference, &bundle)?];
-        row(
+        let ratio = row(
             messages,
             "instructions",
             (counts[0] - start[0]) as f64,
             (counts[1] - start[1]) as f64,
         );
+        if ratio > MOST {
+            above.push(format!("{}, {messages} messages: {ratio:.2}", load.name));
+        }
         let (ours, our_bytes) = best(&mut || replay.text(&bundle).len());
         let (theirs, their_bytes) = best(&mut || reference::daybook::printed(&bundle).text.len());
         if our_bytes != their_bytes {
@@ -167,7 +196,7 @@ fn measure(load: &Load, programs: &[String; 2], replay: &mut Replay) -> Result<(
             theirs.as_nanos() as f64,
         );
     }
-    Ok(())
+    Ok(above)
 }
 
 fn main() -> ExitCode {
@@ -180,11 +209,18 @@ fn main() -> ExitCode {
         }
     };
     let mut replay = Replay::default();
+    let mut above = Vec::new();
     for load in loads() {
-        if let Err(what) = measure(&load, &programs, &mut replay) {
-            eprintln!("bench: {what}");
-            return ExitCode::FAILURE;
+        match measure(&load, &programs, &mut replay) {
+            Ok(more) => above.extend(more),
+            Err(what) => {
+                eprintln!("bench: {what}");
+                return ExitCode::FAILURE;
+            }
         }
     }
-    ExitCode::SUCCESS
+    for place in &above {
+        println!("more than {MOST} times the second program's instructions: {place}");
+    }
+    ExitCode::from(u8::from(!above.is_empty()))
 }

@@ -55,18 +55,23 @@ pub fn transfer_of(body: &[u8]) -> Transfer
     }
 }
 
-// The message of an entry's page, by its kind. Kind 0 is the opening page and no message, nor is a kind above 5.
+// The message that a body holds, by its kind. Kind 0 is the opening page and no message, nor is a kind above 5. The seat is an ack's alone.
+pub fn message_from(kind: u8, seat: u8, body: &[u8]) -> Asked
+    ensures { λ r. ⌜ asks r ≡ messageOf (record { kind = kind; seat = seat; body = now (body .entry) }) ⌝ }
+{
+    match kind {
+        1 => Asked::Asks(Message::Request(transfer_of(body))),
+        2 => Asked::Asks(Message::Circulated(transfer_of(body))),
+        3 => Asked::Asks(Message::Ack(Seat(seat), transfer_of(body))),
+        4 => Asked::Asks(Message::Decision(transfer_of(body))),
+        5 => Asked::Asks(Message::Inquiry(Account(byte_at(body, 0)))),
+        _ => Asked::Nothing,
+    }
+}
+
+// The message of an entry's page, if it is one.
 pub fn message_of(bytes: &[u8], c: ContentsEntry) -> Asked
     ensures { λ r. ⌜ asks r ≡ messageOf (pageOf (now (bytes .entry)) c) ⌝ }
 {
-    let shown = body(bytes, c);
-    let kind = c.kind;
-    match kind {
-        1 => Asked::Asks(Message::Request(transfer_of(shown))),
-        2 => Asked::Asks(Message::Circulated(transfer_of(shown))),
-        3 => Asked::Asks(Message::Ack(Seat(c.seat), transfer_of(shown))),
-        4 => Asked::Asks(Message::Decision(transfer_of(shown))),
-        5 => Asked::Asks(Message::Inquiry(Account(byte_at(shown, 0)))),
-        _ => Asked::Nothing,
-    }
+    message_from(c.kind, c.seat, body(bytes, c))
 }

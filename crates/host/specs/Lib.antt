@@ -1,3 +1,4 @@
 -- What the exported functions promise beside the model's definitions.
+pub mod Messages
 pub mod Quorums
 pub mod Waiting

@@ -17,3 +17,9 @@ pub record WaitingTold (bytes before after : List ℕ) (r : ℕ) : Type 0 where
   pub reply : ListReply
   pub right : ListOf bytes before reply after
   pub told : r ≡ numberOf reply
+
+-- The number of a reply that is right.
+pub record ToldList (Right : ListReply → Type 0) (r : ℕ) : Type 0 where
+  pub reply : ListReply
+  pub right : Right reply
+  pub told : r ≡ numberOf reply

@@ -1,37 +1,111 @@
 // What a host in Rust or C calls: the exported functions of the static library. Each takes any numbers and any bytes, and its
-// contract fixes the result by document 01's definitions.
+// contract fixes the result by document 01's definitions. In C a slice is a pointer and a length, an array the pointer alone.
 use basics::codes::code_of;
+use basics::codes::letter_of;
+use basics::quorums::is_enough;
 use bundle::sums::body_sum;
+use layout::BOOK_WORDS;
+use ledger::call;
+use ledger::list_waiting;
 use ledger::open;
 use model::ListReply;
 use model::OpenReply;
+use model::Reply;
+use pages::messages::Asked;
+use pages::messages::message_from;
 use pages::messages::opening_of;
 use replay::TEXT_SIZE;
 use replay::list_after;
 use replay::replay;
-use tally::is_enough;
 ghost use mathlib.Core.Path.{_≡_};
 ghost use Rattle.model.specs.Acks.{enough};
-ghost use Rattle.model.specs.Bundles.{openingOf, bodySum};
-ghost use Rattle.model.specs.Openings.{openRules};
-ghost use Rattle.model.specs.Refusals.{firstRefusal};
-ghost use Rattle.ledger.specs.Promises.{codeIfAny};
+ghost use Rattle.model.specs.Bundles.{bodySum};
+ghost use Rattle.layout.specs.Layout.{ledgerIn};
+ghost use Rattle.ledger.specs.Promises.{ListedAs};
 ghost use Rattle.replay.specs.Text.{TextOf};
 ghost use Rattle.replay.specs.Promises.{Replayed};
+ghost use Rattle.host.specs.Messages.{wordsOf, ToldOpening, ToldCall};
 ghost use Rattle.host.specs.Quorums.{Fewest};
-ghost use Rattle.host.specs.Waiting.{WaitingTold};
+ghost use Rattle.host.specs.Waiting.{numberOf, ToldList, WaitingTold};
 
-// The code that the opening of a page is refused by, 0 where it opens. The page is a bundle's body: n, f, k, 32 balances.
+// How many words a reply has: its letter, and the four values of the longest.
+pub const REPLY_WORDS: usize = 5;
+
+// A book is 1,252 words that the host lends and keeps: `ledger_open` opens it, `ledger_call` plays a message on it, `ledger_waiting` lists what
+// waits in it. Words that are all 0 are a book that refuses every message.
+
+// Opens the book from a page, a bundle's body of kind 0: n, f, k, 32 balances (a byte that is missing reads as 0). Returns 0, and the book is
+// the page's, whatever it was; or the code that the page is refused by, and each word is as it was.
 #[no_mangle]
-pub extern "C" fn ledger_opening_code(page: &[u8]) -> u8
-    ensures { λ r. ⌜ r ≡ codeIfAny (firstRefusal (openRules (openingOf (now (page .entry))))) ⌝ }
+pub extern "C" fn ledger_open(words: &mut [u32; BOOK_WORDS], page: &[u8]) -> u8
+    ensures { λ r. ⌜ ToldOpening (now (words .entry)) (now (page .entry)) r (now (words .exit)) ⌝ }
 {
-    let answer = open(opening_of(page));
-    let reply = answer.reply;
+    let reply = open(words, opening_of(page));
     match reply {
         OpenReply::Opened => 0,
         OpenReply::OpenRefused(r) => code_of(r),
     }
+}
+
+// The words of a reply: its letter, what it carries, and zeros.
+fn words_of(r: Reply) -> [u32; REPLY_WORDS]
+    ensures { λ ws. ⌜ ws ≡ wordsOf r ⌝ }
+{
+    let letter = letter_of(r) as u32;
+    match r {
+        Reply::Circulate => [letter, 0, 0, 0, 0],
+        Reply::Acknowledge => [letter, 0, 0, 0, 0],
+        Reply::Accept(count) => [letter, count, 0, 0, 0],
+        Reply::Propose(t) => [
+            letter,
+            t.account.0 as u32,
+            t.number,
+            t.value,
+            t.recipient.0 as u32,
+        ],
+        Reply::Note => [letter, 0, 0, 0, 0],
+        Reply::Balance(b) => [letter, b, 0, 0, 0],
+        Reply::Refuse(code) => [letter, code_of(code) as u32, 0, 0, 0],
+    }
+}
+
+// Plays one message on the book: kind, seat and body as a bundle has them (the seat is an ack's alone; a byte that is missing reads as 0).
+// Writes the reply: the letter in ASCII, what it carries (K the count, P account, number, value and recipient, B the balance, R the code), and
+// zeros. What is no message, kind 0 or above 5, gets five zeros and leaves the book as it was.
+#[no_mangle]
+pub extern "C" fn ledger_call(
+    words: &mut [u32; BOOK_WORDS],
+    kind: u8,
+    seat: u8,
+    body: &[u8],
+    reply: &mut [u32; REPLY_WORDS],
+)
+    ensures { λ _. ⌜ ToldCall (now (words .entry)) kind seat (now (body .entry)) (now (words .exit)) (now (reply .exit)) ⌝ }
+{
+    let asked = message_from(kind, seat, body);
+    match asked {
+        Asked::Nothing => *reply = [0; REPLY_WORDS],
+        Asked::Asks(m) => *reply = words_of(call(words, m)),
+    }
+}
+
+// A list's reply as one number: how many accounts were written, or 256 times the code.
+fn number_of(reply: ListReply) -> u32
+    ensures { λ r. ⌜ r ≡ numberOf reply ⌝ }
+{
+    match reply {
+        ListReply::Listed(n) => n,
+        ListReply::ListRefused(r) => 256 * (code_of(r) as u32),
+    }
+}
+
+// Writes the waiting list, the accounts at which a transfer waits in the book, in rising order into the front of the list that is lent, 32 bytes
+// or more. Returns how many; or 256 times 17 where the list is shorter, and it is as it was.
+#[no_mangle]
+pub extern "C" fn ledger_waiting(words: &[u32; BOOK_WORDS], list: &mut [u8]) -> u32
+    ensures { λ r. ⌜ ToldList (λ reply. ListedAs (ledgerIn (now (words .entry))) (now (list .entry)) reply (now (list .exit))) r ⌝ }
+{
+    number_of(list_waiting(words, list))
 }
 
 // How many equal acks accept a transfer: the fewest of which twice as many exceed n + 3f.

@@ -1,4 +1,7 @@
--- The links, proved: `works-obeys` and what follows from it; `every-text`, `every-run` and `every-list`, behind their steps; `one-reading`; and all tried.
+-- The links, proved: `words-are`, and that it holds of every ledger that a run reaches; `works-obeys` and what follows from it; `every-text`,
+-- `every-run` and `every-list`, behind their steps; `one-reading`; and all tried.
+pub mod Words
+pub mod Reached
 pub mod Operations
 pub mod EntryRuns
 pub mod ClosingRows

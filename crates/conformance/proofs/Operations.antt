@@ -1,41 +1,49 @@
 -- What a group at work does is a run that obeys: the statements are in specs/Operations.antt.
-use mathlib.Core.Path.{_≡_, refl, ap, _∙_}
+use Prim.Native.Nat.{ℕ}
+use mathlib.Core.Path.{_≡_, refl, ap, sym, _∙_}
 use mathlib.Core.Bool.{Bool, true, false, cond}
-use Rattle.agreement.specs.Types.{Seat, Ledger, Opening}
-use Rattle.agreement.specs.Runs.{Call, message, waitingList, Event, Run, start, _▹_, sameSeat, nextLedger, ledgerAt, Conforms}
+use mathlib.Core.List.{List, []}
+use Rattle.agreement.specs.Types.{Seat, Ledger, Opening, Message, Reply, Refusal, Refuse, Opened}
+use Rattle.agreement.specs.Runs.{Call, message, waitingList, Event, Run, start, _▹_, sameSeat, nextLedger, ledgerAt, Conforms, Obeys}
 use Rattle.agreement.proofs.Places.{seat-is, seat-self}
 use Rattle.agreement.proofs.Demand3.{demand3}
 use Rattle.agreement.proofs.Always.{always}
-use Rattle.model.specs.Openings.{openLedger}
+use Rattle.model.specs.Calls.{step}
+use Rattle.model.proofs.Sums.{impossible}
+use Rattle.model.proofs.Opened.{opened-fresh}
+use Rattle.model.proofs.Steps.{Happens, refused, circulated, acknowledged, accepted-by-acks, proposed, noted, accepted-by-ruling, told, happens}
+use Rattle.layout.specs.Layout.{ledgerIn}
 use Rattle.ledger.proofs.Promising.{answered, opened, listed}
-use Rattle.conformance.specs.Operations.{Operated, OperatedConforms, Called, WorksObeys, ObeysWorks, WorksDemand3, WorksFacts}
+use Rattle.conformance.specs.Operations.{Operated, OperatedConforms, Called, Works, WorksObeys, ObeysWorks, WorksDemand3, WorksFacts}
+use Rattle.conformance.specs.Words.{wordsOf}
+use Rattle.conformance.proofs.Words.{words-are}
+use Rattle.conformance.proofs.Reached.{reached-told}
 
 -- an operation is a call that conforms, and leaves the run's next ledger
 pub operated-conforms : OperatedConforms
-operated-conforms l (message m r) next done = (done .meets .0, done .meets .1)
-operated-conforms l (waitingList before r after) next done = (done .0 .meets, done .1)
-
--- and a call that conforms is an operation
-conforms-operated : (l : Ledger) (c : Call) → Conforms l c → Operated l c (nextLedger l c)
-conforms-operated l (message m r) ok = answered l m (record { reply = r; ledger = nextLedger l (message m r) }) (ok, refl)
-conforms-operated l (waitingList before r after) ok = (listed l before r after ok, refl)
+operated-conforms words (message m r) next done = (done .turned .meets .0, done .turned .meets .1)
+operated-conforms words (waitingList before r after) next done = (done .0 .meets, ap ledgerIn (done .1))
 
 -- what a seat holds after a call, if what all held before it were the run's ledgers
-held-after : (o : Opening) (run : Run) (e : Event) (before held : Seat → Ledger)
-    → ((s : Seat) → before s ≡ ledgerAt o s run) → Called before e held → (s : Seat) → held s ≡ ledgerAt o s (run ▹ e)
+held-after : (o : Opening) (run : Run) (e : Event) (before held : Seat → List ℕ)
+    → ((s : Seat) → ledgerIn (before s) ≡ ledgerAt o s run) → Called before e held → (s : Seat) → ledgerIn (held s) ≡ ledgerAt o s (run ▹ e)
 unfolding ledgerAt
 held-after o run e before held yet call s = go (sameSeat (e .at) s) refl
   where
-    go : (b : Bool) → sameSeat (e .at) s ≡ b → held s ≡ cond b (nextLedger (ledgerAt o s run) (e .call)) (ledgerAt o s run)
+    go : (b : Bool) → sameSeat (e .at) s ≡ b → ledgerIn (held s) ≡ cond b (nextLedger (ledgerAt o s run) (e .call)) (ledgerAt o s run)
     go true here =
         let seat = seat-is (e .at) s here in
         let done = operated-conforms (before (e .at)) (e .call) (held (e .at)) (call .operated) in
         rw (← seat) (done .1 ∙ ap (λ (l : Ledger). nextLedger l (e .call)) (yet (e .at)))
-    go false there = call .others s there ∙ yet s
+    go false there = ap ledgerIn (call .others s there) ∙ yet s
 
 pub works-obeys : WorksObeys
 unfolding ledgerAt
-works-obeys o held start opened = record { obeys = tt; ledgers = λ s. opened s .2 ∙ ap (λ r. r .ledger) (opened s .1 .meets) }
+works-obeys o held start opened =
+    record {
+      obeys = tt;
+      ledgers = λ s. opened s .1 .opens .ledger ∙ opened-fresh o (sym (opened s .1 .opens .reply)) (ledgerIn (opened s .0));
+    }
 works-obeys o held (run ▹ e) (before, works, call) =
     let yet = works-obeys o before run works in
     record {
@@ -43,17 +51,47 @@ works-obeys o held (run ▹ e) (before, works, call) =
       ledgers = held-after o run e before held (yet .ledgers) call;
     }
 
+-- A refusal leaves the ledger, so the words of the ledger before it are those of the one after it.
+refusal-keeps : {l next : Ledger} {m : Message} {r : Reply} (code : Refusal) → r ≡ Refuse code → Happens l m r next → next ≡ l
+refusal-keeps code is (refused q e same) = same
+refusal-keeps code is (circulated t e f same) = same
+refusal-keeps code is (acknowledged t e f fit clear same) = impossible (cc)
+refusal-keeps code is (accepted-by-acks s t e f fit new full same) = impossible (cc)
+refusal-keeps code is (proposed s t u e f fit new few must most same) = impossible (cc)
+refusal-keeps code is (noted s t e f fit new few same) = impossible (cc)
+refusal-keeps code is (accepted-by-ruling t e f fit same) = impossible (cc)
+refusal-keeps code is (told a e f same) = same
+
+-- So a call that conforms is an operation on the words of its ledger, where those of both ledgers are these.
+conforms-operated : (l : Ledger) (c : Call) → ledgerIn (wordsOf l) ≡ l → ledgerIn (wordsOf (nextLedger l c)) ≡ nextLedger l c
+    → Conforms l c → Operated (wordsOf l) c (wordsOf (nextLedger l c))
+conforms-operated l (message m r) before after ok =
+    answered (wordsOf l) m r (wordsOf (step l m .next))
+    (record { meets = rw before (ok, after); kept = λ code is. ap wordsOf (refusal-keeps code is (happens l m r ok)) })
+conforms-operated l (waitingList buffer r left) before after ok = (rw before (listed l buffer r left ok), refl)
+
 pub obeys-works : ObeysWorks
 unfolding ledgerAt
-obeys-works o start obeys = λ s. (openLedger o, opened o (openLedger o) refl, refl)
-obeys-works o (run ▹ e) obeys = (
-  λ s. ledgerAt o s run,
-  obeys-works o run (obeys .0),
-  record {
-    operated = rw (seat-self (e .at)) (conforms-operated (ledgerAt o (e .at) run) (e .call) (obeys .1));
-    others = λ z there. rw there;
-  },
-)
+obeys-works o run opens obeys = (λ s. wordsOf (ledgerAt o s run), go run obeys)
+  where
+    are : (run : Run) → Obeys o run → (s : Seat) → ledgerIn (wordsOf (ledgerAt o s run)) ≡ ledgerAt o s run
+    are run obeys s = words-are (ledgerAt o s run) (reached-told o opens s run obeys)
+
+    go : (run : Run) → Obeys o run → Works o (λ s. wordsOf (ledgerAt o s run)) run
+    go start obeys = λ s.
+        let fresh = are start tt s ∙ sym (opened-fresh o (opens .not-refused) (ledgerIn [])) in
+        ([], opened [] o Opened (wordsOf (ledgerAt o s start)) (record { reply = sym (opens .not-refused); ledger = fresh; kept = λ code is. impossible (cc) }))
+    go (run ▹ e) obeys = (
+      λ s. wordsOf (ledgerAt o s run),
+      go run (obeys .0),
+      record {
+        operated =
+            rw (seat-self (e .at))
+            (conforms-operated (ledgerAt o (e .at) run) (e .call) (are run (obeys .0) (e .at))
+            (rw (seat-self (e .at)) at (are (run ▹ e) obeys (e .at))) (obeys .1));
+        others = λ z there. rw there;
+      },
+    )
 
 pub works-demand3 : WorksDemand3
 works-demand3 o bad held run opens few fair works kept = demand3 o bad run opens few fair (works-obeys o held run works .obeys) kept

@@ -5,13 +5,14 @@ use mathlib.Core.Path.{_≡_, refl}
 use mathlib.Core.List.{List}
 use mathlib.Core.Option.{some}
 use Rattle.model.specs.declared.BundleReply.the-variants.{Sound}
+use Rattle.model.specs.Records.{freshLedger}
 use Rattle.model.specs.Bundles.{entryCount, pageAt, messageOf, checkBundle}
 use Rattle.agreement.specs.Types.{Message}
 use Rattle.agreement.specs.Runs.{Opens, start, ledgerAt}
 use Rattle.agreement.proofs.Always.{always}
 use Rattle.ledger.specs.Promises.{ListedAs}
 use Rattle.bundle.proofs.Asking.{all-ask}
-use Rattle.replay.specs.Text.{ledgerFrom, LinesFrom, openingPage, opened}
+use Rattle.replay.specs.Text.{ledgerFrom, LinesFrom, openingPage}
 use Rattle.replay.proofs.Sound.{sound-count}
 use Rattle.conformance.specs.Texts.{runOf, EveryText, EveryRun, EveryList}
 use Rattle.conformance.proofs.EntryRuns.{goes-on, told-lines, ledger-left}
@@ -28,7 +29,7 @@ unfolding ledgerAt
 every-text bytes text m s right opens h =
     let page = openingPage bytes in
     let page-opens : Opens (openingPage bytes) = record { full-page = refl; not-refused = opens } in
-    let lines : LinesFrom bytes (m - 1) 1 (opened bytes .ledger) text = rw (right, opens) at h in
+    let lines : LinesFrom bytes (m - 1) 1 (freshLedger (openingPage bytes)) text = rw (right, opens) at h in
     let found = goes-on bytes page s (entryCount bytes - 1) 1 start text (each-asks bytes m right) tt (rw (sound-count bytes m right .0) at lines) in
     let xs = found .0 in
     record {
@@ -48,6 +49,6 @@ every-run bytes m s xs right opens run =
 pub every-list : EveryList
 unfolding ledgerAt
 every-list bytes m s xs before reply after right opens run lists =
-    let here : ListedAs (ledgerFrom bytes (m - 1) 1 (opened bytes .ledger)) before reply after = rw (right, opens) at (lists .meets) in
+    let here : ListedAs (ledgerFrom bytes (entryCount bytes - 1) 1 (freshLedger (openingPage bytes))) before reply after = rw (right, opens) at (lists .meets) in
     let left = ledger-left bytes (openingPage bytes) s (entryCount bytes - 1) 1 start xs (run .asked) in
-    (run .obeys, rw (sound-count bytes m right .0, left) at (here .meets))
+    (run .obeys, rw left at (here .meets))

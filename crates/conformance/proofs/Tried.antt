@@ -1,5 +1,6 @@
 -- The links, tried. The run that demand 3 is tried on is made by a group at work. Document 01's whole output is the text of a run, which
 -- is written out here, and of every run of that bundle.
+use Prim.Native.Nat.{ℕ}
 use mathlib.Core.Path.{_≡_, refl}
 use mathlib.Core.List.{List, [], _∷_, _++_}
 use lib.Dec.{lit<}
@@ -8,7 +9,7 @@ use Rattle.model.specs.declared.BundleReply.the-variants.{Sound}
 use Rattle.model.specs.Basics.{sumOf}
 use Rattle.model.specs.Records.{seatOf, accountOf, noAcks}
 use Rattle.model.specs.Transfers.{equal, conflict}
-use Rattle.model.specs.Openings.{openLedger}
+use Rattle.model.specs.Openings.{openReply}
 use Rattle.model.specs.Acks.{hasMost}
 use Rattle.model.specs.Settling.{lowestAffordable, apply, settleAtMost, settle}
 use Rattle.model.specs.Calls.{step}
@@ -29,8 +30,8 @@ use Rattle.conformance.proofs.ClosingRows.{accounted}
 use Rattle.conformance.proofs.Texts.{every-text, every-run}
 
 -- a group at work makes the run that demand 3 is tried on
-pub witness-works : Works page (λ s. ledgerAt page s witness) witness
-witness-works = obeys-works page witness witness-obeys
+pub witness-works : (held : Seat → List ℕ) × Works page held witness
+witness-works = obeys-works page witness (witness-keeps .0) witness-obeys
 
 -- "slip (0, 1, 4, 1), acks of it from seats 0 to 4, question 1", with the replies of the nine lines
 infixl 70 _gets_
@@ -53,7 +54,7 @@ rows = record { balance = 6; current = 1 } ∷ record { balance = 7; current = 0
 
 -- it has the bundle's messages and obeys, and the nine lines are its text
 pub whole-run : RunOfBundle case (seatOf 0) exchanges × (nineLines ≡ textOfRun case (seatOf 0) exchanges)
-unfolding case decimal ledgerAt noAcks equal conflict hasMost openLedger lowestAffordable apply settleAtMost settle step
+unfolding case decimal ledgerAt noAcks equal conflict hasMost lowestAffordable apply settleAtMost settle step
 whole-run = (
   record {
     asked = (refl, (refl, (refl, (refl, (refl, (refl, (refl, tt)))))));
@@ -74,8 +75,8 @@ unfolding case decimal
 whole-facts = (refl, refl, refl, refl)
 
 -- that bundle is sound and opens
-pub whole-sound : (checkBundle case ≡ Sound 8) × (opened case .reply ≡ Opened)
-unfolding case checkBundle openLedger
+pub whole-sound : (checkBundle case ≡ Sound 8) × (opened case ≡ Opened)
+unfolding case checkBundle openReply
 whole-sound = (refl, refl)
 
 -- so its text tells what every text does
@@ -95,7 +96,7 @@ askedTwice =
     ∷ []
 
 pub twice-obeys : Obeys page (runOf (seatOf 0) askedTwice) × (lastRows page (seatOf 0) askedTwice ≡ rows)
-unfolding ledgerAt noAcks equal conflict hasMost openLedger lowestAffordable apply settleAtMost settle step
+unfolding ledgerAt noAcks equal conflict hasMost lowestAffordable apply settleAtMost settle step
 twice-obeys = (tt then refl then refl then refl, refl)
 
 pub twice-accounted : Accounted page (seatOf 0) askedTwice rows

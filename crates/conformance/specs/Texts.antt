@@ -95,17 +95,17 @@ pub record TellsReader (bytes text : List ℕ) (s : Seat) : Type 0 where
 abbrev pub EveryText : Type 0
 EveryText =
     (bytes text : List ℕ) (m : ℕ) (s : Seat)
-    → checkBundle bytes ≡ Sound m → opened bytes .reply ≡ Opened → TextOf bytes text → TellsReader bytes text s
+    → checkBundle bytes ≡ Sound m → opened bytes ≡ Opened → TextOf bytes text → TellsReader bytes text s
 
 -- And every run of such a bundle has its text.
 abbrev pub EveryRun : Type 0
 EveryRun =
     (bytes : List ℕ) (m : ℕ) (s : Seat) (xs : List Exchange)
-    → checkBundle bytes ≡ Sound m → opened bytes .reply ≡ Opened → RunOfBundle bytes s xs → TextOf bytes (textOfRun bytes s xs)
+    → checkBundle bytes ≡ Sound m → opened bytes ≡ Opened → RunOfBundle bytes s xs → TextOf bytes (textOfRun bytes s xs)
 
 -- The waiting list that a host asks for behind the last entry is one more call of such a run.
 abbrev pub EveryList : Type 0
 EveryList =
     (bytes : List ℕ) (m : ℕ) (s : Seat) (xs : List Exchange) (before : List ℕ) (reply : ListReply) (after : List ℕ)
-    → checkBundle bytes ≡ Sound m → opened bytes .reply ≡ Opened → RunOfBundle bytes s xs → ListOf bytes before reply after
+    → checkBundle bytes ≡ Sound m → opened bytes ≡ Opened → RunOfBundle bytes s xs → ListOf bytes before reply after
     → Obeys (openingPage bytes) (runOf s xs ▹ record { at = s; call = waitingList before reply after })

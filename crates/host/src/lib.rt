@@ -94,8 +94,8 @@ fn number_of(reply: ListReply) -> u32
     ensures { λ r. ⌜ r ≡ numberOf reply ⌝ }
 {
     match reply {
-        ListReply::Listed(n) => n,
-        ListReply::ListRefused(r) => 256 * (code_of(r) as u32),
+        ListReply::Listed(count) => count,
+        ListReply::ListRefused(code) => 256 * (code_of(code) as u32),
     }
 }
 

@@ -22,11 +22,12 @@ ghost use Rattle.model.specs.Acks.{enough};
 ghost use Rattle.model.specs.Bundles.{bodySum};
 ghost use Rattle.layout.specs.Layout.{ledgerIn};
 ghost use Rattle.ledger.specs.Promises.{ListedAs};
+ghost use Rattle.replay.specs.Lists.{ListOf};
 ghost use Rattle.replay.specs.Text.{TextOf};
 ghost use Rattle.replay.specs.Promises.{Replayed};
 ghost use Rattle.host.specs.Messages.{wordsOf, ToldOpening, ToldCall};
 ghost use Rattle.host.specs.Quorums.{Fewest};
-ghost use Rattle.host.specs.Waiting.{numberOf, ToldList, WaitingTold};
+ghost use Rattle.host.specs.Waiting.{numberOf, ToldList};
 
 // How many words a reply has: its letter, and the four values of the longest.
 pub const REPLY_WORDS: usize = 5;
@@ -136,13 +137,9 @@ pub extern "C" fn daybook_text(bytes: &[u8], text: &mut [u8; TEXT_SIZE]) -> usiz
 // refused, 256 times the code: that of the bundle or of its opening, else 17.
 #[no_mangle]
 pub extern "C" fn daybook_waiting(bytes: &[u8], list: &mut [u8]) -> u32
-    ensures { λ r. ⌜ WaitingTold (now (bytes .entry)) (now (list .entry)) (now (list .exit)) r ⌝ }
+    ensures { λ r. ⌜ ToldList (λ reply. ListOf (now (bytes .entry)) (now (list .entry)) reply (now (list .exit))) r ⌝ }
 {
-    let reply = list_after(bytes, list);
-    match reply {
-        ListReply::Listed(n) => n,
-        ListReply::ListRefused(r) => 256 * (code_of(r) as u32),
-    }
+    number_of(list_after(bytes, list))
 }
 
 // The sum of a body, as a bundle's contents entry has it.

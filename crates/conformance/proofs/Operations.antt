@@ -39,10 +39,10 @@ held-after o run e before held yet call s = go (sameSeat (e .at) s) refl
 
 pub works-obeys : WorksObeys
 unfolding ledgerAt
-works-obeys o held start opened =
+works-obeys o held start first =
     record {
       obeys = tt;
-      ledgers = λ s. opened s .1 .opens .ledger ∙ opened-fresh o (sym (opened s .1 .opens .reply)) (ledgerIn (opened s .0));
+      ledgers = λ s. first s .1 .opens .ledger ∙ opened-fresh o (sym (first s .1 .opens .reply)) (ledgerIn (first s .0));
     }
 works-obeys o held (run ▹ e) (before, works, call) =
     let yet = works-obeys o before run works in

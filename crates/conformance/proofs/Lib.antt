@@ -1,6 +1,5 @@
--- The links, proved: `words-are`, and that it holds of every ledger that a run reaches; `works-obeys` and what follows from it; `every-text`,
+-- The links, proved: every ledger that a run reaches has its words (`reached-told`); `works-obeys` and what follows from it; `every-text`,
 -- `every-run` and `every-list`, behind their steps; `one-reading`; and all tried.
-pub mod Words
 pub mod Reached
 pub mod Operations
 pub mod EntryRuns

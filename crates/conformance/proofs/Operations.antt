@@ -15,8 +15,8 @@ use Rattle.model.proofs.Steps.{Happens, refused, circulated, acknowledged, acce
 use Rattle.layout.specs.Layout.{ledgerIn}
 use Rattle.ledger.proofs.Promising.{answered, opened, listed}
 use Rattle.conformance.specs.Operations.{Operated, OperatedConforms, Called, Works, WorksObeys, ObeysWorks, WorksDemand3, WorksFacts}
-use Rattle.conformance.specs.Words.{wordsOf}
-use Rattle.conformance.proofs.Words.{words-are}
+use Rattle.layout.specs.Words.{wordsOf}
+use Rattle.layout.proofs.Words.{words-are}
 use Rattle.conformance.proofs.Reached.{reached-told}
 
 -- an operation is a call that conforms, and leaves the run's next ledger

@@ -18,7 +18,7 @@ use Rattle.model.proofs.Sums.{impossible, neither}
 use Rattle.model.proofs.Opened.{Group}
 use Rattle.model.proofs.Booking.{SameButBalance, Cleared}
 use Rattle.model.proofs.Steps.{Eligible, Recordable, entryWithAck, Happens}
-use Rattle.conformance.specs.Words.{EntryTold, LedgerTold}
+use Rattle.layout.specs.Words.{EntryTold, LedgerTold}
 
 -- a slip that moves something, to a recipient whose number is a byte
 abbrev Moves : Transfer → Type 0

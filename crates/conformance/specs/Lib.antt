@@ -5,8 +5,6 @@
 -- operation to operation make runs that obey (`WorksObeys`), and could make every such run (`ObeysWorks`). So demand 3 and the facts hold of
 -- what they do (`WorksDemand3`, `WorksFacts`).
 pub mod Operations
--- Words: there are words for every ledger that a run reaches (`WordsAre`).
-pub mod Words
 -- Texts: the lines of a bundle's text are a run at one seat, and account for it (`EveryText`); they are read in one way (`OneReading`); every
 -- such run has its text (`EveryRun`); and the waiting list behind a bundle is one more call (`EveryList`).
 pub mod Texts

@@ -19,7 +19,7 @@ use Rattle.model.specs.Types.{AckSlot, Entry}
 use Rattle.model.specs.Records.{accountOf, entryOf, withEntry, withBalance, withAcked, withAck, withProposed, withPending}
 use Rattle.model.specs.Refusals.{ackFrom}
 use Rattle.model.proofs.Sums.{impossible}
-use Rattle.layout.specs.Layout.{blockWords, groupPlace, bookWords, Block, block, currentIn, slotBy, ackIn, tableFrom, entryBy, entriesIn, ledgerIn}
+use Rattle.layout.specs.Layout.{blockWords, groupPlace, bookWords, Block, block, currentPlace, slotBy, ackIn, tableFrom, entryBy, entriesIn, ledgerIn}
 use Rattle.layout.specs.Blocks.{put, Changes}
 use Rattle.layout.proofs.Blocks.{table-at, table-each, table-length, table-same, table-set, put-here, put-else, entry-in, changed-ledger}
 
@@ -30,7 +30,7 @@ entry-changed ws after a w change h c e =
     changed-ledger ws a w after c ∙ ap (withEntry (ledgerIn ws) a) (e ∙ ap change (sym (entry-in ws a h)))
 
 -- the current number is a word of the block
-pub current-in : (ws : List ℕ) (a : Account) → a .0 < 32 → entryOf (ledgerIn ws) a .current ≡ currentIn (block ws (a .0))
+pub current-in : (ws : List ℕ) (a : Account) → a .0 < 32 → entryOf (ledgerIn ws) a .current ≡ block ws (a .0) currentPlace
 unfolding entryBy
 current-in ws a h = ap (λ e. e .current) (entry-in ws a h)
 
@@ -89,7 +89,7 @@ pub ack-of-next : (ws : List ℕ) (a : Account) (s : Seat) (u : Transfer) → a 
 unfolding entryBy
 ack-of-next ws a s u h = rw (entry-in ws a h)
     (table-each OfNext (ackIn (a .0) w) 16 0 (s .0) none (λ e. impossible (cc))
-    (λ k. slot-of-next (a .0) (w (7 + k)) (currentIn w + 1) (w (23 + k)) u))
+    (λ k. slot-of-next (a .0) (w (7 + k)) (w currentPlace + 1) (w (23 + k)) u))
   where
     w : Block
     w = block ws (a .0)
@@ -98,9 +98,9 @@ ack-of-next ws a s u h = rw (entry-in ws a h)
     none = record { slot = Empty }
 
     OfNext : AckSlot → Type 0
-    OfNext k = k .slot ≡ Full u → (u .account ≡ a) × (u .number ≡ currentIn w + 1)
+    OfNext k = k .slot ≡ Full u → (u .account ≡ a) × (u .number ≡ w currentPlace + 1)
 
-module _ (w : Block) (s : Seat) (t : Transfer) (seat : s .0 < 16) (value : 0 < t .value) (byte : t .recipient .0 < 256) (next : t .number ≡ currentIn w + 1) where
+module _ (w : Block) (s : Seat) (t : Transfer) (seat : s .0 < 16) (value : 0 < t .value) (byte : t .recipient .0 < 256) (next : t .number ≡ w currentPlace + 1) where
   -- a block that is the same but at the seat's two places
   ack-changed : (w' : Block) → ((k : ℕ) → k ≢ 7 + s .0 → k ≢ 23 + s .0 → w' k ≡ w k) → w' (7 + s .0) ≡ t .value → w' (23 + s .0) ≡ t .recipient .0
       → entryBy (t .account .0) w' ≡ withAck (entryBy (t .account .0) w) s t

@@ -1,3 +1,4 @@
--- Layout: the ledger that any words are. Blocks: what stores of words do.
+-- Layout: the ledger that any words are. Words: the words of a ledger. Blocks: what stores of words do.
 pub mod Layout
+pub mod Words
 pub mod Blocks

@@ -6,11 +6,16 @@ use mathlib.Core.Bool.{cond}
 use mathlib.Core.List.{List, [], _∷_}
 use lib.Dec.{ltb}
 use lib.ListN.{length, getD}
-use Rattle.agreement.specs.Types.{Seat, Account, Transfer, Slot, Empty, Full, Entry, Ledger}
+use Rattle.model.specs.declared.Seat.{Seat}
+use Rattle.model.specs.declared.Account.{Account}
+use Rattle.model.specs.declared.Transfer.{Transfer}
+use Rattle.model.specs.declared.Slot.{Slot}
+use Rattle.model.specs.declared.Slot.the-variants.{Empty, Full}
+use Rattle.model.specs.Types.{Entry, Ledger}
 use Rattle.model.specs.Basics.{bit}
 use Rattle.model.specs.Records.{seatOf, accountOf, entryOf}
 use Rattle.model.specs.Refusals.{ackFrom}
-use Rattle.layout.specs.Layout.{blockWords, groupPlace, bookWords, tableFrom, ledgerIn}
+use Rattle.layout.specs.Layout.{blockWords, ackValuesPlace, ackRecipientsPlace, groupPlace, bookWords, tableFrom, ledgerIn}
 
 -- a slip's value, number and recipient as words, 0 where there is none
 abbrev pub valueWord : Slot → ℕ
@@ -25,7 +30,7 @@ abbrev pub recipientWord : Slot → ℕ
 recipientWord Empty = 0
 recipientWord (Full t) = t .recipient .0
 
--- a word of an account's block: the first seven, the values of the 16 seats' acks, and their recipients
+-- the words of an account's block: those before the acks, in the order of their places; then the values of the 16 seats' acks, and their recipients
 abbrev pub firstWords : Entry → List ℕ
 firstWords e =
     e .balance
@@ -39,8 +44,8 @@ firstWords e =
 
 abbrev pub entryWord : Entry → ℕ → ℕ
 entryWord e i =
-    cond (ltb i 7) (getD (firstWords e) i 0)
-    (cond (ltb i 23) (valueWord (ackFrom e (seatOf (i - 7)))) (recipientWord (ackFrom e (seatOf (i - 23)))))
+    cond (ltb i ackValuesPlace) (getD (firstWords e) i 0)
+    (cond (ltb i ackRecipientsPlace) (valueWord (ackFrom e (seatOf (i - ackValuesPlace)))) (recipientWord (ackFrom e (seatOf (i - ackRecipientsPlace)))))
 
 -- a word of the ledger: those of the blocks, then the group's
 abbrev pub ledgerWord : Ledger → ℕ → ℕ

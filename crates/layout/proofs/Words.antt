@@ -7,14 +7,18 @@ use mathlib.Core.Bool.{Bool, true, false}
 use mathlib.Core.List.{List, [], _∷_}
 use lib.ListN.{length, getD}
 use borrow.Author.Tests.{lt-ltb, le-ltb, le-leb}
-use Rattle.agreement.specs.Types.{Account, Transfer, Slot, Empty, Full, Entry, Ledger}
+use Rattle.model.specs.declared.Account.{Account}
+use Rattle.model.specs.declared.Transfer.{Transfer}
+use Rattle.model.specs.declared.Slot.{Slot}
+use Rattle.model.specs.declared.Slot.the-variants.{Empty, Full}
+use Rattle.model.specs.Types.{Entry, Ledger}
 use Rattle.model.specs.Basics.{bit}
 use Rattle.model.specs.Records.{seatOf, accountOf, freshEntry, entryOf}
 use Rattle.model.specs.Refusals.{ackFrom}
 use Rattle.layout.specs.Layout.{blockWords, groupPlace, bookWords, Block, block, mark, slotBy, ackIn, tableFrom, entryBy, entriesIn, ledgerIn}
 use Rattle.layout.proofs.Blocks.{table-at}
 use Rattle.layout.proofs.Entries.{slip-by}
-use Rattle.conformance.specs.Words.{valueWord, numberWord, recipientWord, entryWord, ledgerWord, wordsOf, ToldBy, EntryTold, LedgerTold, WordsAre}
+use Rattle.layout.specs.Words.{valueWord, numberWord, recipientWord, entryWord, ledgerWord, wordsOf, ToldBy, EntryTold, LedgerTold, WordsAre}
 
 -- a table of what a list has at its places is that list
 table-is : {A : Type 0} (f : ℕ → A) (xs : List A) (i : ℕ) (d : A) → ((k : ℕ) → k < length xs → f (i + k) ≡ getD xs k d) → tableFrom f (length xs) i ≡ xs

@@ -10,7 +10,7 @@ use mathlib.Core.List.{List}
 use lib.Dec.{eqb}
 use lib.ListN.{length, getD, set, length-set}
 use lib.Seq.{getD-set-same, getD-set-other}
-use borrow.Author.Tests.{lt-ltb, le-ltb, ne-eqb, le-leb}
+use borrow.Author.Tests.{lt-ltb, le-ltb, ne-eqb}
 use Rattle.model.specs.declared.Seat.{Seat}
 use Rattle.model.specs.declared.Account.{Account}
 use Rattle.model.specs.declared.Transfer.{Transfer}
@@ -19,7 +19,7 @@ use Rattle.model.specs.Types.{AckSlot, Entry}
 use Rattle.model.specs.Records.{accountOf, entryOf, withEntry, withBalance, withAcked, withAck, withProposed, withPending}
 use Rattle.model.specs.Refusals.{ackFrom}
 use Rattle.model.proofs.Sums.{impossible}
-use Rattle.layout.specs.Layout.{blockWords, groupPlace, bookWords, Block, block, currentPlace, slotBy, ackIn, tableFrom, entryBy, entriesIn, ledgerIn}
+use Rattle.layout.specs.Layout.{blockWords, groupPlace, bookWords, Block, block, currentPlace, slotBy, ackIn, tableFrom, upTo, entryBy, entriesIn, ledgerIn}
 use Rattle.layout.specs.Blocks.{put, Changes}
 use Rattle.layout.proofs.Blocks.{table-at, table-each, table-length, table-same, table-set, put-here, put-else, entry-in, changed-ledger}
 
@@ -160,10 +160,9 @@ module _ (ws : List ℕ) (n f k total : ℕ) (size : length ws ≡ bookWords) wh
   abbrev grouped : List ℕ
   grouped = set three (groupPlace + 3) total
 
-  pub group-put : n ≤ 16 → f ≤ 16 → k ≤ 32
-      → ledgerIn grouped ≡ record { seats = n; faults = f; accounts = k; total = total; entries = ledgerIn ws .entries }
+  pub group-put : ledgerIn grouped ≡ record { seats = upTo 16 n; faults = upTo 16 f; accounts = upTo 32 k; total = total; entries = ledgerIn ws .entries }
   unfolding ledgerIn
-  group-put seats faults accounts =
+  group-put =
       let size1 : length one ≡ bookWords = length-set ws groupPlace n ∙ size in
       let size2 : length two ≡ bookWords = length-set one (groupPlace + 1) f ∙ size1 in
       let size3 : length three ≡ bookWords = length-set two (groupPlace + 2) k ∙ size2 in
@@ -183,4 +182,4 @@ module _ (ws : List ℕ) (n f k total : ℕ) (size : length ws ≡ bookWords) wh
       let fourth : getD grouped (groupPlace + 3) 0 ≡ total = getD-set-same three (groupPlace + 3) total 0 (omega arith) in
       let rest : entriesIn grouped ≡ entriesIn ws =
       entries-same ws grouped (λ i h. past1 i (omega arith) ∙ getD-set-other ws groupPlace i n 0 (λ e. absurd (omega arith))) in
-      rw (first, second, third, fourth, rest, le-leb n 16 seats, le-leb f 16 faults, le-leb k 32 accounts)
+      rw (first, second, third, fourth, rest)

@@ -25,7 +25,7 @@ ghost use Rattle.model.specs.Records.{withEntry, withBalance, withAcked, withPr
 ghost use Rattle.model.specs.Refusals.{ackFrom};
 ghost use Rattle.layout.specs.Layout.{blockWords, bookWords, block, slotBy, upTo, ledgerIn, entryIn};
 ghost use Rattle.layout.specs.Blocks.{put, Changes};
-ghost use Rattle.store.specs.Stores.{cleared, AckStored, PendingStored, GroupStored};
+ghost use Rattle.store.specs.Stores.{cleared, numbered, AckStored, PendingStored, GroupStored};
 
 // A word of an account's block.
 fn word(words: &[u32], a: Account, at: usize) -> u32
@@ -160,11 +160,11 @@ pub fn pending_of(words: &[u32], a: Account) -> Slot
     )
 }
 
-// A seat's ack for the account's next number, which the caller has found, if any is recorded.
+// A seat's ack for the account's next number, if any is recorded, told with a number: the next, as the caller has found it.
 pub fn ack_from(words: &[u32], a: Account, s: Seat, next: u32) -> Slot
     requires { ⌜ length (now words) ≡ bookWords ⌝ }
     requires { ⌜ (a .0 < 32) × (s .0 < 16) ⌝ }
-    ensures { λ r. ⌜ (next ≡ entryIn (now (words .entry)) a .current + 1 → r ≡ ackFrom (entryIn (now (words .entry)) a) s) ⌝ }
+    ensures { λ r. ⌜ r ≡ numbered next (ackFrom (entryIn (now (words .entry)) a) s) ⌝ }
 {
     let seat = s.0 as usize;
     slot_of(

@@ -1,17 +1,19 @@
 -- The running tally of one number, given by the model's definitions.
-use Prim.Native.Nat.{ℕ, _+_, _≤_, _<_}
+use Prim.Native.Nat.{ℕ, _+_, _-_, _≤_, _<_}
 use mathlib.Core.Path.{_≡_}
-use mathlib.Core.Bool.{Bool, true}
+use mathlib.Core.Bool.{Bool, true, not, _&&_}
 use mathlib.Core.List.{List}
+use lib.Dec.{leb, ltb}
 use Rattle.model.specs.declared.Seat.{Seat}
 use Rattle.model.specs.declared.Account.{Account}
 use Rattle.model.specs.declared.Transfer.{Transfer}
 use Rattle.model.specs.declared.Slot.{Slot}
-use Rattle.model.specs.Types.{AckSlot}
+use Rattle.model.specs.Types.{AckSlot, Entry}
 use Rattle.model.specs.Basics.{bit}
-use Rattle.model.specs.Acks.{holds, isFull, acksFor, acksRecorded, mustPropose, noMoreThan}
+use Rattle.model.specs.Acks.{holds, isFull, acksFor, acksRecorded, mustPropose, noMoreThan, hasMost}
 use Rattle.model.specs.Refusals.{ackFrom}
 use Rattle.layout.specs.Layout.{ledgerIn, entryIn}
+use Rattle.store.specs.Stores.{withNumber}
 use Rattle.tally.specs.declared.Tally.{Tally}
 use Rattle.tally.specs.declared.Leader.{Leader}
 
@@ -23,23 +25,30 @@ tallyOf t acks = record { equal = acksFor t acks; recorded = acksRecorded acks }
 abbrev pub counted : Tally → Transfer → Slot → Tally
 counted y t s = record { equal = y .equal + bit (holds t s); recorded = y .recorded + bit (isFull s) }
 
--- The tally for a slip of its account's next number.
-pub record Tallies (ws : List ℕ) (t : Transfer) (r : Tally) : Type 0 where
-  pub tally : t .number ≡ entryIn ws (t .account) .current + 1 → r ≡ tallyOf t (entryIn ws (t .account) .acks)
+-- a slip as if it were of its account's next number: the places of acks tell no other
+abbrev pub atNext : Entry → Transfer → Transfer
+atNext e t = withNumber t (e .current + 1)
 
--- Whether a slip is to be put forward, told by the tally for a slip of the account and its next number that is among the recorded ones.
+-- Whether a slip is to be put forward, told by a tally: at least n - f acks are recorded, fewer are equal to the tally's slip than are recorded, and
+-- nothing was put forward. Of a tally for one of the recorded slips this is the model's test.
 pub record Decides (ws : List ℕ) (a : Account) (y : Tally) (r : Bool) : Type 0 where
+  pub told : r ≡ (leb (ledgerIn ws .seats - ledgerIn ws .faults) (y .recorded) && ltb (y .equal) (y .recorded) && not (entryIn ws a .proposed))
   pub decided : (t : Transfer) → t .account ≡ a → t .number ≡ entryIn ws a .current + 1 → y ≡ tallyOf t (entryIn ws a .acks) → 0 < y .equal
       → r ≡ mustPropose (ledgerIn ws .seats) (ledgerIn ws .faults) (y .recorded) (entryIn ws a)
 
--- the leader's slip is of its account's next number, and its count is the slip's
-pub record Leading (ws : List ℕ) (x : Leader) : Type 0 where
-  pub next : x .transfer .number ≡ entryIn ws (x .transfer .account) .current + 1
-  pub counts : x .acks ≡ acksFor (x .transfer) (entryIn ws (x .transfer .account) .acks)
+-- the leader's count is how many acks are equal to its slip
+abbrev pub Leading : List ℕ → Leader → Type 0
+Leading ws x = x .acks ≡ acksFor (atNext (entryIn ws (x .transfer .account)) (x .transfer)) (entryIn ws (x .transfer .account) .acks)
 
--- Of two the one that leads: it has no fewer acks than either.
+-- Of two the one that leads: it is of the same account and number, and has no fewer acks than either.
 pub record Leads (ws : List ℕ) (best : Leader) (s : Seat) (r : Leader) : Type 0 where
-  pub same : r .transfer .account ≡ best .transfer .account
+  pub account : r .transfer .account ≡ best .transfer .account
+  pub number : r .transfer .number ≡ best .transfer .number
   pub leading : Leading ws best → Leading ws r
   pub first : best .acks ≤ r .acks
-  pub second : Leading ws best → noMoreThan (r .acks) (entryIn ws (best .transfer .account) .acks) (ackFrom (entryIn ws (best .transfer .account)) s) ≡ true
+  pub second : noMoreThan (r .acks) (entryIn ws (best .transfer .account) .acks) (ackFrom (entryIn ws (best .transfer .account)) s) ≡ true
+
+-- A slip that has the most acks of the account, with the first one's number.
+pub record MostAcked (ws : List ℕ) (first r : Transfer) : Type 0 where
+  pub most : hasMost (entryIn ws (first .account) .acks) (atNext (entryIn ws (first .account)) r) ≡ true
+  pub number : r .number ≡ first .number

@@ -1,5 +1,5 @@
-// The acks that are recorded for an account's next number, and what follows from them. The caller tells the next number, which it has found; a
-// function that is told another one promises nothing of its result.
+// The acks that are recorded for an account's next number, and what follows from them. Their places tell no number: a transfer is compared as one of
+// the next.
 use basics::slots::is_full;
 use basics::slots::is_held;
 use model::Account;
@@ -11,13 +11,11 @@ use store::faults_of;
 use store::is_proposed;
 use store::seats_of;
 ghost use mathlib.Core.Path.{_≡_};
-ghost use mathlib.Core.Bool.{true};
 ghost use Prim.Native.Nat.{_+_, _<_};
 ghost use lib.ListN.{length};
 ghost use Rattle.model.specs.Basics.{bit};
-ghost use Rattle.model.specs.Acks.{hasMost};
 ghost use Rattle.layout.specs.Layout.{bookWords, entryIn};
-ghost use Rattle.tally.specs.Results.{counted, Tallies, Decides, Leads};
+ghost use Rattle.tally.specs.Results.{tallyOf, counted, atNext, Decides, Leads, MostAcked};
 
 // The running tally of one number, for one transfer.
 pub struct Tally {
@@ -68,7 +66,7 @@ fn plus_ack(before: Tally, t: Transfer, s: Slot) -> Tally
 pub fn tally_of(words: &[u32], t: Transfer) -> Tally
     requires { ⌜ length (now words) ≡ bookWords ⌝ }
     requires { ⌜ t .account .0 < 32 ⌝ }
-    ensures { λ r. ⌜ Tallies (now (words .entry)) t r ⌝ }
+    ensures { λ r. ⌜ r ≡ tallyOf (atNext (entryIn (now (words .entry)) (t .account)) t) (entryIn (now (words .entry)) (t .account) .acks) ⌝ }
 {
     let mut y = Tally {
         equal: 0,
@@ -112,22 +110,14 @@ fn better(words: &[u32], best: Leader, s: Seat) -> Leader
     ensures { λ r. ⌜ Leads (now (words .entry)) best s r ⌝ }
 {
     let first = best.transfer;
-    let account = first.account;
-    let slot = ack_from(words, account, s, first.number);
+    let slot = ack_from(words, first.account, s, first.number);
     match slot {
         Slot::Empty => best,
         Slot::Full(u) => {
-            let recipient = u.recipient;
-            let other = Transfer {
-                account: account,
-                number: first.number,
-                value: u.value,
-                recipient: recipient,
-            };
-            let y = tally_of(words, other);
+            let y = tally_of(words, u);
             if best.acks < y.equal {
                 Leader {
-                    transfer: other,
+                    transfer: u,
                     acks: y.equal,
                 }
             } else {
@@ -141,7 +131,7 @@ fn better(words: &[u32], best: Leader, s: Seat) -> Leader
 pub fn most_acked(words: &[u32], first: Transfer) -> Transfer
     requires { ⌜ length (now words) ≡ bookWords ⌝ }
     requires { ⌜ first .account .0 < 32 ⌝ }
-    ensures { λ r. ⌜ (first .number ≡ entryIn (now (words .entry)) (first .account) .current + 1 → hasMost (entryIn (now (words .entry)) (first .account) .acks) r ≡ true) ⌝ }
+    ensures { λ r. ⌜ MostAcked (now (words .entry)) first r ⌝ }
 {
     let own = tally_of(words, first);
     let mut best = Leader {

@@ -1,6 +1,6 @@
 -- The entries are put, and then the group's numbers, which leave the entries as they are.
 use borrow.Author.Needs.{needs}
-use mathlib.Core.Path.{_∙_}
+use borrow.Author.Tests.{le-leb}
 use Rattle.opening.proofs.put_ledger.Statement.{statement}
 use Rattle.opening.proofs.put_ledger.Tie as tie
 
@@ -16,7 +16,7 @@ same-length c = search needs
 returns : tie.Need-returns
 returns c =
     let entries = c .before .before .before .before .before .before .put-entries .ensures in
-    record { fresh = λ s f k e. rw (c .before .before .put-group .ensures .group s f k, entries .fresh, e) }
+    record { fresh = λ s f k e. rw (c .before .before .put-group .ensures .group, le-leb _ _ s, le-leb _ _ f, le-leb _ _ k, entries .fresh, e) }
 
 pub put-ledger-spec : {M : Type 1} → statement M
 put-ledger-spec = tie.close (tie.spec put-entries-requires put-group-requires same-length returns)

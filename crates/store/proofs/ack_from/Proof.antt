@@ -1,5 +1,9 @@
--- Two words and the number are the place of the seat's ack.
-use mathlib.Core.Path.{_∙_}
+-- Two words are the place of the seat's ack, told with the number.
+use Prim.Native.Nat.{_+_}
+use mathlib.Core.Path.{refl, ap, sym, _∙_}
+use Rattle.layout.specs.Layout.{entryIn}
+use Rattle.store.specs.Stores.{numbered}
+use Rattle.store.proofs.Reading.{numbered-slot}
 use Rattle.layout.proofs.Entries.{ack-read}
 use native.Mathlib.Omega.{arith}
 use borrow.Author.Needs.{needs}
@@ -27,20 +31,15 @@ slot-of-requires c κs = search needs
 returns : tie.Need-returns
 returns c =
     let start = c .before .before .before .before .before in
-    λ next.
+    let ws = start .args .words .now in
+    let value = c .before .before .word .result in
+    let recipient = c .before .word2 .result in
+    let number = entryIn ws (start .args .a) .current + 1 in
     c .slot-of .ensures
-    ∙ ack-read
-    (start .args .words .now)
-    (start .args .a)
-    (start .args .s)
-    (c .before .before .word .result)
-    (start .args .next)
-    (c .before .word2 .result)
-    (omega arith)
-    (omega arith)
-    (c .before .before .word .ensures)
-    (c .before .word2 .ensures)
-    next
+    ∙ sym (numbered-slot (start .args .a .0) value number (start .args .next) recipient)
+    ∙ ap
+    (numbered (start .args .next))
+    (ack-read ws (start .args .a) (start .args .s) value number recipient (omega arith) (omega arith) (c .before .before .word .ensures) (c .before .word2 .ensures) refl)
 
 pub ack-from-spec : {M : Type 1} → statement M
 ack-from-spec =

@@ -42,6 +42,7 @@ returns c =
     let stored =
     changed-more (put own (7 + s .0) (t .value)) (23 + s .0) (t .recipient .0) (c .before .before .before .before .before .before .before .put-word .ensures) (c .before .before .put-word2 .ensures) in
     record {
+      words = stored;
       recorded =
           λ next h.
           entry-changed

@@ -35,6 +35,7 @@ returns c =
     let number = changed-more one 5 (t .number) (c .before .before .before .before .before .before .before .before .before .before .before .put-word .ensures) (c .before .before .before .before .before .before .before .put-word2 .ensures) in
     let recipient = changed-more two 6 (t .recipient .0) number (c .before .before .put-word3 .ensures) in
     record {
+      words = recipient;
       waits =
           λ h.
           entry-changed

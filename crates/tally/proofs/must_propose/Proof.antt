@@ -2,10 +2,10 @@
 -- account and its next number.
 use Prim.Native.Nat.{ℕ, _+_, _-_, _<_}
 use native.Mathlib.Omega.{arith}
-use mathlib.Core.Path.{_≡_, sym, _∙_}
-use mathlib.Core.Bool.{and-true, and-false}
+use mathlib.Core.Path.{_≡_, ap, sym, _∙_}
+use mathlib.Core.Bool.{Bool, not, _&&_, and-true, and-false}
 use mathlib.Core.List.{List}
-use lib.Dec.{ltb}
+use lib.Dec.{leb, ltb}
 use borrow.Author.Needs.{needs}
 use borrow.Author.Tests.{le-leb, lt-leb}
 use Rattle.model.specs.declared.Account.{Account}
@@ -14,7 +14,7 @@ use Rattle.model.specs.Acks.{twoConflict}
 use Rattle.layout.specs.Layout.{ledgerIn, entryIn}
 use Rattle.layout.proofs.Entries.{ack-of-next}
 use Rattle.tally.specs.declared.Tally.{Tally}
-use Rattle.tally.specs.Results.{tallyOf}
+use Rattle.tally.specs.Results.{tallyOf, Decides}
 use Rattle.tally.proofs.Conflicts.{AllOf, two-conflict-fewer}
 use Rattle.tally.proofs.must_propose.Statement.{statement}
 use Rattle.tally.proofs.must_propose.Tie as tie
@@ -28,11 +28,27 @@ conflict-told ws a y t inside account number tally some =
     all : AllOf t (entryIn ws a .acks)
     all i u e = let of = ack-of-next ws a (record { 0 = i }) u inside e in (of .0 ∙ sym account, of .1 ∙ sym number)
 
+-- and so what the model's test is
+decides : (ws : List ℕ) (a : Account) (y : Tally) (r : Bool) → a .0 < 32
+    → r ≡ (leb (ledgerIn ws .seats - ledgerIn ws .faults) (y .recorded) && ltb (y .equal) (y .recorded) && not (entryIn ws a .proposed)) → Decides ws a y r
+decides ws a y r inside e =
+    record {
+      told = e;
+      decided =
+          λ t account number tally some.
+          e
+          ∙ ap
+          (λ b. leb (ledgerIn ws .seats - ledgerIn ws .faults) (y .recorded) && b && not (entryIn ws a .proposed))
+          (conflict-told ws a y t inside account number tally some);
+    }
+
 is-proposed-requires : tie.Need-is-proposed-requires
 is-proposed-requires c κs = search needs
 
 returns : tie.Need-returns
-returns c = record { decided = λ t account number tally some. rw (← c .before .is-proposed .ensures, c .if1 .taken, and-false) }
+returns c =
+    let start = c .before .before .before in
+    decides (start .args .words .now) (start .args .a) (start .args .y) _ (omega arith) (rw (← c .before .is-proposed .ensures, c .if1 .taken, and-false))
 
 cast-if2 : tie.Need-cast-if2
 cast-if2 c = search needs
@@ -55,28 +71,24 @@ cast-if2-3 c = search needs
 returns-2 : tie.Need-returns-2
 returns-2 c =
     let start = c .before .before .before .before .before .before .before in
-    let l = ledgerIn (start .args .words .now) in
-    record {
-      decided = λ t account number tally some. rw (lt-leb (l .seats - l .faults) (start .args .y .recorded) (omega (arith, c .before .seats-of .ensures, c .before .before .faults-of .ensures)));
-    }
+    let ws = start .args .words .now in
+    let l = ledgerIn ws in
+    decides ws (start .args .a) (start .args .y) _ (omega arith)
+    (rw (lt-leb (l .seats - l .faults) (start .args .y .recorded) (omega (arith, c .before .seats-of .ensures, c .before .before .faults-of .ensures))))
 
 returns-3 : tie.Need-returns-3
 returns-3 c =
     let start = c .before .before .before .before .before .before .before .before in
     let ws = start .args .words .now in
     let l = ledgerIn ws in
-    let e = entryIn ws (start .args .a) in
-    record {
-      decided =
-          λ t account number tally some.
-          rw (
-            le-leb (l .seats - l .faults) (start .args .y .recorded) (omega (arith, c .before .before .seats-of .ensures, c .before .before .before .faults-of .ensures)),
-            ← c .before .before .before .before .before .before .is-proposed .ensures,
-            c .before .before .before .before .before .if1 .left,
-            and-true (twoConflict (e .acks)),
-          )
-          (conflict-told ws (start .args .a) (start .args .y) t (omega arith) account number tally some);
-    }
+    let y = start .args .y in
+    decides ws (start .args .a) y _ (omega arith)
+    (rw (
+      le-leb (l .seats - l .faults) (y .recorded) (omega (arith, c .before .before .seats-of .ensures, c .before .before .before .faults-of .ensures)),
+      ← c .before .before .before .before .before .before .is-proposed .ensures,
+      c .before .before .before .before .before .if1 .left,
+      and-true (ltb (y .equal) (y .recorded)),
+    ))
 
 pub must-propose-spec : {M : Type 1} → statement M
 must-propose-spec =

@@ -11,6 +11,7 @@ use Rattle.model.specs.Acks.{holds, conflicts}
 use Rattle.model.specs.Refusals.{Rule, ackFrom, transferRules}
 use Rattle.layout.specs.Layout.{ledgerIn, entryIn}
 use Rattle.basics.proofs.ReadBack.{passed}
+use Rattle.store.proofs.Reading.{ack-next}
 use Rattle.calls.proofs.Rules.{passes, fails}
 use Rattle.calls.proofs.Ranges.{fits, seat-place}
 use Rattle.calls.proofs.checks.ack_check.Statement.{statement}
@@ -43,7 +44,9 @@ is-held-requires c κs = search needs
 
 returns-2 : tie.Need-returns-2
 returns-2 c =
-    let recorded = c .before .before .ack-from .ensures (fits (c .before .before .before .before .before .before .before .before .before .before .args .words .now) (c .before .before .before .before .before .before .before .before .before .before .args .t) (passed _ (sym (c .before .before .before .before .before .transfer-check .ensures) ∙ c .before .before .before .enum-told .given .1)) .next) in
+    let start = c .before .before .before .before .before .before .before .before .before .before in
+    let fit = fits (c .before .before .before .before .before .before .before .before .before .before .args .words .now) (c .before .before .before .before .before .before .before .before .before .before .args .t) (passed _ (sym (c .before .before .before .before .before .transfer-check .ensures) ∙ c .before .before .before .enum-told .given .1)) in
+    let recorded = c .before .before .ack-from .ensures ∙ ack-next (start .args .words .now) (start .args .t .account) (start .args .s) (fit .range .account) (start .args .t .number) (fit .next) in
     rw (← c .before .before .before .before .before .before .before .before .seats-of .ensures, lt-leb _ _ (c .before .before .before .before .before .before .if1 .left))
     (passes (transferRules (ledgerIn (c .before .before .before .before .before .before .before .before .before .before .args .words .now)) (entryIn (c .before .before .before .before .before .before .before .before .before .before .args .words .now) (c .before .before .before .before .before .before .before .before .before .before .args .t .account)) (c .before .before .before .before .before .before .before .before .before .before .args .t)) (after (entryIn (c .before .before .before .before .before .before .before .before .before .before .args .words .now) (c .before .before .before .before .before .before .before .before .before .before .args .t .account)) (c .before .before .before .before .before .before .before .before .before .before .args .s) (c .before .before .before .before .before .before .before .before .before .before .args .t)) _ (sym (c .before .before .before .enum-told .given .1) ∙ c .before .before .before .before .before .transfer-check .ensures) (rw (← recorded, ← c .before .is-held .ensures, c .if2 .taken)))
 
@@ -52,7 +55,9 @@ is-against-requires c κs = search needs
 
 returns-3 : tie.Need-returns-3
 returns-3 c =
-    let recorded = c .before .before .before .before .ack-from .ensures (fits (c .before .before .before .before .before .before .before .before .before .before .before .before .args .words .now) (c .before .before .before .before .before .before .before .before .before .before .before .before .args .t) (passed _ (sym (c .before .before .before .before .before .before .before .transfer-check .ensures) ∙ c .before .before .before .before .before .enum-told .given .1)) .next) in
+    let start = c .before .before .before .before .before .before .before .before .before .before .before .before in
+    let fit = fits (c .before .before .before .before .before .before .before .before .before .before .before .before .args .words .now) (c .before .before .before .before .before .before .before .before .before .before .before .before .args .t) (passed _ (sym (c .before .before .before .before .before .before .before .transfer-check .ensures) ∙ c .before .before .before .before .before .enum-told .given .1)) in
+    let recorded = c .before .before .before .before .ack-from .ensures ∙ ack-next (start .args .words .now) (start .args .t .account) (start .args .s) (fit .range .account) (start .args .t .number) (fit .next) in
     rw (← c .before .before .before .before .before .before .before .before .before .before .seats-of .ensures, lt-leb _ _ (c .before .before .before .before .before .before .before .before .if1 .left))
     (passes (transferRules (ledgerIn (c .before .before .before .before .before .before .before .before .before .before .before .before .args .words .now)) (entryIn (c .before .before .before .before .before .before .before .before .before .before .before .before .args .words .now) (c .before .before .before .before .before .before .before .before .before .before .before .before .args .t .account)) (c .before .before .before .before .before .before .before .before .before .before .before .before .args .t)) (after (entryIn (c .before .before .before .before .before .before .before .before .before .before .before .before .args .words .now) (c .before .before .before .before .before .before .before .before .before .before .before .before .args .t .account)) (c .before .before .before .before .before .before .before .before .before .before .before .before .args .s) (c .before .before .before .before .before .before .before .before .before .before .before .before .args .t)) _ (sym (c .before .before .before .before .before .enum-told .given .1) ∙ c .before .before .before .before .before .before .before .transfer-check .ensures) (rw (← recorded, ← c .before .before .before .is-held .ensures, c .before .before .if2 .left, ← c .before .is-against .ensures, c .if3 .taken)))
 
@@ -63,7 +68,9 @@ returns-4 c =
 
 returns-5 : tie.Need-returns-5
 returns-5 c =
-    let recorded = c .before .before .before .before .ack-from .ensures (fits (c .before .before .before .before .before .before .before .before .before .before .before .before .args .words .now) (c .before .before .before .before .before .before .before .before .before .before .before .before .args .t) (passed _ (sym (c .before .before .before .before .before .before .before .transfer-check .ensures) ∙ c .before .before .before .before .before .enum-told .given .1)) .next) in
+    let start = c .before .before .before .before .before .before .before .before .before .before .before .before in
+    let fit = fits (c .before .before .before .before .before .before .before .before .before .before .before .before .args .words .now) (c .before .before .before .before .before .before .before .before .before .before .before .before .args .t) (passed _ (sym (c .before .before .before .before .before .before .before .transfer-check .ensures) ∙ c .before .before .before .before .before .enum-told .given .1)) in
+    let recorded = c .before .before .before .before .ack-from .ensures ∙ ack-next (start .args .words .now) (start .args .t .account) (start .args .s) (fit .range .account) (start .args .t .number) (fit .next) in
     rw (← c .before .before .before .before .before .before .before .before .before .before .seats-of .ensures, lt-leb _ _ (c .before .before .before .before .before .before .before .before .if1 .left))
     (passes (transferRules (ledgerIn (c .before .before .before .before .before .before .before .before .before .before .before .before .args .words .now)) (entryIn (c .before .before .before .before .before .before .before .before .before .before .before .before .args .words .now) (c .before .before .before .before .before .before .before .before .before .before .before .before .args .t .account)) (c .before .before .before .before .before .before .before .before .before .before .before .before .args .t)) (after (entryIn (c .before .before .before .before .before .before .before .before .before .before .before .before .args .words .now) (c .before .before .before .before .before .before .before .before .before .before .before .before .args .t .account)) (c .before .before .before .before .before .before .before .before .before .before .before .before .args .s) (c .before .before .before .before .before .before .before .before .before .before .before .before .args .t)) _ (sym (c .before .before .before .before .before .enum-told .given .1) ∙ c .before .before .before .before .before .before .before .transfer-check .ensures) (rw (← recorded, ← c .before .before .before .is-held .ensures, c .before .before .if2 .left, ← c .before .is-against .ensures, c .if3 .left)))
 

@@ -1,5 +1,8 @@
 -- The tally decides: K, else P, else N.
-use mathlib.Core.Path.{refl, _∙_}
+use mathlib.Core.Path.{_≡_, refl, _∙_}
+use Rattle.model.specs.Acks.{enough}
+use Rattle.layout.specs.Layout.{ledgerIn, entryIn}
+use Rattle.tally.proofs.Nexts.{tally-next, most-next}
 use Rattle.calls.proofs.Taking.{tally-accepts, tally-proposes, tally-notes}
 use borrow.Author.Needs.{needs}
 use Rattle.calls.proofs.messages.by_tally.Statement.{statement}
@@ -25,9 +28,16 @@ same-length c = search needs
 
 returns : tie.Need-returns
 returns c =
+    let test = c .before .before .before .before in
+    let start = test .before .before .before .before .before .before .before .before .before in
+    let ws = start .args .words .now in
+    let t = start .args .t in
+    let fair : test .before .is-enough .result ≡ enough (ledgerIn ws .seats) (ledgerIn ws .faults) (test .before .before .before .before .before .before .tally-of .result .equal) =
+    test .before .is-enough .ensures ∙ rw (test .before .before .before .before .seats-of .ensures, test .before .before .faults-of .ensures) in
     record {
       decided = λ next among.
-          tally-accepts (c .before .before .before .before .before .before .before .before .before .before .before .before .before .args .words .now) (c .before .before .before .before .before .before .before .before .before .before .before .before .before .args .t) _ (c .before .before .before .before .before .before .before .before .before .before .tally-of .ensures .tally (next .number)) _ (c .before .before .before .before .before .is-enough .ensures ∙ rw (c .before .before .before .before .before .before .before .before .seats-of .ensures, c .before .before .before .before .before .before .faults-of .ensures)) _ _ (c .before .before .before .before .if1 .taken) (c .before .before .accept .ensures .settled (next .value));
+          let tally = tally-next (entryIn ws (t .account)) t _ (next .number) (test .before .before .before .before .before .before .tally-of .ensures) in
+          tally-accepts ws t _ tally _ fair _ _ (test .if1 .taken) (c .before .before .accept .ensures .settled (next .value));
     }
 
 must-propose-requires : tie.Need-must-propose-requires
@@ -44,11 +54,17 @@ same-length-2 c = search needs
 
 returns-2 : tie.Need-returns-2
 returns-2 c =
+    let test = c .before .before .before .before .before .before .before .before .before in
+    let start = test .before .before .before .before .before .before .before .before .before in
+    let ws = start .args .words .now in
+    let t = start .args .t in
+    let fair : test .before .is-enough .result ≡ enough (ledgerIn ws .seats) (ledgerIn ws .faults) (test .before .before .before .before .before .before .tally-of .result .equal) =
+    test .before .is-enough .ensures ∙ rw (test .before .before .before .before .seats-of .ensures, test .before .before .faults-of .ensures) in
     record {
       decided = λ next among.
-          let y-is = c .before .before .before .before .before .before .before .before .before .before .before .before .before .before .before .tally-of .ensures .tally (next .number) in
-          tally-proposes (c .before .before .before .before .before .before .before .before .before .before .before .before .before .before .before .before .before .before .args .words .now) (c .before .before .before .before .before .before .before .before .before .before .before .before .before .before .before .before .before .before .args .t) _ y-is _ (c .before .before .before .before .before .before .before .before .before .before .is-enough .ensures ∙ rw (c .before .before .before .before .before .before .before .before .before .before .before .before .before .seats-of .ensures, c .before .before .before .before .before .before .before .before .before .before .before .faults-of .ensures)) (c .before .before .before .before .before .before .before .before .before .if1 .left) _
-          (c .before .before .before .before .before .before .before .must-propose .ensures .decided (c .before .before .before .before .before .before .before .before .before .before .before .before .before .before .before .before .before .before .args .t) refl (next .number) y-is (rw y-is among)) _ _ (c .before .before .before .before .before .before .if2 .taken) (c .before .before .before .before .most-acked .ensures (next .number)) (c .before .before .put-proposed .ensures);
+          let tally = tally-next (entryIn ws (t .account)) t _ (next .number) (test .before .before .before .before .before .before .tally-of .ensures) in
+          tally-proposes ws t _ tally _ fair (test .if1 .left) _ (c .before .before .before .before .before .before .before .must-propose .ensures .decided t refl (next .number) tally (rw tally among))
+          _ _ (c .before .before .before .before .before .before .if2 .taken) (most-next ws t _ (next .number) (c .before .before .before .before .most-acked .ensures)) (c .before .before .put-proposed .ensures);
     }
 
 same-length-3 : tie.Need-same-length-3
@@ -56,11 +72,16 @@ same-length-3 c = search needs
 
 returns-3 : tie.Need-returns-3
 returns-3 c =
+    let test = c .before .before .before in
+    let start = test .before .before .before .before .before .before .before .before .before in
+    let ws = start .args .words .now in
+    let t = start .args .t in
+    let fair : test .before .is-enough .result ≡ enough (ledgerIn ws .seats) (ledgerIn ws .faults) (test .before .before .before .before .before .before .tally-of .result .equal) =
+    test .before .is-enough .ensures ∙ rw (test .before .before .before .before .seats-of .ensures, test .before .before .faults-of .ensures) in
     record {
       decided = λ next among.
-          let y-is = c .before .before .before .before .before .before .before .before .before .tally-of .ensures .tally (next .number) in
-          tally-notes (c .before .before .before .before .before .before .before .before .before .before .before .before .args .words .now) (c .before .before .before .before .before .before .before .before .before .before .before .before .args .t) _ y-is _ (c .before .before .before .before .is-enough .ensures ∙ rw (c .before .before .before .before .before .before .before .seats-of .ensures, c .before .before .before .before .before .faults-of .ensures)) (c .before .before .before .if1 .left) _
-          (c .before .must-propose .ensures .decided (c .before .before .before .before .before .before .before .before .before .before .before .before .args .t) refl (next .number) y-is (rw y-is among)) (c .if2 .left);
+          let tally = tally-next (entryIn ws (t .account)) t _ (next .number) (test .before .before .before .before .before .before .tally-of .ensures) in
+          tally-notes ws t _ tally _ fair (test .if1 .left) _ (c .before .must-propose .ensures .decided t refl (next .number) tally (rw tally among)) (c .if2 .left);
     }
 
 pub by-tally-spec : {M : Type 1} → statement M

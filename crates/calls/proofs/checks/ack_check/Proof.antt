@@ -37,7 +37,9 @@ enum-told : tie.Need-enum-told
 enum-told c = search needs
 
 ack-from-requires : tie.Need-ack-from-requires
-ack-from-requires c κs = (c .before .before .before .before .before .before .before .pre, (fits (c .before .before .before .before .before .before .before .args .words .now) (c .before .before .before .before .before .before .before .args .t) (passed _ (sym (c .before .before .transfer-check .ensures) ∙ c .enum-told .given .1)) .range .account, seat-place (c .before .before .before .before .before .before .before .args .words .now) (c .before .before .before .before .before .before .before .args .s) (rw (← c .before .before .before .before .before .seats-of .ensures, lt-leb _ _ (c .before .before .before .if1 .left)))))
+ack-from-requires c κs =
+    let start = c .before .before .before .before .before .before .before in
+    (start .pre, (fits (start .args .words .now) (start .args .t) (passed _ (sym (c .before .before .transfer-check .ensures) ∙ c .enum-told .given .1)) .range .account, seat-place (start .args .words .now) (start .args .s) (rw (← c .before .before .before .before .before .seats-of .ensures, lt-leb _ _ (c .before .before .before .if1 .left)))))
 
 is-held-requires : tie.Need-is-held-requires
 is-held-requires c κs = search needs
@@ -63,8 +65,9 @@ returns-3 c =
 
 returns-4 : tie.Need-returns-4
 returns-4 c =
+    let start = c .before .before .before .before .before .before .before .before in
     rw (← c .before .before .before .before .before .before .seats-of .ensures, lt-leb _ _ (c .before .before .before .before .if1 .left))
-    (fails (transferRules (ledgerIn (c .before .before .before .before .before .before .before .before .args .words .now)) (entryIn (c .before .before .before .before .before .before .before .before .args .words .now) (c .before .before .before .before .before .before .before .before .args .t .account)) (c .before .before .before .before .before .before .before .before .args .t)) (after (entryIn (c .before .before .before .before .before .before .before .before .args .words .now) (c .before .before .before .before .before .before .before .before .args .t .account)) (c .before .before .before .before .before .before .before .before .args .s) (c .before .before .before .before .before .before .before .before .args .t)) _ (sym (c .before .r .given .1) ∙ c .before .before .before .transfer-check .ensures))
+    (fails (transferRules (ledgerIn (start .args .words .now)) (entryIn (start .args .words .now) (start .args .t .account)) (start .args .t)) (after (entryIn (start .args .words .now) (start .args .t .account)) (start .args .s) (start .args .t)) _ (sym (c .before .r .given .1) ∙ c .before .before .before .transfer-check .ensures))
 
 returns-5 : tie.Need-returns-5
 returns-5 c =

@@ -28,22 +28,34 @@ enum-told : tie.Need-enum-told
 enum-told c = search needs
 
 is-acked-requires : tie.Need-is-acked-requires
-is-acked-requires c κs = (c .before .before .before .before .pre, fits (c .before .before .before .before .args .words .now) (c .before .before .before .before .args .t) (passed _ (sym (c .before .before .transfer-check .ensures) ∙ c .enum-told .given .1)) .range .account)
+is-acked-requires c κs =
+    let start = c .before .before .before .before in
+    (start .pre, fits (start .args .words .now) (start .args .t) (passed _ (sym (c .before .before .transfer-check .ensures) ∙ c .enum-told .given .1)) .range .account)
 
 returns : tie.Need-returns
-returns c = passes (transferRules (ledgerIn (c .before .before .before .before .before .before .args .words .now)) (entryIn (c .before .before .before .before .before .before .args .words .now) (c .before .before .before .before .before .before .args .t .account)) (c .before .before .before .before .before .before .args .t)) (after (entryIn (c .before .before .before .before .before .before .args .words .now) (c .before .before .before .before .before .before .args .t .account)) (c .before .before .before .before .before .before .args .t)) _ (sym (c .before .before .enum-told .given .1) ∙ c .before .before .before .before .transfer-check .ensures) (rw (← c .before .is-acked .ensures, c .if1 .taken))
+returns c =
+    let start = c .before .before .before .before .before .before in
+    passes (transferRules (ledgerIn (start .args .words .now)) (entryIn (start .args .words .now) (start .args .t .account)) (start .args .t)) (after (entryIn (start .args .words .now) (start .args .t .account)) (start .args .t)) _ (sym (c .before .before .enum-told .given .1) ∙ c .before .before .before .before .transfer-check .ensures) (rw (← c .before .is-acked .ensures, c .if1 .taken))
 
 balance-of-requires : tie.Need-balance-of-requires
-balance-of-requires c κs = (c .before .before .before .before .before .before .pre, fits (c .before .before .before .before .before .before .args .words .now) (c .before .before .before .before .before .before .args .t) (passed _ (sym (c .before .before .before .before .transfer-check .ensures) ∙ c .before .before .enum-told .given .1)) .range .account)
+balance-of-requires c κs =
+    let start = c .before .before .before .before .before .before in
+    (start .pre, fits (start .args .words .now) (start .args .t) (passed _ (sym (c .before .before .before .before .transfer-check .ensures) ∙ c .before .before .enum-told .given .1)) .range .account)
 
 returns-2 : tie.Need-returns-2
-returns-2 c = passes (transferRules (ledgerIn (c .before .before .before .before .before .before .before .before .before .args .words .now)) (entryIn (c .before .before .before .before .before .before .before .before .before .args .words .now) (c .before .before .before .before .before .before .before .before .before .args .t .account)) (c .before .before .before .before .before .before .before .before .before .args .t)) (after (entryIn (c .before .before .before .before .before .before .before .before .before .args .words .now) (c .before .before .before .before .before .before .before .before .before .args .t .account)) (c .before .before .before .before .before .before .before .before .before .args .t)) _ (sym (c .before .before .before .before .before .enum-told .given .1) ∙ c .before .before .before .before .before .before .before .transfer-check .ensures) (rw (← c .before .before .before .before .is-acked .ensures, c .before .before .before .if1 .left, ← c .before .before .balance-of .ensures, lt-ltb _ _ (c .if2 .taken)))
+returns-2 c =
+    let start = c .before .before .before .before .before .before .before .before .before in
+    passes (transferRules (ledgerIn (start .args .words .now)) (entryIn (start .args .words .now) (start .args .t .account)) (start .args .t)) (after (entryIn (start .args .words .now) (start .args .t .account)) (start .args .t)) _ (sym (c .before .before .before .before .before .enum-told .given .1) ∙ c .before .before .before .before .before .before .before .transfer-check .ensures) (rw (← c .before .before .before .before .is-acked .ensures, c .before .before .before .if1 .left, ← c .before .before .balance-of .ensures, lt-ltb _ _ (c .if2 .taken)))
 
 returns-3 : tie.Need-returns-3
-returns-3 c = fails (transferRules (ledgerIn (c .before .before .before .before .before .args .words .now)) (entryIn (c .before .before .before .before .before .args .words .now) (c .before .before .before .before .before .args .t .account)) (c .before .before .before .before .before .args .t)) (after (entryIn (c .before .before .before .before .before .args .words .now) (c .before .before .before .before .before .args .t .account)) (c .before .before .before .before .before .args .t)) _ (sym (c .before .r .given .1) ∙ c .before .before .before .transfer-check .ensures)
+returns-3 c =
+    let start = c .before .before .before .before .before in
+    fails (transferRules (ledgerIn (start .args .words .now)) (entryIn (start .args .words .now) (start .args .t .account)) (start .args .t)) (after (entryIn (start .args .words .now) (start .args .t .account)) (start .args .t)) _ (sym (c .before .r .given .1) ∙ c .before .before .before .transfer-check .ensures)
 
 returns-4 : tie.Need-returns-4
-returns-4 c = passes (transferRules (ledgerIn (c .before .before .before .before .before .before .before .before .before .args .words .now)) (entryIn (c .before .before .before .before .before .before .before .before .before .args .words .now) (c .before .before .before .before .before .before .before .before .before .args .t .account)) (c .before .before .before .before .before .before .before .before .before .args .t)) (after (entryIn (c .before .before .before .before .before .before .before .before .before .args .words .now) (c .before .before .before .before .before .before .before .before .before .args .t .account)) (c .before .before .before .before .before .before .before .before .before .args .t)) _ (sym (c .before .before .before .before .before .enum-told .given .1) ∙ c .before .before .before .before .before .before .before .transfer-check .ensures) (rw (← c .before .before .before .before .is-acked .ensures, c .before .before .before .if1 .left, ← c .before .before .balance-of .ensures, le-ltb _ _ (c .if2 .left)))
+returns-4 c =
+    let start = c .before .before .before .before .before .before .before .before .before in
+    passes (transferRules (ledgerIn (start .args .words .now)) (entryIn (start .args .words .now) (start .args .t .account)) (start .args .t)) (after (entryIn (start .args .words .now) (start .args .t .account)) (start .args .t)) _ (sym (c .before .before .before .before .before .enum-told .given .1) ∙ c .before .before .before .before .before .before .before .transfer-check .ensures) (rw (← c .before .before .before .before .is-acked .ensures, c .before .before .before .if1 .left, ← c .before .before .balance-of .ensures, le-ltb _ _ (c .if2 .left)))
 
 pub circulated-check-spec : {M : Type 1} → statement M
 circulated-check-spec = tie.close (tie.spec transfer-check-requires enum-known-r enum-told is-acked-requires returns balance-of-requires returns-2 returns-3 returns-4)

@@ -16,7 +16,9 @@ returns : tie.Need-returns
 returns c = rw (← c .before .is-out-of-range .ensures, c .if1 .taken)
 
 current-of-requires : tie.Need-current-of-requires
-current-of-requires c κs = (c .before .before .before .pre, in-range (c .before .before .before .args .words .now) (c .before .before .before .args .t) (sym (c .before .is-out-of-range .ensures) ∙ c .if1 .left) .account)
+current-of-requires c κs =
+    let start = c .before .before .before in
+    (start .pre, in-range (start .args .words .now) (start .args .t) (sym (c .before .is-out-of-range .ensures) ∙ c .if1 .left) .account)
 
 returns-2 : tie.Need-returns-2
 returns-2 c = rw (← c .before .before .before .before .is-out-of-range .ensures, c .before .before .before .if1 .left, ← c .before .before .current-of .ensures, le-leb _ _ (c .if2 .taken))
@@ -26,22 +28,26 @@ sub-if3 c = search needs
 
 returns-3 : tie.Need-returns-3
 returns-3 c =
-    let t = c .before .before .before .before .before .before .before .before .args .t in
+    let start = c .before .before .before .before .before .before .before .before in
+    let t = start .args .t in
     let current = c .before .before .before .before .current-of .ensures in
-    let e = entryIn (c .before .before .before .before .before .before .before .before .args .words .now) (t .account) in
+    let e = entryIn (start .args .words .now) (t .account) in
     rw (← c .before .before .before .before .before .before .is-out-of-range .ensures, c .before .before .before .before .before .if1 .left, lt-leb (t .number) (e .current) (omega arith), lt-ltb (e .current + 1) (t .number) (omega arith))
 
 pending-of-requires : tie.Need-pending-of-requires
-pending-of-requires c κs = (c .before .before .before .before .before .before .before .before .pre, in-range (c .before .before .before .before .before .before .before .before .args .words .now) (c .before .before .before .before .before .before .before .before .args .t) (sym (c .before .before .before .before .before .before .is-out-of-range .ensures) ∙ c .before .before .before .before .before .if1 .left) .account)
+pending-of-requires c κs =
+    let start = c .before .before .before .before .before .before .before .before in
+    (start .pre, in-range (start .args .words .now) (start .args .t) (sym (c .before .before .before .before .before .before .is-out-of-range .ensures) ∙ c .before .before .before .before .before .if1 .left) .account)
 
 waits-requires : tie.Need-waits-requires
 waits-requires c κs = search needs
 
 returns-4 : tie.Need-returns-4
 returns-4 c =
-    let t = c .before .before .before .before .before .before .before .before .before .before .before .args .t in
+    let start = c .before .before .before .before .before .before .before .before .before .before .before in
+    let t = start .args .t in
     let current = c .before .before .before .before .before .before .before .current-of .ensures in
-    let e = entryIn (c .before .before .before .before .before .before .before .before .before .before .before .args .words .now) (t .account) in
+    let e = entryIn (start .args .words .now) (t .account) in
     rw (
       ← c .before .before .before .before .before .before .before .before .before .is-out-of-range .ensures,
       c .before .before .before .before .before .before .before .before .if1 .left,
@@ -54,9 +60,10 @@ returns-4 c =
 
 returns-5 : tie.Need-returns-5
 returns-5 c =
-    let t = c .before .before .before .before .before .before .before .before .before .before .before .args .t in
+    let start = c .before .before .before .before .before .before .before .before .before .before .before in
+    let t = start .args .t in
     let current = c .before .before .before .before .before .before .before .current-of .ensures in
-    let e = entryIn (c .before .before .before .before .before .before .before .before .before .before .before .args .words .now) (t .account) in
+    let e = entryIn (start .args .words .now) (t .account) in
     rw (
       ← c .before .before .before .before .before .before .before .before .before .is-out-of-range .ensures,
       c .before .before .before .before .before .before .before .before .if1 .left,

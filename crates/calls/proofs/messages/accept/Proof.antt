@@ -14,7 +14,9 @@ same-length : tie.Need-same-length
 same-length c = search needs
 
 returns : tie.Need-returns
-returns c = record { settled = λ value. settled (c .before .before .before .before .before .before .before .before .before .args .words .now) _ _ (c .before .before .before .before .before .before .before .before .before .args .t) _ (c .before .before .before .before .before .before .put-pending .ensures .waits value) (c .before .before .settle-all .ensures) }
+returns c =
+    let start = c .before .before .before .before .before .before .before .before .before in
+    record { settled = λ value. settled (start .args .words .now) _ _ (start .args .t) _ (c .before .before .before .before .before .before .put-pending .ensures .waits value) (c .before .before .settle-all .ensures) }
 
 pub accept-spec : {M : Type 1} → statement M
 accept-spec = tie.close (tie.spec put-pending-requires settle-all-requires same-length returns)

@@ -19,19 +19,25 @@ enum-told : tie.Need-enum-told
 enum-told c = search needs
 
 put-acked-requires : tie.Need-put-acked-requires
-put-acked-requires c κs = (c .before .before .before .before .before .before .pre, circulated-fits (c .before .before .before .before .before .before .args .words .now) (c .before .before .before .before .before .before .args .t) (passed _ (sym (c .before .before .before .circulated-check .ensures) ∙ c .before .enum-told .given .1)) .range .account)
+put-acked-requires c κs =
+    let start = c .before .before .before .before .before .before in
+    (start .pre, circulated-fits (start .args .words .now) (start .args .t) (passed _ (sym (c .before .before .before .circulated-check .ensures) ∙ c .before .enum-told .given .1)) .range .account)
 
 same-length : tie.Need-same-length
 same-length c = search needs
 
 returns : tie.Need-returns
-returns c = refused (c .before .before .before .before .before .before .args .words .now) (Circulated (c .before .before .before .before .before .before .args .t)) _ (c .before .before .before .circulated-check .ensures) _ (c .before .r .given .1)
+returns c =
+    let start = c .before .before .before .before .before .before in
+    refused (start .args .words .now) (Circulated (start .args .t)) _ (c .before .before .before .circulated-check .ensures) _ (c .before .r .given .1)
 
 same-length-2 : tie.Need-same-length-2
 same-length-2 c = search needs
 
 returns-2 : tie.Need-returns-2
-returns-2 c = served (c .before .before .before .before .before .before .before .before .before .args .words .now) (Circulated (c .before .before .before .before .before .before .before .before .before .args .t)) _ (c .before .before .before .before .before .before .circulated-check .ensures) _ _ (c .before .before .before .before .enum-told .given .1)
+returns-2 c =
+    let start = c .before .before .before .before .before .before .before .before .before in
+    served (start .args .words .now) (Circulated (start .args .t)) _ (c .before .before .before .before .before .before .circulated-check .ensures) _ _ (c .before .before .before .before .enum-told .given .1)
     (record { meets = (refl, c .before .before .put-acked .ensures); not-refused = λ code e. impossible (cc) })
 
 pub acknowledge-spec : {M : Type 1} → statement M

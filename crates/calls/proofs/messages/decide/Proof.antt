@@ -18,21 +18,26 @@ enum-told : tie.Need-enum-told
 enum-told c = search needs
 
 accept-requires : tie.Need-accept-requires
-accept-requires c κs = (c .before .before .before .before .before .before .pre, fits (c .before .before .before .before .before .before .args .words .now) (c .before .before .before .before .before .before .args .t) (passed _ (sym (c .before .before .before .transfer-check .ensures) ∙ c .before .enum-told .given .1)) .range .account)
+accept-requires c κs =
+    let start = c .before .before .before .before .before .before in
+    (start .pre, fits (start .args .words .now) (start .args .t) (passed _ (sym (c .before .before .before .transfer-check .ensures) ∙ c .before .enum-told .given .1)) .range .account)
 
 same-length : tie.Need-same-length
 same-length c = search needs
 
 returns : tie.Need-returns
-returns c = refused (c .before .before .before .before .before .before .args .words .now) (Decision (c .before .before .before .before .before .before .args .t)) _ (c .before .before .before .transfer-check .ensures) _ (c .before .r .given .1)
+returns c =
+    let start = c .before .before .before .before .before .before in
+    refused (start .args .words .now) (Decision (start .args .t)) _ (c .before .before .before .transfer-check .ensures) _ (c .before .r .given .1)
 
 same-length-2 : tie.Need-same-length-2
 same-length-2 c = search needs
 
 returns-2 : tie.Need-returns-2
 returns-2 c =
-    let fit = fits (c .before .before .before .before .before .before .before .before .before .args .words .now) (c .before .before .before .before .before .before .before .before .before .args .t) (passed _ (sym (c .before .before .before .before .before .before .transfer-check .ensures) ∙ c .before .before .before .before .enum-told .given .1)) in
-    served (c .before .before .before .before .before .before .before .before .before .args .words .now) (Decision (c .before .before .before .before .before .before .before .before .before .args .t)) _ (c .before .before .before .before .before .before .transfer-check .ensures) _ _ (c .before .before .before .before .enum-told .given .1) (c .before .before .accept .ensures .settled (fit .range .value))
+    let start = c .before .before .before .before .before .before .before .before .before in
+    let fit = fits (start .args .words .now) (start .args .t) (passed _ (sym (c .before .before .before .before .before .before .transfer-check .ensures) ∙ c .before .before .before .before .enum-told .given .1)) in
+    served (start .args .words .now) (Decision (start .args .t)) _ (c .before .before .before .before .before .before .transfer-check .ensures) _ _ (c .before .before .before .before .enum-told .given .1) (c .before .before .accept .ensures .settled (fit .range .value))
 
 pub decide-spec : {M : Type 1} → statement M
 decide-spec =

@@ -18,15 +18,20 @@ accounts-of-requires : tie.Need-accounts-of-requires
 accounts-of-requires c κs = search needs
 
 returns : tie.Need-returns
-returns c = refused (c .before .before .before .before .args .words .now) (Inquiry (c .before .before .before .before .args .a)) (Failed OutOfRange) (rw (← c .before .before .accounts-of .ensures, le-leb _ _ (c .if1 .taken))) OutOfRange refl
+returns c =
+    let start = c .before .before .before .before in
+    refused (start .args .words .now) (Inquiry (start .args .a)) (Failed OutOfRange) (rw (← c .before .before .accounts-of .ensures, le-leb _ _ (c .if1 .taken))) OutOfRange refl
 
 balance-of-requires : tie.Need-balance-of-requires
-balance-of-requires c κs = (c .before .before .before .before .pre, account-place (c .before .before .before .before .args .words .now) (c .before .before .before .before .args .a) (rw (← c .before .before .accounts-of .ensures, lt-leb _ _ (c .if1 .left))))
+balance-of-requires c κs =
+    let start = c .before .before .before .before in
+    (start .pre, account-place (start .args .words .now) (start .args .a) (rw (← c .before .before .accounts-of .ensures, lt-leb _ _ (c .if1 .left))))
 
 returns-2 : tie.Need-returns-2
 returns-2 c =
-    served (c .before .before .before .before .before .args .words .now) (Inquiry (c .before .before .before .before .before .args .a)) Passed (rw (← c .before .before .before .accounts-of .ensures, lt-leb _ _ (c .before .if1 .left))) _ _ refl
-    (record { meets = (ap Balance (c .balance-of .ensures), sym (with-entry-read (ledgerIn (c .before .before .before .before .before .args .words .now)) (c .before .before .before .before .before .args .a))); not-refused = λ code e. impossible (cc) })
+    let start = c .before .before .before .before .before in
+    served (start .args .words .now) (Inquiry (start .args .a)) Passed (rw (← c .before .before .before .accounts-of .ensures, lt-leb _ _ (c .before .if1 .left))) _ _ refl
+    (record { meets = (ap Balance (c .balance-of .ensures), sym (with-entry-read (ledgerIn (start .args .words .now)) (start .args .a))); not-refused = λ code e. impossible (cc) })
 
 pub inquire-spec : {M : Type 1} → statement M
 inquire-spec = tie.close (tie.spec accounts-of-requires returns balance-of-requires returns-2)

@@ -22,30 +22,36 @@ enum-told c = search needs
 
 put-ack-requires : tie.Need-put-ack-requires
 put-ack-requires c κs =
-    let fit = ack-fits (c .before .before .before .before .before .before .args .words .now) (c .before .before .before .before .before .before .args .t) (c .before .before .before .before .before .before .args .s) (passed _ (sym (c .before .before .before .ack-check .ensures) ∙ c .before .enum-told .given .1)) in
-    (c .before .before .before .before .before .before .pre, (fit .0 .range .account, fit .1))
+    let start = c .before .before .before .before .before .before in
+    let fit = ack-fits (start .args .words .now) (start .args .t) (start .args .s) (passed _ (sym (c .before .before .before .ack-check .ensures) ∙ c .before .enum-told .given .1)) in
+    (start .pre, (fit .0 .range .account, fit .1))
 
 by-tally-requires : tie.Need-by-tally-requires
-by-tally-requires c κs = (search needs, ack-fits (c .before .before .before .before .before .before .before .before .before .before .args .words .now) (c .before .before .before .before .before .before .before .before .before .before .args .t) (c .before .before .before .before .before .before .before .before .before .before .args .s) (passed _ (sym (c .before .before .before .before .before .before .before .ack-check .ensures) ∙ c .before .before .before .before .before .enum-told .given .1)) .0 .range .account)
+by-tally-requires c κs =
+    let start = c .before .before .before .before .before .before .before .before .before .before in
+    (search needs, ack-fits (start .args .words .now) (start .args .t) (start .args .s) (passed _ (sym (c .before .before .before .before .before .before .before .ack-check .ensures) ∙ c .before .before .before .before .before .enum-told .given .1)) .0 .range .account)
 
 same-length : tie.Need-same-length
 same-length c = search needs
 
 returns : tie.Need-returns
-returns c = refused (c .before .before .before .before .before .before .args .words .now) (Ack (c .before .before .before .before .before .before .args .s) (c .before .before .before .before .before .before .args .t)) _ (c .before .before .before .ack-check .ensures) _ (c .before .r .given .1)
+returns c =
+    let start = c .before .before .before .before .before .before in
+    refused (start .args .words .now) (Ack (start .args .s) (start .args .t)) _ (c .before .before .before .ack-check .ensures) _ (c .before .r .given .1)
 
 same-length-2 : tie.Need-same-length-2
 same-length-2 c = search needs
 
 returns-2 : tie.Need-returns-2
 returns-2 c =
-    let fit = ack-fits (c .before .before .before .before .before .before .before .before .before .before .before .before .before .args .words .now) (c .before .before .before .before .before .before .before .before .before .before .before .before .before .args .t) (c .before .before .before .before .before .before .before .before .before .before .before .before .before .args .s) (passed _ (sym (c .before .before .before .before .before .before .before .before .before .before .ack-check .ensures) ∙ c .before .before .before .before .before .before .before .before .enum-told .given .1)) in
+    let start = c .before .before .before .before .before .before .before .before .before .before .before .before .before in
+    let fit = ack-fits (start .args .words .now) (start .args .t) (start .args .s) (passed _ (sym (c .before .before .before .before .before .before .before .before .before .before .ack-check .ensures) ∙ c .before .before .before .before .before .before .before .before .enum-told .given .1)) in
     let account = fit .0 .range .account in
     let stored = c .before .before .before .before .before .before .put-ack .ensures .recorded (fit .0 .next) (fit .0 .range .value) in
-    let next : Next _ _ = record { number = still-next (c .before .before .before .before .before .before .before .before .before .before .before .before .before .args .words .now) _ (c .before .before .before .before .before .before .before .before .before .before .before .before .before .args .s) (c .before .before .before .before .before .before .before .before .before .before .before .before .before .args .t) account stored (fit .0 .next); value = fit .0 .range .value } in
-    let among = recorded (c .before .before .before .before .before .before .before .before .before .before .before .before .before .args .words .now) _ (c .before .before .before .before .before .before .before .before .before .before .before .before .before .args .s) (c .before .before .before .before .before .before .before .before .before .before .before .before .before .args .t) account stored (omega (arith, fit .1, acks-length (c .before .before .before .before .before .before .before .before .before .before .before .before .before .args .words .now) (c .before .before .before .before .before .before .before .before .before .before .before .before .before .args .t .account) account)) in
-    served (c .before .before .before .before .before .before .before .before .before .before .before .before .before .args .words .now) (Ack (c .before .before .before .before .before .before .before .before .before .before .before .before .before .args .s) (c .before .before .before .before .before .before .before .before .before .before .before .before .before .args .t)) _ (c .before .before .before .before .before .before .before .before .before .before .ack-check .ensures) _ _ (c .before .before .before .before .before .before .before .before .enum-told .given .1)
-    (whole (c .before .before .before .before .before .before .before .before .before .before .before .before .before .args .words .now) _ (c .before .before .before .before .before .before .before .before .before .before .before .before .before .args .s) (c .before .before .before .before .before .before .before .before .before .before .before .before .before .args .t) account stored _ _ (c .before .before .by-tally .ensures .decided next among))
+    let next : Next _ _ = record { number = still-next (start .args .words .now) _ (start .args .s) (start .args .t) account stored (fit .0 .next); value = fit .0 .range .value } in
+    let among = recorded (start .args .words .now) _ (start .args .s) (start .args .t) account stored (omega (arith, fit .1, acks-length (start .args .words .now) (start .args .t .account) account)) in
+    served (start .args .words .now) (Ack (start .args .s) (start .args .t)) _ (c .before .before .before .before .before .before .before .before .before .before .ack-check .ensures) _ _ (c .before .before .before .before .before .before .before .before .enum-told .given .1)
+    (whole (start .args .words .now) _ (start .args .s) (start .args .t) account stored _ _ (c .before .before .by-tally .ensures .decided next among))
 
 pub record-ack-spec : {M : Type 1} → statement M
 record-ack-spec =

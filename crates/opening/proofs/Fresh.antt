@@ -5,9 +5,9 @@ use mathlib.Core.Path.{_≡_, refl, ap, sym, _∙_}
 use mathlib.Core.List.{List, map}
 use lib.ListN.{length, getD, length-map, List·getD-map}
 use Rattle.model.specs.declared.Account.{Account}
-use Rattle.model.specs.Types.{Entry, Ledger}
+use Rattle.model.specs.Types.{Ledger}
 use Rattle.model.specs.Records.{accountOf, freshEntry, withBalance, withBooked, withEntries, entryOf, withEntry}
-use Rattle.model.proofs.Access.{with-entry-same, set-entry-twice}
+use Rattle.model.proofs.Access.{with-entry-again}
 use Rattle.layout.specs.Layout.{ledgerIn}
 use Rattle.layout.proofs.Blocks.{entries-length}
 use Rattle.basics.proofs.Filling.{Filled, filled-none, filled-more, filled-all}
@@ -16,10 +16,7 @@ use Rattle.basics.proofs.Filling.{Filled, filled-none, filled-more, filled-all}
 pub fresh-put : (l mid after : Ledger) (a : Account) (b : ℕ) → a .0 < length (l .entries)
     → mid ≡ withEntry l a (withBooked (entryOf l a) 0) → after ≡ withEntry mid a (withBalance (entryOf mid a) b)
     → after ≡ withEntry l a (freshEntry b)
-fresh-put l mid after a b h booked given =
-    let e : Entry = withBooked (entryOf l a) 0 in
-    given
-    ∙ rw (booked, with-entry-same l a e h) (ap (withEntries l) (set-entry-twice (l .entries) a e (freshEntry b)))
+fresh-put l mid after a b h booked given = given ∙ rw booked (with-entry-again l a (withBooked (entryOf l a) 0) (λ e. withBalance e b) h)
 
 -- The accounts before `i` are at opening, and all but the entries is as it was.
 pub record Freshened (before : List ℕ) (balances : List ℕ) (now : List ℕ) (i : ℕ) : Type 0 where

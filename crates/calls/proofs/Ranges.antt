@@ -1,5 +1,5 @@
 -- What a slip has that its rules did not refuse: a place in the words, and what its place will tell of it.
-use Prim.Native.Nat.{ℕ, _+_, _≤_, _<_}
+use Prim.Native.Nat.{ℕ, _+_, _<_}
 use native.Mathlib.Omega.{arith}
 use mathlib.Core.Path.{_≡_}
 use mathlib.Core.Bool.{false, _||_}

@@ -12,8 +12,7 @@ use lib.Dec.{eqb}
 use lib.ListN.{length, getD, drop, set, length-append, length-set, List·getD-eq-default}
 use lib.Seq.{drop-cons, append-snoc, set-at}
 use borrow.Author.Tests.{eq-eqb, ne-eqb}
-use Rattle.model.specs.Types.{Entry}
-use Rattle.model.specs.Types.{Ledger}
+use Rattle.model.specs.Types.{Entry, Ledger}
 use Rattle.model.specs.declared.ListReply.the-variants.{Listed}
 use Rattle.model.specs.Basics.{bit, count}
 use Rattle.model.specs.Records.{accountOf, entryAt, freshEntry}

@@ -19,7 +19,7 @@ use model::Seat;
 use model::Slot;
 use model::Transfer;
 ghost use mathlib.Core.Path.{_≡_};
-ghost use Prim.Native.Nat.{_+_, _<_, _≤_};
+ghost use Prim.Native.Nat.{_+_, _<_};
 ghost use lib.ListN.{length};
 ghost use Rattle.model.specs.Records.{withEntry, withBalance, withAcked, withProposed, withBooked};
 ghost use Rattle.model.specs.Refusals.{ackFrom};

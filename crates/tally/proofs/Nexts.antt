@@ -4,7 +4,7 @@ use mathlib.Core.Path.{_≡_, ap, _∙_}
 use mathlib.Core.Bool.{true}
 use mathlib.Core.List.{List}
 use Rattle.model.specs.declared.Transfer.{Transfer}
-use Rattle.model.specs.Types.{AckSlot, Entry}
+use Rattle.model.specs.Types.{Entry}
 use Rattle.model.specs.Acks.{hasMost}
 use Rattle.layout.specs.Layout.{entryIn}
 use Rattle.tally.specs.declared.Tally.{Tally}

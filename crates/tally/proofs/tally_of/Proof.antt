@@ -8,7 +8,6 @@ use Rattle.model.specs.declared.Transfer.{Transfer}
 use Rattle.model.specs.declared.Slot.{Slot}
 use Rattle.model.specs.declared.Slot.the-variants.{Empty}
 use Rattle.model.specs.Types.{AckSlot, Entry}
-use Rattle.model.specs.Basics.{bit}
 use Rattle.model.specs.Acks.{holds, isFull}
 use Rattle.layout.specs.Layout.{entryIn}
 use Rattle.layout.proofs.Entries.{acks-length}
@@ -32,12 +31,12 @@ module _ (t : Transfer) (acks : List AckSlot) (i : ℕ) (y : Tally) (so-far : Ta
   tallied-all : length acks ≤ i → y ≡ tallyOf t acks
   tallied-all h = rw (← counts-all h (so-far .0), ← counts-all h (so-far .1))
 
--- the slip's account and the slip as one of the next number
-abbrev entryOfIt : List ℕ → Transfer → Entry
-entryOfIt ws t = entryIn ws (t .account)
+-- the entry of the account that pays
+abbrev payer : List ℕ → Transfer → Entry
+payer ws t = entryIn ws (t .account)
 
 abbrev Inv-loop : tie.InvT-loop
-Inv-loop words t y₀ i₀ y i = (i ≤ 16) × Tallied (atNext (entryOfIt words t) t) (entryOfIt words t .acks) i y
+Inv-loop words t y₀ i₀ y i = (i ≤ 16) × Tallied (atNext (payer words t) t) (payer words t .acks) i y
 
 abbrev μ-loop : tie.MeasureT-loop
 μ-loop words t y₀ i₀ y i = 16 - i

@@ -1,5 +1,5 @@
 -- Refused by its rules, or marked.
-use mathlib.Core.Path.{_≡_, refl, sym, _∙_}
+use mathlib.Core.Path.{refl, sym, _∙_}
 use Rattle.basics.proofs.ReadBack.{passed}
 use Rattle.model.specs.declared.Message.the-variants.{Circulated}
 use Rattle.model.proofs.Sums.{impossible}

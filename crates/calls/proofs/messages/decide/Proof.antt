@@ -1,5 +1,5 @@
 -- Refused by its rules, or accepted.
-use mathlib.Core.Path.{_≡_, refl, sym, _∙_}
+use mathlib.Core.Path.{sym, _∙_}
 use Rattle.basics.proofs.ReadBack.{passed}
 use Rattle.model.specs.declared.Message.the-variants.{Decision}
 use Rattle.calls.proofs.Ranges.{fits}

@@ -1,6 +1,6 @@
 -- Refused by its rules; or recorded, and the tally decides.
 use native.Mathlib.Omega.{arith}
-use mathlib.Core.Path.{_≡_, sym, _∙_}
+use mathlib.Core.Path.{sym, _∙_}
 use Rattle.model.specs.declared.Message.the-variants.{Ack}
 use Rattle.layout.proofs.Entries.{acks-length}
 use Rattle.basics.proofs.ReadBack.{passed}

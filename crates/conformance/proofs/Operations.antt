@@ -2,17 +2,18 @@
 use Prim.Native.Nat.{ℕ}
 use mathlib.Core.Path.{_≡_, refl, ap, sym, _∙_}
 use mathlib.Core.Bool.{Bool, true, false, cond}
-use mathlib.Core.List.{List, []}
-use Rattle.agreement.specs.Types.{Seat, Ledger, Opening, Message, Reply, Refusal, Refuse, Opened}
+use mathlib.Core.List.{List}
+use lib.ListN.{replicate, length-replicate}
+use Rattle.agreement.specs.Types.{Seat, Ledger, Opening, Opened}
 use Rattle.agreement.specs.Runs.{Call, message, waitingList, Event, Run, start, _▹_, sameSeat, nextLedger, ledgerAt, Conforms, Obeys}
 use Rattle.agreement.proofs.Places.{seat-is, seat-self}
 use Rattle.agreement.proofs.Demand3.{demand3}
 use Rattle.agreement.proofs.Always.{always}
 use Rattle.model.specs.Calls.{step}
 use Rattle.model.proofs.Sums.{impossible}
+use Rattle.model.proofs.Refusing.{refusal-keeps}
 use Rattle.model.proofs.Opened.{opened-fresh}
-use Rattle.model.proofs.Steps.{Happens, refused, circulated, acknowledged, accepted-by-acks, proposed, noted, accepted-by-ruling, told, happens}
-use Rattle.layout.specs.Layout.{ledgerIn}
+use Rattle.layout.specs.Layout.{bookWords, ledgerIn}
 use Rattle.ledger.proofs.Promising.{answered, opened, listed}
 use Rattle.conformance.specs.Operations.{Operated, OperatedConforms, Called, Works, WorksObeys, ObeysWorks, WorksDemand3, WorksFacts}
 use Rattle.layout.specs.Words.{wordsOf}
@@ -42,7 +43,7 @@ unfolding ledgerAt
 works-obeys o held start first =
     record {
       obeys = tt;
-      ledgers = λ s. first s .1 .opens .ledger ∙ opened-fresh o (sym (first s .1 .opens .reply)) (ledgerIn (first s .0));
+      ledgers = λ s. first s .2 .opens .ledger ∙ opened-fresh o (sym (first s .2 .opens .reply)) (ledgerIn (first s .0));
     }
 works-obeys o held (run ▹ e) (before, works, call) =
     let yet = works-obeys o before run works in
@@ -51,23 +52,13 @@ works-obeys o held (run ▹ e) (before, works, call) =
       ledgers = held-after o run e before held (yet .ledgers) call;
     }
 
--- A refusal leaves the ledger, so the words of the ledger before it are those of the one after it.
-refusal-keeps : {l next : Ledger} {m : Message} {r : Reply} (code : Refusal) → r ≡ Refuse code → Happens l m r next → next ≡ l
-refusal-keeps code is (refused q e same) = same
-refusal-keeps code is (circulated t e f same) = same
-refusal-keeps code is (acknowledged t e f fit clear same) = impossible (cc)
-refusal-keeps code is (accepted-by-acks s t e f fit new full same) = impossible (cc)
-refusal-keeps code is (proposed s t u e f fit new few must most same) = impossible (cc)
-refusal-keeps code is (noted s t e f fit new few same) = impossible (cc)
-refusal-keeps code is (accepted-by-ruling t e f fit same) = impossible (cc)
-refusal-keeps code is (told a e f same) = same
-
--- So a call that conforms is an operation on the words of its ledger, where those of both ledgers are these.
+-- A call that conforms is an operation on the words of its ledger, where those of both ledgers are these. A refusal leaves the ledger, and so
+-- its words.
 conforms-operated : (l : Ledger) (c : Call) → ledgerIn (wordsOf l) ≡ l → ledgerIn (wordsOf (nextLedger l c)) ≡ nextLedger l c
     → Conforms l c → Operated (wordsOf l) c (wordsOf (nextLedger l c))
 conforms-operated l (message m r) before after ok =
     answered (wordsOf l) m r (wordsOf (step l m .next))
-    (record { meets = rw before (ok, after); kept = λ code is. ap wordsOf (refusal-keeps code is (happens l m r ok)) })
+    (record { meets = rw before (ok, after); kept = λ code is. ap wordsOf (refusal-keeps l m code (rw is at ok)) })
 conforms-operated l (waitingList buffer r left) before after ok = (rw before (listed l buffer r left ok), refl)
 
 pub obeys-works : ObeysWorks
@@ -79,8 +70,13 @@ obeys-works o run opens obeys = (λ s. wordsOf (ledgerAt o s run), go run obeys)
 
     go : (run : Run) → Obeys o run → Works o (λ s. wordsOf (ledgerAt o s run)) run
     go start obeys = λ s.
-        let fresh = are start tt s ∙ sym (opened-fresh o (opens .not-refused) (ledgerIn [])) in
-        ([], opened [] o Opened (wordsOf (ledgerAt o s start)) (record { reply = sym (opens .not-refused); ledger = fresh; kept = λ code is. impossible (cc) }))
+        let zeros = replicate {A = ℕ} bookWords 0 in
+        let fresh = are start tt s ∙ sym (opened-fresh o (opens .not-refused) (ledgerIn zeros)) in (
+          zeros,
+          length-replicate {A = ℕ} bookWords 0,
+          opened zeros o Opened (wordsOf (ledgerAt o s start))
+              (record { reply = sym (opens .not-refused); ledger = fresh; kept = λ code is. impossible (cc) }),
+        )
     go (run ▹ e) obeys = (
       λ s. wordsOf (ledgerAt o s run),
       go run (obeys .0),

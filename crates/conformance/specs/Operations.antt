@@ -4,12 +4,13 @@ use Prim.Native.Nat.{ℕ}
 use mathlib.Core.Path.{_≡_}
 use mathlib.Core.Bool.{Bool, true, false}
 use mathlib.Core.List.{List}
+use lib.ListN.{length}
 use Rattle.agreement.specs.Types.{Seat, Opening, Opened}
 use Rattle.agreement.specs.Runs.{Opens, FewBad, Call, message, waitingList, Event, Run, start, _▹_, atHonest, sameSeat, nextLedger, ledgerAt, Conforms, Obeys}
 use Rattle.agreement.specs.Premises.{Premises}
 use Rattle.agreement.specs.Claims.{Claim}
 use Rattle.agreement.specs.Facts.{Facts}
-use Rattle.layout.specs.Layout.{ledgerIn}
+use Rattle.layout.specs.Layout.{bookWords, ledgerIn}
 use Rattle.ledger.specs.Promises.{Answered, OpenedAs, ListedAs}
 
 -- A call as an operation makes it that keeps its contract: the words that it is lent, with what it was asked and replied, and the words after it.
@@ -24,10 +25,10 @@ OperatedConforms =
     (words : List ℕ) (c : Call) (next : List ℕ)
     → Operated words c next → Conforms (ledgerIn words) c × (ledgerIn next ≡ nextLedger (ledgerIn words) c)
 
--- "each holds a book just opened from that page": what an opening left that was not refused, whatever the words were before it. It is said of
--- every seat; of one that makes no call nothing depends on what it holds.
+-- "each holds a book just opened from that page": what an opening left that was not refused, whatever a book's words were before it. It is said
+-- of every seat; of one that makes no call nothing depends on what it holds.
 abbrev pub OpenedAll : Opening → (Seat → List ℕ) → Type 0
-OpenedAll o held = (s : Seat) → (before : List ℕ) × OpenedAs before o Opened (held s)
+OpenedAll o held = (s : Seat) → (before : List ℕ) × (length before ≡ bookWords) × OpenedAs before o Opened (held s)
 
 -- "Each call gets the book that the call before it at that seat left": an operation on the words that its seat holds, which then holds
 -- the words after it. "nobody else writes to a book meanwhile": each other seat holds what it held.
@@ -48,7 +49,8 @@ pub record ObeysAndHolds (o : Opening) (held : Seat → List ℕ) (run : Run) : 
 abbrev pub WorksObeys : Type 0
 WorksObeys = (o : Opening) (held : Seat → List ℕ) (run : Run) → Works o held run → ObeysAndHolds o held run
 
--- And every run that obeys is one that operations which keep these contracts could make, on some words.
+-- And every run that obeys is one that operations which keep these contracts could make, on some words. Words are plain numbers here, also such
+-- as no 32 bits could hold.
 abbrev pub ObeysWorks : Type 0
 ObeysWorks = (o : Opening) (run : Run) → Opens o → Obeys o run → (held : Seat → List ℕ) × Works o held run
 

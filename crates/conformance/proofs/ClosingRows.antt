@@ -17,7 +17,8 @@ use Rattle.agreement.proofs.Soundness.{group}
 use Rattle.agreement.proofs.Reachable.{sound}
 use Rattle.agreement.proofs.Slated.{told-slate}
 use Rattle.agreement.proofs.Always.{always}
-use Rattle.replay.specs.Text.{Row, rowsFrom, rowOf}
+use Rattle.layout.specs.Layout.{tableFrom}
+use Rattle.replay.specs.Text.{Row, rowOf}
 use Rattle.conformance.specs.Texts.{Exchange, eventOf, runFrom, runOf, lastRows, Accounted}
 use Rattle.conformance.proofs.EntryRuns.{from-within, call-within}
 
@@ -41,7 +42,7 @@ module _ (o : Opening) (opens : Opens o) (s : Seat) where
 
 -- the rows of accounts that have entries are those of their entries
 rows-are : (l : Ledger) (left a : ℕ) → a + left ≤ length (l .entries)
-    → rowsFrom (λ b. rowOf (entryOf l (accountOf b))) left a ≡ map rowOf (take left (drop a (l .entries)))
+    → tableFrom (λ b. rowOf (entryOf l (accountOf b))) left a ≡ map rowOf (take left (drop a (l .entries)))
 rows-are l zero a fits = refl
 rows-are l (suc left) a fits =
     rw (drop-cons (l .entries) a (freshEntry 0) (omega arith))
@@ -60,7 +61,7 @@ module _ (o : Opening) (opens : Opens o) (s : Seat) (xs : List Exchange) (obeys 
 
   last-rows : lastRows o s xs ≡ map rowOf front
   last-rows =
-      ap (λ (k : ℕ). rowsFrom (λ b. rowOf (entryOf last (accountOf b))) k 0) (sound o opens s (runOf s xs) obeys .accounts-same)
+      ap (λ (k : ℕ). tableFrom (λ b. rowOf (entryOf last (accountOf b))) k 0) (sound o opens s (runOf s xs) obeys .accounts-same)
       ∙ rows-are last (o .accounts) 0 (omega (arith, all-fit))
 
   pub accounted : Accounted o s xs (lastRows o s xs)

@@ -9,11 +9,12 @@ use mathlib.Core.List.{List, [], _++_, append-assoc, append-nil}
 use lib.ListN.{length}
 use Rattle.model.specs.Types.{Ledger}
 use Rattle.model.specs.Records.{accountOf, entryOf}
+use Rattle.layout.specs.Layout.{tableFrom}
 use Rattle.text.specs.Lines.{decimal, accountLine}
 use Rattle.text.specs.Outputs.{Writes}
 use Rattle.text.proofs.Writing.{nothing, then, within}
 use Rattle.text.proofs.Decimals.{two-digits}
-use Rattle.replay.specs.Text.{Row, rowLines, rowsFrom, rowOf, closing}
+use Rattle.replay.specs.Text.{Row, rowLines, rowOf, closing}
 use Rattle.replay.specs.Promises.{closingMost}
 
 module _ (l : Ledger) (before : List ℕ) (start : ℕ) where
@@ -24,7 +25,7 @@ module _ (l : Ledger) (before : List ℕ) (start : ℕ) where
   -- the lines of the accounts below a are written
   pub record ClosedTo (a : ℕ) (after : List ℕ) (filled : ℕ) : Type 0 where
     pub lines : List ℕ
-    pub goes-on : lines ++ rowLines a (rowsFrom row (l .accounts - a) a) ≡ closing l
+    pub goes-on : lines ++ rowLines a (tableFrom row (l .accounts - a) a) ≡ closing l
     pub writes : Writes before start lines (27 * a) after filled
 
   pub closed-none : ClosedTo 0 before start
@@ -38,7 +39,7 @@ module _ (l : Ledger) (before : List ℕ) (start : ℕ) where
         let one : l .accounts - a ≡ suc (l .accounts - suc a) = omega arith in
         record {
           lines = p .lines ++ line;
-          goes-on = rw (add-one a, append-assoc (p .lines) line (rowLines (suc a) (rowsFrom row (l .accounts - suc a) (suc a)))) (rw one at (p .goes-on));
+          goes-on = rw (add-one a, append-assoc (p .lines) line (rowLines (suc a) (tableFrom row (l .accounts - suc a) (suc a)))) (rw one at (p .goes-on));
           writes = within (omega (arith, two-digits a (omega arith))) (then (p .writes) (rw (balance-is, current-is) at w));
         }
 

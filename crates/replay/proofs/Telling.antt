@@ -1,4 +1,4 @@
--- The whole text, put together: of an opened ledger's entries, of a refused opening, of a refused bundle.
+-- The whole text, put together: of the bundle's entries, of a refused opening, of a refused bundle.
 use Prim.Native.Nat.{ℕ, _-_, _≤_}
 use native.Mathlib.Omega.{arith}
 use mathlib.Core.Path.{_≡_, refl}

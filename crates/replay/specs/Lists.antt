@@ -20,7 +20,7 @@ use Rattle.replay.specs.Text.{ledgerFrom, openingPage, opened}
 abbrev pub NoList : Refusal → List ℕ → ListReply → List ℕ → Type 0
 NoList r before reply after = (reply ≡ ListRefused r) × (valuesOfList reply ≡ codeOf r ∷ []) × (after ≡ before)
 
--- the list of the ledger that the entries behind this one leave
+-- the list of the ledger that the bundle's entries leave
 abbrev pub ListedFrom : List ℕ → Ledger → List ℕ → ListReply → List ℕ → Type 0
 ListedFrom bytes l before reply after = ListedAs (ledgerFrom bytes (entryCount bytes - 1) 1 l) before reply after
 

@@ -17,6 +17,7 @@ use Rattle.model.specs.Replies.{codeOf}
 use Rattle.model.specs.Openings.{openReply}
 use Rattle.model.specs.Calls.{step, Answers}
 use Rattle.model.specs.Bundles.{pageAt, messageOf, openingOf, checkBundle}
+use Rattle.layout.specs.Layout.{tableFrom}
 use Rattle.text.specs.Lines.{refusalLine, replyLine, accountLine}
 
 -- "one line per entry from 1: entry, reply letter, and what it carries". A page with no message, which no sound bundle has behind
@@ -45,17 +46,12 @@ abbrev pub rowLines : ℕ → List Row → List ℕ
 rowLines a [] = []
 rowLines a (row ∷ rows) = accountLine a (row .balance) (row .current) ++ rowLines (suc a) rows
 
--- the rows of the `left` accounts from a on, given the row of any account
-abbrev pub rowsFrom : (ℕ → Row) → ℕ → ℕ → List Row
-rowsFrom row zero a = []
-rowsFrom row (suc left) a = row a ∷ rowsFrom row left (suc a)
-
 -- the rows of a ledger, one for each of its k accounts
 abbrev pub rowOf : Entry → Row
 rowOf e = record { balance = e .balance; current = e .current }
 
 abbrev pub rowsOf : Ledger → List Row
-rowsOf l = rowsFrom (λ a. rowOf (entryOf l (accountOf a))) (l .accounts) 0
+rowsOf l = tableFrom (λ a. rowOf (entryOf l (accountOf a))) (l .accounts) 0
 
 abbrev pub closing : Ledger → List ℕ
 closing l = rowLines 0 (rowsOf l)

@@ -138,7 +138,7 @@ pub fn replay_input(input: &[u8; INPUT_SIZE], read: usize, out: &mut [u8; TEXT_S
     replay(&bytes[..given], out)
 }
 
-// The waiting list of the book that an opened book's entries leave. The text goes nowhere.
+// The waiting list of the book that the bundle's entries leave. The text goes nowhere.
 fn list_opened(bytes: &[u8], words: &mut [u32; BOOK_WORDS], buffer: &mut [u8]) -> ListReply
     requires { ⌜ entryCount (now bytes) ≤ 1_000 ⌝ }
     ensures { λ r. ⌜ ListedFrom (now (bytes .entry)) (ledgerIn (now (words .entry))) (now (buffer .entry)) r (now (buffer .exit)) ⌝ }

@@ -21,17 +21,17 @@ pub record ToldOpening (before page : List ℕ) (r : ℕ) (after : List ℕ) : T
   pub kept : r ≢ 0 → after ≡ before
 
 -- the five words of no reply
-abbrev pub noWords : List ℕ
-noWords = replicate 5 0
+abbrev pub noReply : List ℕ
+noReply = replicate 5 0
 
 -- the five words of a reply: the letter, what the reply carries, and zeros
-abbrev pub wordsOf : Reply → List ℕ
-wordsOf r = take 5 (letterOf r ∷ valuesOf r ++ noWords)
+abbrev pub replyWords : Reply → List ℕ
+replyWords r = take 5 (letterOf r ∷ valuesOf r ++ noReply)
 
 -- what a message replies and leaves; where there is none, no reply, and every word as it was
 abbrev pub Told : Option Message → List ℕ → List ℕ → List ℕ → Type 0
-Told none before after replied = (after ≡ before) × (replied ≡ noWords)
-Told (some m) before after replied = (r : Reply) × Answered before m r after × (replied ≡ wordsOf r)
+Told none before after replied = (after ≡ before) × (replied ≡ noReply)
+Told (some m) before after replied = (r : Reply) × Answered before m r after × (replied ≡ replyWords r)
 
 -- One message, of a kind, a seat and a body as a bundle has them: the words after it, and those of the reply.
 pub record ToldCall (before : List ℕ) (kind seat : ℕ) (body after replied : List ℕ) : Type 0 where

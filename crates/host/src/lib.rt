@@ -25,7 +25,7 @@ ghost use Rattle.ledger.specs.Promises.{ListedAs};
 ghost use Rattle.replay.specs.Lists.{ListOf};
 ghost use Rattle.replay.specs.Text.{TextOf};
 ghost use Rattle.replay.specs.Promises.{Replayed};
-ghost use Rattle.host.specs.Messages.{wordsOf, ToldOpening, ToldCall};
+ghost use Rattle.host.specs.Messages.{replyWords, ToldOpening, ToldCall};
 ghost use Rattle.host.specs.Quorums.{Fewest};
 ghost use Rattle.host.specs.Waiting.{numberOf, ToldList};
 
@@ -49,8 +49,8 @@ pub extern "C" fn ledger_open(words: &mut [u32; BOOK_WORDS], page: &[u8]) -> u8
 }
 
 // The words of a reply: its letter, what it carries, and zeros.
-fn words_of(r: Reply) -> [u32; REPLY_WORDS]
-    ensures { λ ws. ⌜ ws ≡ wordsOf r ⌝ }
+fn reply_words(r: Reply) -> [u32; REPLY_WORDS]
+    ensures { λ ws. ⌜ ws ≡ replyWords r ⌝ }
 {
     let letter = letter_of(r) as u32;
     match r {
@@ -86,7 +86,7 @@ pub extern "C" fn ledger_call(
     let asked = message_from(kind, seat, body);
     match asked {
         Asked::Nothing => *reply = [0; REPLY_WORDS],
-        Asked::Asks(m) => *reply = words_of(call(words, m)),
+        Asked::Asks(m) => *reply = reply_words(call(words, m)),
     }
 }
 

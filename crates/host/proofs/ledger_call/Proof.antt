@@ -1,6 +1,6 @@
 -- What was read is the message of the page, or none; the ledger's answer to it is told in words.
 use borrow.Author.Needs.{needs}
-use mathlib.Core.Path.{_≡_, refl, sym, ap, _∙_}
+use mathlib.Core.Path.{refl, sym, ap, _∙_}
 use Rattle.pages.specs.Results.{asks}
 use Rattle.host.proofs.ledger_call.Statement.{statement}
 use Rattle.host.proofs.ledger_call.Tie as tie
@@ -17,14 +17,14 @@ enum-known-asked c = search needs
 call-requires : tie.Need-call-requires
 call-requires c κs = search needs
 
-words-of-requires : tie.Need-words-of-requires
-words-of-requires c κs = search needs
+reply-words-requires : tie.Need-reply-words-requires
+reply-words-requires c κs = search needs
 
 returns : tie.Need-returns
 returns c = record { told = rw (sym (c .before .before .before .message-from .ensures) ∙ ap asks (c .before .enum-told .given .1)) (refl, refl) }
 
 returns-2 : tie.Need-returns-2
-returns-2 c = record { told = rw (sym (c .before .before .before .before .before .before .message-from .ensures) ∙ ap asks (c .before .before .before .before .asked .given .1)) (c .before .call .result, c .before .call .ensures, c .words-of .ensures) }
+returns-2 c = record { told = rw (sym (c .before .before .before .before .before .before .message-from .ensures) ∙ ap asks (c .before .before .before .before .asked .given .1)) (c .before .call .result, c .before .call .ensures, c .reply-words .ensures) }
 
 pub ledger-call-spec : {M : Type 1} → statement M
 ledger-call-spec =
@@ -34,6 +34,6 @@ ledger-call-spec =
     enum-told
     enum-known-asked
     call-requires
-    words-of-requires
+    reply-words-requires
     returns
     returns-2)

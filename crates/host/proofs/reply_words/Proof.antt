@@ -1,8 +1,8 @@
 -- The letter is the reply's, and each arm adds what its reply carries.
 use borrow.Author.Needs.{needs}
 use mathlib.Core.Path.{refl}
-use Rattle.host.proofs.words_of.Statement.{statement}
-use Rattle.host.proofs.words_of.Tie as tie
+use Rattle.host.proofs.reply_words.Statement.{statement}
+use Rattle.host.proofs.reply_words.Tie as tie
 
 letter-of-requires : tie.Need-letter-of-requires
 letter-of-requires c κs = search needs
@@ -64,8 +64,8 @@ returns-6 c = rw (c .before .before .before .letter-of .ensures, c .before .r3 .
 returns-7 : tie.Need-returns-7
 returns-7 c = rw (c .code-of .ensures, c .before .before .before .before .letter-of .ensures, c .before .before .r4 .given .1) refl
 
-pub words-of-spec : {M : Type 1} → statement M
-words-of-spec =
+pub reply-words-spec : {M : Type 1} → statement M
+reply-words-spec =
     tie.close
     (tie.spec
     letter-of-requires

@@ -20,12 +20,11 @@ const MAX: u32 = u32::MAX;
 
 /// Opens the page over words that are 0, that are all the same, and that are anything: each time the code has to be this
 /// one. A refusal leaves every word; an opening replaces whatever the words held.
-pub fn try_opening(checks: &mut Checks, what: &str, page: &[u8], code: u8) {
+pub fn try_opening(checks: &mut Checks, dice: &mut Dice, what: &str, page: &[u8], code: u8) {
     let same = Lent {
         words: Box::new([u32::from_le_bytes([UNTOUCHED; 4]); WORDS]),
     };
-    let any = content(&mut Dice::new(u64::from(code)));
-    for before in [Lent::default(), same, any] {
+    for before in [Lent::default(), same, content(dice)] {
         checks.same(what, opened(&before, page), Ok(code));
     }
 }
@@ -208,31 +207,23 @@ fn judge(before: &Lent, message: &Message, reply: [u32; REPLY], after: &Lent) ->
         wanted(reply, &[Reply::Refused(code)])?;
         return same_words(before, after);
     }
-    let account = match *message {
-        Message::Question { account } => account,
-        Message::Ack { slip, .. } | Message::Request(slip) | Message::Slip(slip) | Message::Ruling(slip) => {
-            slip.account
-        }
-    };
-    let mut held = before.account(account.into());
+    let mut accounts: Vec<Account> = (0..32).map(|account| before.account(account)).collect();
     let replies = match *message {
-        Message::Question { .. } => vec![Reply::Balance(held.balance)],
+        Message::Question { account } => vec![Reply::Balance(accounts[usize::from(account)].balance)],
         Message::Request(_) => vec![Reply::Circulate],
-        Message::Slip(_) => {
-            held.acked = true;
+        Message::Slip(slip) => {
+            accounts[usize::from(slip.account)].acked = true;
             vec![Reply::Ack]
         }
         Message::Ack { seat, slip } => {
+            let held = &mut accounts[usize::from(slip.account)];
             held.acks[usize::from(seat)] = Some(slip);
-            tallied(before, &mut held, slip)
+            tallied(before, held, slip).unwrap_or_else(|| vec![accepted(&mut accounts, slip)])
         }
-        Message::Ruling(_) => Vec::new(),
+        Message::Ruling(slip) => vec![accepted(&mut accounts, slip)],
     };
-    if replies.is_empty() {
-        return settled(before, account, reply, after);
-    }
     wanted(reply, &replies)?;
-    stored(before, account, &held, after)
+    stored(before, &accounts, after)
 }
 
 fn wanted(reply: [u32; REPLY], replies: &[Reply]) -> Result<(), String> {
@@ -242,55 +233,65 @@ fn wanted(reply: [u32; REPLY], replies: &[Reply]) -> Result<(), String> {
     Err(format!("the reply has to be one of {replies:?}"))
 }
 
-/// The replies that an ack may get once it is recorded, none if its slip is accepted; P leaves its mark.
-fn tallied(before: &Lent, held: &mut Account, slip: Slip) -> Vec<Reply> {
+/// The replies that an ack may get once it is recorded, unless its slip is accepted; P leaves its mark.
+fn tallied(before: &Lent, held: &mut Account, slip: Slip) -> Option<Vec<Reply>> {
     let [n, f, _] = group(before).map(|number| number as usize);
     let recorded: Vec<Slip> = held.acks.iter().flatten().copied().collect();
     let acks_for = |slip: &Slip| recorded.iter().filter(|acked| *acked == slip).count();
     if 2 * acks_for(&slip) > n + 3 * f {
-        return Vec::new();
+        return None;
     }
     let conflict = recorded.iter().any(|acked| *acked != slip);
     if recorded.len() + f < n || !conflict || held.put_forward {
-        return vec![Reply::Noted];
+        return Some(vec![Reply::Noted]);
     }
     held.put_forward = true;
     let most = recorded.iter().map(acks_for).max();
     let best = recorded.iter().filter(|slip| Some(acks_for(slip)) == most);
-    best.map(|slip| Reply::PutForward { slip: *slip }).collect()
+    Some(best.map(|slip| Reply::PutForward { slip: *slip }).collect())
 }
 
-/// The account holds this now, and every word of the others is as it was.
-fn stored(before: &Lent, account: u8, held: &Account, after: &Lent) -> Result<(), String> {
-    let account = usize::from(account);
-    if after.account(account) != *held {
-        return Err(format!(
-            "account {account} is {:?} and not {held:?}",
-            after.account(account)
-        ));
+/// The slip waits at its account; then, while some waiting slip's value is at most its payer's balance, the one with the
+/// lowest account is booked.
+fn accepted(accounts: &mut [Account], slip: Slip) -> Reply {
+    accounts[usize::from(slip.account)].waiting = Some(slip);
+    let mut booked = 0;
+    while let Some(slip) = accounts.iter().find_map(bookable) {
+        book(accounts, slip);
+        booked += 1;
     }
-    let mut others = after.clone();
-    let block = account * BLOCK..(account + 1) * BLOCK;
-    others.words[block.clone()].copy_from_slice(&before.words[block]);
-    same_words(before, &others)
+    Reply::Accepted { booked }
 }
 
-/// The slip of this account was accepted: K counts the accounts that waited, this one too, and no longer do; and none
-/// is left that could be booked.
-fn settled(before: &Lent, account: u8, reply: [u32; REPLY], after: &Lent) -> Result<(), String> {
-    let mut waited = before.that_wait();
-    if !waited.contains(&account) {
-        waited.push(account);
+fn bookable(held: &Account) -> Option<Slip> {
+    held.waiting.filter(|slip| slip.value <= held.balance)
+}
+
+/// Balances are kept modulo 2^32, and a recipient of 32 or more gets nothing.
+fn book(accounts: &mut [Account], slip: Slip) {
+    let payer = &mut accounts[usize::from(slip.account)];
+    *payer = Account {
+        balance: payer.balance - slip.value,
+        current: slip.number,
+        ..Account::default()
+    };
+    if let Some(recipient) = accounts.get_mut(usize::from(slip.recipient)) {
+        recipient.balance = recipient.balance.wrapping_add(slip.value);
     }
-    let waiting = after.that_wait();
-    let booked = waited.len() - waiting.iter().filter(|account| waited.contains(account)).count();
-    wanted(reply, &[Reply::Accepted { booked: booked as u32 }])?;
-    for account in waiting {
-        let held = after.account(account.into());
-        let bookable = held.waiting.map_or(false, |slip| slip.value <= held.balance);
-        if bookable || !waited.contains(&account) {
-            return Err(format!("account {account} waits: {held:?}"));
+}
+
+/// The words hold these accounts now; every word of the accounts that stay is as it was, and so is the group.
+fn stored(before: &Lent, accounts: &[Account], after: &Lent) -> Result<(), String> {
+    let mut kept = after.clone();
+    for (account, due) in accounts.iter().enumerate() {
+        let held = after.account(account);
+        if held != *due {
+            return Err(format!("account {account} is {held:?} and not {due:?}"));
+        }
+        if *due != before.account(account) {
+            let block = account * BLOCK..(account + 1) * BLOCK;
+            kept.words[block.clone()].copy_from_slice(&before.words[block]);
         }
     }
-    Ok(())
+    same_words(before, &kept)
 }

@@ -3,6 +3,7 @@
 use crate::any_words::try_opening;
 use crate::checks::Checks;
 use crate::daybook;
+use crate::dice::Dice;
 use crate::trial;
 use std::path::{Path, PathBuf};
 
@@ -27,7 +28,7 @@ pub fn page(n: u8, f: u8, k: u8, balances: &[u32]) -> Vec<u8> {
 }
 
 /// The facts about acks, openings and sums.
-pub fn facts(checks: &mut Checks) {
+pub fn facts(checks: &mut Checks, dice: &mut Dice) {
     for (n, f, needed) in ACKS_NEEDED {
         checks.same(
             &format!("acks needed at n {n}, f {f}"),
@@ -35,8 +36,8 @@ pub fn facts(checks: &mut Checks) {
             needed,
         );
     }
-    try_opening(checks, "the opening with n 5, f 1", &page(5, 1, 2, &[10, 5]), 1);
-    try_opening(checks, "the opening with n 17, f 0", &page(17, 0, 2, &[10, 5]), 1);
+    try_opening(checks, dice, "the opening with n 5, f 1", &page(5, 1, 2, &[10, 5]), 1);
+    try_opening(checks, dice, "the opening with n 17, f 0", &page(17, 0, 2, &[10, 5]), 1);
     checks.same("the sum of bytes 1, 2", daybook::sum(&[1, 2]), 33);
     checks.same("the sum of seven bytes of 255", daybook::sum(&[255; 7]), 1_928_985_951);
     checks.same("the sum of no bytes", daybook::sum(&[]), 0);

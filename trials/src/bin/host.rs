@@ -8,6 +8,7 @@ use std::process::ExitCode;
 use trials::any_words::try_opening;
 use trials::checks::Checks;
 use trials::daybook::{acks_needed, is_enough, text_of, waiting, UNTOUCHED};
+use trials::dice::Dice;
 use trials::edges::wait_of;
 use trials::known::{self, page};
 
@@ -24,8 +25,8 @@ fn acks(checks: &mut Checks) {
     }
 }
 
-fn openings(checks: &mut Checks) {
-    let mut code = |code, what, page: &[u8]| try_opening(checks, what, page, code);
+fn openings(checks: &mut Checks, dice: &mut Dice) {
+    let mut code = |code, what, page: &[u8]| try_opening(checks, dice, what, page, code);
     let max = u32::MAX;
     let mut last = [0; 32];
     last[31] = 1 << 24;
@@ -136,12 +137,14 @@ fn main() -> ExitCode {
         }
     };
     let mut checks = Checks::default();
+    // the same in every run
+    let mut dice = Dice::new(0);
     checks.part("host: known pages");
-    known::facts(&mut checks);
+    known::facts(&mut checks, &mut dice);
     known::examples(&mut checks, &folder, None);
     checks.part("host: acks, openings");
     acks(&mut checks);
-    openings(&mut checks);
+    openings(&mut checks, &mut dice);
     checks.part("host: inputs that are too long or damaged");
     long_inputs(&mut checks, &folder);
     damaged(&mut checks, &folder);

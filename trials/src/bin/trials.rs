@@ -161,7 +161,7 @@ fn try_functions(checks: &mut Checks, seed: u64) {
         let page = openings::wild(&mut dice);
         let body = known::page(page.n, page.f, page.k, &page.balances);
         let code = Book::open(&page).err().unwrap_or(0);
-        any_words::try_opening(checks, &format!("{page:?}"), &body, code);
+        any_words::try_opening(checks, &mut dice, &format!("{page:?}"), &body, code);
     }
 }
 
@@ -175,7 +175,7 @@ fn show(checks: &mut Checks, options: &Options, index: u64) {
 
 fn run(checks: &mut Checks, options: &Options) {
     checks.part("known pages");
-    known::facts(checks);
+    known::facts(checks, &mut Dice::new(options.seed));
     known::examples(checks, &options.examples, Some(&options.program));
     checks.part("edges");
     try_edges(checks, options);

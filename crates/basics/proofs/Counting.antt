@@ -8,8 +8,8 @@ use mathlib.Core.Bool.{Bool, true, false}
 use mathlib.Core.List.{List, [], _∷_}
 use mathlib.Core.Option.{none, some}
 use lib.ListN.{length, getD, drop}
-use Rattle.model.specs.Basics.{bit, count, any, every, firstWhere}
-use Rattle.basics.proofs.Loops.{none-left, sum-left, any-left}
+use Rattle.model.specs.Basics.{bit, count, every, firstWhere}
+use Rattle.basics.proofs.Loops.{none-left, sum-left}
 
 module _ {A : Type 0} (p : A → Bool) (xs : List A) where
   -- n is the count of the elements before i that pass the test
@@ -17,23 +17,13 @@ module _ {A : Type 0} (p : A → Bool) (xs : List A) where
     pub few : n ≤ i
     pub rest : n + count p (drop i xs) ≡ count p xs
 
-  -- no element before i passes the test
-  pub record Misses (i : ℕ) : Type 0 where
-    pub rest : any p (drop i xs) ≡ any p xs
-
 module _ {A : Type 0} {p : A → Bool} {xs : List A} where
   pub counts-none : Counts p xs 0 0
   counts-none = record { few = omega arith; rest = omega arith }
 
-  pub misses-none : Misses p xs 0
-  misses-none = record { rest = refl }
-
   module _ {i : ℕ} where
     pub counts-all : {n : ℕ} → length xs ≤ i → Counts p xs i n → n ≡ count p xs
     counts-all {n} h c = omega (arith, ap (count p) (none-left xs i h))
-
-    pub misses-all : length xs ≤ i → Misses p xs i → false ≡ any p xs
-    misses-all h m = rw (none-left xs i h) at (m .rest)
 
     module _ (d : A) (h : i < length xs) where
       pub counts-more : {n : ℕ} → Counts p xs i n → Counts p xs (i + 1) (n + bit (p (getD xs i d)))
@@ -46,13 +36,6 @@ module _ {A : Type 0} {p : A → Bool} {xs : List A} where
           go : (b : Bool) → n + bit b ≤ i + 1
           go true = omega arith
           go false = omega arith
-
-      module _ {r : Bool} (test : r ≡ p (getD xs i d)) (m : Misses p xs i) where
-        pub misses-more : r ≡ false → Misses p xs (i + 1)
-        misses-more miss = record { rest = rw (any-left xs i d h p, ← test, miss) at (m .rest) }
-
-        pub misses-not : r ≡ true → true ≡ any p xs
-        misses-not hit = rw (any-left xs i d h p, ← test, hit) at (m .rest)
 
 -- a test that each element passes at its index
 pub every-at : {A : Type 0} (p : A → Bool) (xs : List A) (d : A)

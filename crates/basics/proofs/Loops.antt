@@ -3,11 +3,11 @@ use Prim.Native.Nat.{ℕ, zero, suc, _+_, _≤_, _<_}
 use native.Mathlib.Numerals.{add-one}
 use native.Mathlib.Nat.{le-of-suc-le-suc, not-suc-le-zero}
 use mathlib.Core.Path.{_≡_, refl, ap}
-use mathlib.Core.Bool.{Bool, _&&_, _||_}
+use mathlib.Core.Bool.{Bool, _||_}
 use mathlib.Core.List.{List, [], _∷_}
 use lib.ListN.{length, getD, drop}
 use lib.Seq.{drop-cons}
-use Rattle.model.specs.Basics.{sumOf, any, every}
+use Rattle.model.specs.Basics.{sumOf, any}
 
 -- an element that is there does not depend on what stands for one that is not
 pub there : {A : Type 0} (xs : List A) (i : ℕ) (d e : A) → i < length xs → getD xs i d ≡ getD xs i e
@@ -32,6 +32,3 @@ module _ {A : Type 0} (xs : List A) (i : ℕ) (d : A) (h : i < length xs) where
 
   pub any-left : (p : A → Bool) → any p (drop i xs) ≡ p (getD xs i d) || any p (drop (i + 1) xs)
   any-left p = ap (any p) (one-left xs i d h)
-
-  pub every-left : (p : A → Bool) → every p (drop i xs) ≡ p (getD xs i d) && every p (drop (i + 1) xs)
-  every-left p = ap (every p) (one-left xs i d h)

@@ -9,7 +9,7 @@ use mathlib.Core.List.{List}
 use lib.ListN.{length, set, length-set}
 use lib.Seq.{getD-set-same, getD-set-other, set-getD, set-set, set-out}
 use Rattle.model.specs.Types.{Seat, Account, Transfer, Slot, Empty, Full, AckSlot, Entry, Ledger}
-use Rattle.model.specs.Records.{accountOf, noAcks, noLedger, freshEntry, withBalance, withAcked, withAck, withProposed, withPending, withBooked, entryAt, setEntry, withEntries, entryOf, withEntry}
+use Rattle.model.specs.Records.{accountOf, noAcks, freshEntry, withBalance, withAcked, withAck, withProposed, withPending, withBooked, entryAt, setEntry, withEntries, entryOf, withEntry}
 
 -- an entry's fields, all of them
 pub record Fields (e : Entry) (balance current : ℕ) (acked : Bool) (acks : List AckSlot) (proposed : Bool) (pending : Slot) : Type 0 where
@@ -24,16 +24,10 @@ pub fields-of : (e : Entry) → Fields e (e .balance) (e .current) (e .acked) (e
 fields-of e =
     record { balance-is = refl; current-is = refl; acked-is = refl; acks-are = refl; proposed-is = refl; pending-is = refl }
 
--- the sizes of the lists that the definitions make, and the sum of a ledger with nothing in it
+-- how many acks an account just opened has places for
 pub no-acks-length : length noAcks ≡ 16
 unfolding noAcks
 no-acks-length = refl
-
-pub no-ledger-length : length (noLedger .entries) ≡ 32
-no-ledger-length = refl
-
-pub no-ledger-total : noLedger .total ≡ 0
-no-ledger-total = refl
 
 -- each setter sets what its name says, and nothing else
 pub fresh-fields : (b : ℕ) → Fields (freshEntry b) b 0 false noAcks false Empty
@@ -115,6 +109,3 @@ module _ (l : Ledger) where
   pub with-entry-again : (a : Account) (e : Entry) (change : Entry → Entry) → a .0 < length (l .entries)
       → withEntry (withEntry l a e) a (change (entryOf (withEntry l a e) a)) ≡ withEntry l a (change e)
   with-entry-again a e change h = rw (with-entry-same a e h) (ap (withEntries l) (set-entry-twice (l .entries) a e (change e)))
-
-  pub with-entry-other : (a b : Account) (e : Entry) → b .0 ≢ a .0 → entryOf (withEntry l a e) b ≡ entryOf l b
-  with-entry-other a b e h = entry-set-other (l .entries) a e b h

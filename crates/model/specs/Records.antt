@@ -1,4 +1,5 @@
--- The ledger and an account's entry: how they are made, read and changed. No other file builds one of the two records.
+-- The ledger and an account's entry: how they are made, read and changed. In the model no other file builds one of the two
+-- records; words are read as such in crate layout.
 use Prim.Native.Nat.{ℕ}
 use mathlib.Core.Bool.{true, false}
 use mathlib.Core.List.{List, map}

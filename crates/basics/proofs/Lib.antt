@@ -4,3 +4,4 @@ pub mod Loops
 pub mod Filling
 pub mod Counting
 pub mod ReadBack
+pub mod Writing

@@ -1,5 +1,6 @@
-// What the crates above share: transfers compared, places tested, quorums, document 01's codes and letters.
+// What the crates above share: transfers compared, places tested, quorums, document 01's codes and letters, bytes written into a lent buffer.
 pub mod codes;
+pub mod output;
 pub mod quorums;
 pub mod results;
 pub mod slots;

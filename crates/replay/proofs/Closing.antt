@@ -9,10 +9,10 @@ use mathlib.Core.List.{List, [], _++_, append-assoc, append-nil}
 use lib.ListN.{length}
 use Rattle.model.specs.Types.{Ledger}
 use Rattle.model.specs.Records.{accountOf, entryOf}
+use Rattle.basics.specs.Outputs.{Writes}
+use Rattle.basics.proofs.Writing.{nothing, then, within}
 use Rattle.layout.specs.Layout.{tableFrom}
 use Rattle.text.specs.Lines.{decimal, accountLine}
-use Rattle.text.specs.Outputs.{Writes}
-use Rattle.text.proofs.Writing.{nothing, then, within}
 use Rattle.text.proofs.Decimals.{two-digits}
 use Rattle.replay.specs.Text.{Row, rowLines, rowOf, closing}
 use Rattle.replay.specs.Promises.{closingMost}

@@ -12,9 +12,9 @@ use Rattle.model.specs.declared.Message.{Message}
 use Rattle.model.specs.Replies.{Meets}
 use Rattle.model.specs.Calls.{step}
 use Rattle.model.specs.Bundles.{entryCount, Page, pageAt, messageOf}
+use Rattle.basics.specs.Outputs.{Writes}
+use Rattle.basics.proofs.Writing.{nothing, then, within}
 use Rattle.text.specs.Lines.{decimal, replyLine}
-use Rattle.text.specs.Outputs.{Writes}
-use Rattle.text.proofs.Writing.{nothing, then, within}
 use Rattle.text.proofs.Decimals.{three-digits}
 use Rattle.replay.specs.Text.{EntryText, ledgerAfter, ledgerFrom, closing, LinesFrom}
 use Rattle.layout.specs.Layout.{ledgerIn}

@@ -11,9 +11,9 @@ use Rattle.model.specs.declared.OpenReply.the-variants.{Opened, OpenRefused}
 use Rattle.model.specs.declared.BundleReply.the-variants.{Sound, BundleRefused}
 use Rattle.model.specs.Bundles.{entryCount, checkBundle}
 use Rattle.model.specs.Replies.{codeOf}
+use Rattle.basics.specs.Outputs.{Writes}
+use Rattle.basics.proofs.Writing.{then, within, whole}
 use Rattle.text.specs.Lines.{refusalLine}
-use Rattle.text.specs.Outputs.{Writes}
-use Rattle.text.proofs.Writing.{then, within, whole}
 use Rattle.layout.specs.Layout.{ledgerIn}
 use Rattle.opening.specs.Promises.{Opens}
 use Rattle.replay.proofs.Sound.{fresh-words}

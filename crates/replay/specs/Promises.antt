@@ -4,9 +4,9 @@ use mathlib.Core.Path.{_≡_}
 use mathlib.Core.List.{List, _++_}
 use lib.ListN.{length, take, drop}
 use Rattle.model.specs.Bundles.{entryCount}
+use Rattle.basics.specs.Outputs.{Writes}
 use Rattle.layout.specs.Layout.{ledgerIn}
 use Rattle.bundle.specs.Promises.{longest}
-use Rattle.text.specs.Outputs.{Writes}
 use Rattle.replay.specs.Text.{ledgerFrom, closing, LinesFrom, TextOf}
 
 -- How long a text can be. The longest line of an entry is that of P: the entry in 3 digits, the letter, account and recipient in 3 digits

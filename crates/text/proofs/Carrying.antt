@@ -4,9 +4,9 @@ use native.Mathlib.Omega.{arith}
 use mathlib.Core.Path.{_≡_, refl, ap, sym}
 use mathlib.Core.List.{List, [], _∷_, _++_, append-nil, append-assoc}
 use lib.ListN.{length}
+use Rattle.basics.specs.Outputs.{Writes}
+use Rattle.basics.proofs.Writing.{bounded, instead, then, within}
 use Rattle.text.specs.Lines.{decimal, carried, lettered}
-use Rattle.text.specs.Outputs.{Writes}
-use Rattle.text.proofs.Writing.{bounded, instead, then, within}
 
 carried-append : (vs ws : List ℕ) → carried (vs ++ ws) ≡ carried vs ++ carried ws
 carried-append [] ws = refl

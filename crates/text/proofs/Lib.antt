@@ -2,4 +2,3 @@
 pub mod Carrying
 pub mod Decimals
 pub mod Facts
-pub mod Writing

@@ -1,3 +1,2 @@
--- The text's lines as lists of bytes, and what it is to write bytes into a lent buffer.
+-- The text's lines as lists of bytes.
 pub mod Lines
-pub mod Outputs

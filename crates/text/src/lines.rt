@@ -1,16 +1,16 @@
 // The lines of the text.
-use crate::output::put;
 use crate::output::put_decimal;
 use crate::output::put_value;
 use basics::codes::code_of;
 use basics::codes::letter_of;
+use basics::output::put;
 use model::Reply;
 use model::Transfer;
 ghost use Prim.Native.Nat.{_+_};
 ghost use lib.ListN.{length};
 ghost use Rattle.model.specs.Replies.{valuesOf, valuesOfTransfer};
+ghost use Rattle.basics.specs.Outputs.{Writes};
 ghost use Rattle.text.specs.Lines.{decimal, carried, refusalLine, replyLine, accountLine};
-ghost use Rattle.text.specs.Outputs.{Writes};
 
 // A transfer's account, number, value and recipient.
 fn put_transfer(out: &mut [u8], at: usize, t: Transfer) -> usize

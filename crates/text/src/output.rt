@@ -1,18 +1,8 @@
-// Bytes and numbers written into a lent buffer.
+// Numbers written into a lent buffer.
+use basics::output::put;
 ghost use mathlib.Core.List.{[], _∷_};
+ghost use Rattle.basics.specs.Outputs.{Writes};
 ghost use Rattle.text.specs.Lines.{decimal, carried};
-ghost use Rattle.text.specs.Outputs.{Writes};
-
-// One byte. Where the buffer is full nothing is written.
-pub fn put(out: &mut [u8], at: usize, b: u8) -> usize
-    ensures { λ r. ⌜ Writes (now (out .entry)) at (b ∷ []) 1 (now (out .exit)) r ⌝ }
-{
-    if at < out.len() {
-        out[at] = b;
-        return at + 1;
-    }
-    at
-}
 
 // A number in decimal: the digits of its tenth part, then its last digit. It calls itself on a lower number.
 pub fn put_decimal(out: &mut [u8], at: usize, n: u32) -> usize

@@ -3,9 +3,9 @@ use Prim.Native.Nat.{_-_}
 use native.Mathlib.Omega.{arith}
 use mathlib.Core.Path.{ap, sym, _∙_}
 use Rattle.model.specs.Bundles.{entryCount}
+use Rattle.basics.proofs.Writing as Writing
 use Rattle.layout.specs.Layout.{ledgerIn}
 use Rattle.pages.specs.Results.{asks}
-use Rattle.text.proofs.Writing as Text
 use Rattle.bundle.proofs.Reading.{took, ended}
 use Rattle.replay.proofs.Playing.{PlayedTo, played-none, entry-none, entry-some, played-more, played-all}
 use borrow.Author.Needs.{needs}
@@ -28,7 +28,7 @@ enum-told : tie.Need-enum-told Inv-loop μ-loop
 enum-told c = search needs
 
 same-length : tie.Need-same-length Inv-loop μ-loop
-same-length c = Text.same-length (c .before .before .before .loop .inv .writes)
+same-length c = Writing.same-length (c .before .before .before .loop .inv .writes)
 
 returns : tie.Need-returns Inv-loop μ-loop
 returns c = played-all _ _ _ (c .before .before .before .loop .inv) (ended _ (c .before .before .before .loop .cursor .next) (c .before .before .read-page .ensures) (c .enum-told .given .1))

@@ -1,9 +1,9 @@
 -- The loop over the accounts keeps `ClosedTo`.
 use Prim.Native.Nat.{_-_, _≤_}
 use native.Mathlib.Omega.{arith}
+use Rattle.basics.proofs.Writing as Writing
 use Rattle.layout.specs.Layout.{ledgerIn}
 use Rattle.layout.proofs.Ranges.{accounts-fit}
-use Rattle.text.proofs.Writing as Text
 use Rattle.replay.proofs.Closing.{ClosedTo, closed-none, closed-more, closed-all}
 use borrow.Author.Needs.{needs}
 use Rattle.replay.proofs.put_closing.Statement.{statement}
@@ -43,7 +43,7 @@ loop-again c =
     (omega (arith, few, below), closed-more _ _ _ (c .before .before .before .before .before .before .before .loop .inv .1) (c .before .before .before .before .balance-of .ensures) (c .before .before .before .current-of .ensures) (omega (arith, below)) few (c .before .before .put-account .ensures))
 
 same-length : tie.Need-same-length Inv-loop μ-loop
-same-length c = Text.same-length (c .before .loop .inv .1 .writes)
+same-length c = Writing.same-length (c .before .loop .inv .1 .writes)
 
 returns : tie.Need-returns Inv-loop μ-loop
 returns c = closed-all _ _ _ (c .before .loop .inv .1) (omega (arith, c .before .before .accounts-of .ensures)) (c .before .loop .inv .0)

@@ -2,8 +2,8 @@
 use native.Mathlib.Nat.{le-refl}
 use native.Mathlib.Omega.{arith}
 use mathlib.Core.List.{[], _∷_}
+use Rattle.basics.proofs.Writing.{within}
 use Rattle.text.proofs.Carrying.{carries, carry, narrow, line}
-use Rattle.text.proofs.Writing.{within}
 use borrow.Author.Needs.{needs}
 use Rattle.text.proofs.lines.put_account.Statement.{statement}
 use Rattle.text.proofs.lines.put_account.Tie as tie

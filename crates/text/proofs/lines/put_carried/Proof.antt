@@ -1,6 +1,6 @@
 -- In each arm the values compute.
 use native.Mathlib.Omega.{arith}
-use Rattle.text.proofs.Writing.{nothing, within}
+use Rattle.basics.proofs.Writing.{nothing, within}
 use borrow.Author.Needs.{needs}
 use Rattle.text.proofs.lines.put_carried.Statement.{statement}
 use Rattle.text.proofs.lines.put_carried.Tie as tie

@@ -2,8 +2,8 @@
 use native.Mathlib.Nat.{le-refl}
 use native.Mathlib.Omega.{arith}
 use Rattle.model.specs.Replies.{valuesOf}
+use Rattle.basics.proofs.Writing.{bounded, then, within}
 use Rattle.text.proofs.Carrying.{carries, line}
-use Rattle.text.proofs.Writing.{bounded, then, within}
 use borrow.Author.Needs.{needs}
 use Rattle.text.proofs.lines.put_reply.Statement.{statement}
 use Rattle.text.proofs.lines.put_reply.Tie as tie

@@ -5,12 +5,12 @@ use mathlib.Core.Path.{sym}
 use borrow.Author.Needs.{needs}
 use borrow.Fn.Kinds.{In}
 use borrow.Fn.PlainCycle.{Measures, is, falls, and}
-use Rattle.text.proofs.Writing.{bounded, instead, then, within}
+use Rattle.basics.proofs.Writing.{bounded, instead, then, within}
 use Rattle.text.proofs.Decimals.{one-digit, more-digits, ten-digits}
 use Rattle.text.proofs.output.put_decimal.Reads as put-decimal
 use Rattle.text.proofs.output.put_decimal.Kinds as put-decimal-kinds
 use Rattle.text.proofs.output.+put_decimal.Lts-put_decimal as lts
-use Rattle.text.proofs.output.put.Reads as put
+use Rattle.basics.proofs.output.put.Reads as put
 use Rattle.text.proofs.output.+put_decimal.{statement}
 use Rattle.text.proofs.output.+put_decimal.Tie.{close}
 

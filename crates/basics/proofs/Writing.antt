@@ -10,7 +10,7 @@ use lib.Dec.{ltb}
 use lib.ListN.{length, set, drop, take, length-append, length-set}
 use lib.Seq.{sets, sets-eq}
 use borrow.Author.Tests.{lt-ltb, le-ltb}
-use Rattle.text.specs.Outputs.{Output, output, withByte, withBytes, Writes}
+use Rattle.basics.specs.Outputs.{Output, output, withByte, withBytes, Writes}
 
 -- a byte, where there is room and where there is none
 pub byte-stored : (before : List ℕ) (at b : ℕ) → at < length before → Writes before at (b ∷ []) 1 (set before at b) (at + 1)

@@ -1,8 +1,8 @@
 -- The test of the source is that of the definition.
 use borrow.Author.Needs.{needs}
-use Rattle.text.proofs.output.put.Statement.{statement}
-use Rattle.text.proofs.output.put.Tie as tie
-use Rattle.text.proofs.Writing.{byte-stored, byte-refused}
+use Rattle.basics.proofs.output.put.Statement.{statement}
+use Rattle.basics.proofs.output.put.Tie as tie
+use Rattle.basics.proofs.Writing.{byte-stored, byte-refused}
 
 slice-write-out : tie.Need-slice-write-out
 slice-write-out c = search needs

@@ -5,3 +5,4 @@ pub mod Filling
 pub mod Counting
 pub mod ReadBack
 pub mod Writing
+pub mod Arrays

@@ -5,10 +5,10 @@ use native.Mathlib.Numerals.{add-one}
 use native.Mathlib.Omega.{arith}
 use mathlib.Core.Path.{_≡_, refl, ap, sym, _∙_}
 use mathlib.Core.Bool.{Bool, true, false, cond}
-use mathlib.Core.List.{List, [], _∷_, _++_}
+use mathlib.Core.List.{List, [], _∷_, _++_, append-nil, append-assoc}
 use lib.Dec.{ltb}
 use lib.ListN.{length, set, drop, take, length-append, length-set}
-use lib.Seq.{sets, sets-eq}
+use lib.Seq.{sets, sets-eq, take-append-seam}
 use borrow.Author.Tests.{lt-ltb, le-ltb}
 use Rattle.basics.specs.Outputs.{Output, output, withByte, withBytes, Writes}
 
@@ -82,3 +82,34 @@ pub whole : {before after xs : List ℕ} {r m : ℕ} → Writes before 0 xs m af
 whole {before} {after} {xs} w h =
     let e = w .written ∙ placed before xs 0 (omega arith) in
     (ap (λ o. o .buffer) e ∙ rw zero-add, ap (λ o. o .filled) e ∙ omega arith)
+
+-- What a loop that writes a whole piece by piece knows at each turn: some bytes are written, and with those that are left they are the whole.
+pub record Pieces (before : List ℕ) (at : ℕ) (all left : List ℕ) (most : ℕ) (after : List ℕ) (r : ℕ) : Type 0 where
+  pub done : List ℕ
+  pub goes-on : done ++ left ≡ all
+  pub writes : Writes before at done most after r
+
+pub pieces-none : {before all : List ℕ} {at : ℕ} → Pieces before at all all 0 before at
+pieces-none = record { done = []; goes-on = refl; writes = nothing }
+
+module _ {before all mid : List ℕ} {at most p : ℕ} where
+  pub pieces-more : {after : List ℕ} {n r : ℕ} (piece left : List ℕ) → Pieces before at all (piece ++ left) most mid p → Writes mid p piece n after r
+      → Pieces before at all left (most + n) after r
+  pieces-more piece left so-far w =
+      record {
+        done = so-far .done ++ piece;
+        goes-on = append-assoc (so-far .done) piece left ∙ so-far .goes-on;
+        writes = then (so-far .writes) w;
+      }
+
+  pub pieces-all : Pieces before at all [] most mid p → Writes before at all most mid p
+  pieces-all so-far = instead (so-far .writes) (sym (append-nil (so-far .done)) ∙ so-far .goes-on)
+
+-- what stands before the place that was replied
+pub front : {before after xs : List ℕ} {r m : ℕ} → Writes before 0 xs m after r → m ≤ length before → take r after ≡ xs
+front {before} {after} {xs} w room =
+    let filled = whole w (omega (arith, w .short)) in
+    rw (filled .0, filled .1) (take-append-seam xs (drop (length xs) before))
+
+pub front-inside : {before after xs : List ℕ} {r m : ℕ} → Writes before 0 xs m after r → m ≤ length before → r ≤ length after
+front-inside {before} {after} {xs} w room = let filled = whole w (omega (arith, w .short)) in omega (arith, w .short, filled .1, same-length w)

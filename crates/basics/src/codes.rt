@@ -26,6 +26,8 @@ pub fn code_of(r: Refusal) -> u8
         Refusal::BadEnd => 15,
         Refusal::BadSum => 16,
         Refusal::ShortBuffer => 17,
+        Refusal::TooManyMessages => 18,
+        Refusal::NoRoom => 19,
     }
 }
 

@@ -2,18 +2,18 @@
 use Prim.Native.Nat.{ℕ}
 use mathlib.Core.Path.{_≡_, refl, ap, _∙_}
 use mathlib.Core.Bool.{true, false}
-use mathlib.Core.List.{List, [], _∷_}
+use mathlib.Core.List.{List}
 use mathlib.Core.Option.{Option, none, some}
 use Rattle.model.specs.declared.BundleReply.{BundleReply}
 use Rattle.model.specs.declared.BundleReply.the-variants.{Sound, BundleRefused}
-use Rattle.model.specs.declared.Refusal.{Refusal}
 use Rattle.model.specs.declared.Refusal.the-variants.{BadHeader, BadContents, BadEnd, BadSum}
-use Rattle.model.specs.Bundles.{entryCount, badHeader, firstBadEntry, badEnd, firstBadSum, Fault, faults, firstFault, checkBundle}
+use Rattle.model.specs.Bundles.{entryCount, badHeader, firstBadEntry, badEnd, firstBadSum, faults, firstFault, checkBundle}
 use Rattle.model.specs.Replies.{valuesOfBundle}
 use Rattle.model.proofs.Sums.{impossible}
+use Rattle.model.proofs.Faults.{fault-told}
 use Rattle.bundle.specs.declared.checks.Walk.the-variants.{Wrong, EndsAt}
 use Rattle.bundle.specs.declared.checks.Search.the-variants.{At, Nowhere}
-use Rattle.bundle.specs.Promises.{faultValues, CheckedAs, walked, searchOf}
+use Rattle.bundle.specs.Promises.{CheckedAs, walked, searchOf}
 
 -- the answer of the walk over the contents
 pub walk-wrong : (o : Option ℕ) (end : ℕ) {i : ℕ} → walked o end ≡ Wrong i → o ≡ some i
@@ -33,20 +33,10 @@ pub search-nowhere : (o : Option ℕ) → searchOf o ≡ Nowhere → o ≡ none
 search-nowhere none e = refl
 search-nowhere (some j) e = impossible (cc)
 
--- the first fault's code and entry are what the answer carries
-fault-values : (m : ℕ) (fs : List Fault) → valuesOfBundle (firstFault m fs) ≡ faultValues m fs
-fault-values m [] = refl
-fault-values m (f ∷ fs) = go (f .0) (f .1) (fault-values m fs)
-  where
-    go : (o : Option ℕ) (q : Refusal) → valuesOfBundle (firstFault m fs) ≡ faultValues m fs
-        → valuesOfBundle (firstFault m ((o, q) ∷ fs)) ≡ faultValues m ((o, q) ∷ fs)
-    go none q rest = rest
-    go (some i) q rest = refl
-
 module _ (bytes : List ℕ) where
   checked : {r : BundleReply} → r ≡ firstFault (entryCount bytes) (faults bytes) → CheckedAs bytes r
   unfolding checkBundle
-  checked h = record { meets = h; told = ap valuesOfBundle h ∙ fault-values (entryCount bytes) (faults bytes) }
+  checked h = record { meets = h; told = ap valuesOfBundle h ∙ fault-told valuesOfBundle BundleRefused (Sound (entryCount bytes)) (faults bytes) }
 
   -- one law for each outcome, in the order in which the codes are tried
   pub bad-header : badHeader bytes ≡ true → CheckedAs bytes (BundleRefused BadHeader 0)

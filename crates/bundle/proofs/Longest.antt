@@ -3,7 +3,7 @@
 use Prim.Native.Nat.{ℕ, zero, suc, _+_, _*_, _≤_, _<_}
 use native.Mathlib.Decide.{decLe}
 use native.Mathlib.Omega.{arith}
-use borrow.Author.Tests.{leb-true, ltb-false, le-ltb, ne-eqb}
+use borrow.Author.Tests.{leb-true, ltb-false, le-ltb, eqb-true, ne-eqb}
 use mathlib.Core.Path.{_≡_, refl, sym, ap, _∙_}
 use mathlib.Core.Logic.{inl, inr}
 use mathlib.Core.Bool.{Bool, true, false, not, _&&_, _||_}
@@ -17,7 +17,7 @@ use Rattle.model.specs.declared.ContentsEntry.{ContentsEntry}
 use Rattle.model.specs.declared.BundleReply.{BundleReply}
 use Rattle.model.specs.declared.BundleReply.the-variants.{Sound, BundleRefused}
 use Rattle.model.specs.Basics.{every, firstWhere}
-use Rattle.model.specs.Bundles.{number2, number4, entryCount, contentsAt, bodyLengths, bodyLength, startAt, badCount, badHeader, misplaced, wrongEntry, firstBadEntry, badEnd, firstBadSum, ofWhole, firstFault, checkBundle}
+use Rattle.model.specs.Bundles.{numberAt, entryCount, contentsAt, bodyLengths, bodyLength, startAt, badCount, badHeader, misplaced, wrongEntry, firstBadEntry, badEnd, wrongSumAt, firstBadSum, ofWhole, firstFault, checkBundle}
 use Rattle.bundle.specs.Promises.{longest, RefusedEarly, LongRefused}
 use Rattle.model.proofs.Sums.{impossible, both, neither, NotFound, first-none}
 
@@ -38,14 +38,30 @@ at-most b (x ∷ xs) (suc i) e = at-most b xs i (both (leb x b) (every (λ y. le
 pub body-any : (kind : ℕ) → bodyLength kind ≤ 131
 body-any kind = at-most 131 bodyLengths kind refl
 
+-- two numbers that do not differ
+pub no-difference : (a b : ℕ) → not (eqb a b) ≡ false → a ≡ b
+no-difference a b e = go (eqb a b) refl e
+  where
+    go : (same : Bool) → eqb a b ≡ same → not same ≡ false → a ≡ b
+    go true h still = eqb-true a b h
+    go false h still = impossible (cc)
+
+-- what an entry that is not wrong has: a kind, in its place, a seat only where there is one, and its start
+pub right-entry : (i start : ℕ) (c : ContentsEntry) → wrongEntry i start c ≡ false
+    → (c .kind ≤ 5)
+    × (misplaced i (c .kind) ≡ false)
+    × ((not (eqb (c .kind) 3) && not (eqb (c .seat) 0)) ≡ false)
+    × (c .start ≡ start)
+right-entry i start c e =
+    let seat = not (eqb (c .kind) 3) && not (eqb (c .seat) 0) in
+    let three = neither (ltb 5 (c .kind) || misplaced i (c .kind) || seat) (not (eqb (c .start) start)) e in
+    let two = neither (ltb 5 (c .kind) || misplaced i (c .kind)) seat (three .0) in
+    let one = neither (ltb 5 (c .kind)) (misplaced i (c .kind)) (two .0) in
+    (ltb-false 5 (c .kind) (one .0), one .1, two .1, no-difference (c .start) start (three .1))
+
 -- an entry after entry 0 that is not wrong has a kind from 1 to 5,
 pub kind-later : (i start : ℕ) (c : ContentsEntry) → wrongEntry (suc i) start c ≡ false → (c .kind ≤ 5) × (1 ≤ c .kind)
-kind-later i start c e =
-    let seat = not (eqb (c .kind) 3) && not (eqb (c .seat) 0) in
-    let three = neither (ltb 5 (c .kind) || misplaced (suc i) (c .kind) || seat) (not (eqb (c .start) start)) e in
-    let two = neither (ltb 5 (c .kind) || misplaced (suc i) (c .kind)) seat (three .0) in
-    let one = neither (ltb 5 (c .kind)) (misplaced (suc i) (c .kind)) (two .0) in
-    (ltb-false 5 (c .kind) (one .0), go (c .kind) (one .1))
+kind-later i start c e = let right = right-entry (suc i) start c e in (right .0, go (c .kind) (right .1))
   where
     go : (kind : ℕ) → misplaced (suc i) kind ≡ false → 1 ≤ kind
     go zero e = let wrong : true ≡ false = simp (eqb·suc-zero i) at e in impossible (cc)
@@ -124,15 +140,15 @@ most-bytes bytes m sound = go (decLe (length bytes) longest)
     go (yes few) = few
     go (no more) = let refused = long-refused bytes (omega arith) in impossible (cc (refused .2))
 
--- what is sound has no fault in its header or its contents, and the m that it says
+-- what is sound has no fault, and the m that it says
 no-fault : (n m : ℕ) (header : Bool) (entry : Option ℕ) (end : Bool) (sum : Option ℕ)
     → firstFault n ((ofWhole header, BadHeader) ∷ (entry, BadContents) ∷ (ofWhole end, BadEnd) ∷ (sum, BadSum) ∷ []) ≡ Sound m
-    → (m ≡ n) × (header ≡ false) × (entry ≡ none)
+    → (m ≡ n) × (header ≡ false) × (entry ≡ none) × (end ≡ false) × (sum ≡ none)
 no-fault n m true entry end sum e = impossible (cc)
 no-fault n m false (some i) end sum e = impossible (cc)
 no-fault n m false none true sum e = impossible (cc)
 no-fault n m false none false (some i) e = impossible (cc)
-no-fault n m false none false none e = (cc, refl, refl)
+no-fault n m false none false none e = (cc, refl, refl, refl, refl)
 
 -- it has as many entries as its header says, 1 to 1,000
 pub few-entries : (bytes : List ℕ) (m : ℕ) → checkBundle bytes ≡ Sound m → (m ≡ entryCount bytes) × (1 ≤ m) × (m ≤ 1_000)
@@ -144,32 +160,45 @@ few-entries bytes m sound =
     let few = count-right n (neither (ltb (length bytes) 2) (badCount n) (parts .0) .1) in
     (right .0, omega arith, omega arith)
 
--- and none of its entries is wrong
-pub right-entries : (bytes : List ℕ) (m : ℕ) → checkBundle bytes ≡ Sound m → NotFound (wrongAt bytes) (entryCount bytes) 0
-unfolding checkBundle
-right-entries bytes m sound =
-    let right = no-fault (entryCount bytes) m (badHeader bytes) (firstBadEntry bytes) (badEnd bytes) (firstBadSum bytes) sound in
-    first-none (wrongAt bytes) (entryCount bytes) 0 (right .2)
+module _ (bytes : List ℕ) (m : ℕ) (sound : checkBundle bytes ≡ Sound m) where
+  -- none of its entries is wrong,
+  pub right-entries : NotFound (wrongAt bytes) (entryCount bytes) 0
+  unfolding checkBundle
+  right-entries =
+      let right = no-fault (entryCount bytes) m (badHeader bytes) (firstBadEntry bytes) (badEnd bytes) (firstBadSum bytes) sound in
+      first-none (wrongAt bytes) (entryCount bytes) 0 (right .2)
+
+  -- it ends with its last body,
+  pub right-end : length bytes ≡ startAt bytes (entryCount bytes)
+  unfolding checkBundle
+  right-end =
+      let right = no-fault (entryCount bytes) m (badHeader bytes) (firstBadEntry bytes) (badEnd bytes) (firstBadSum bytes) sound in
+      no-difference (length bytes) (startAt bytes (entryCount bytes)) (right .3)
+
+  -- and none of its sums is wrong
+  pub right-sums : NotFound (wrongSumAt bytes) (entryCount bytes) 0
+  unfolding checkBundle
+  right-sums =
+      let right = no-fault (entryCount bytes) m (badHeader bytes) (firstBadEntry bytes) (badEnd bytes) (firstBadSum bytes) sound in
+      first-none (wrongSumAt bytes) (entryCount bytes) 0 (right .4)
 
 -- The first n bytes of a bundle say the same as the whole of all that stands in them.
 module _ (bytes : List ℕ) (n : ℕ) where
-  same-number2 : (at : ℕ) → at + 2 ≤ n → number2 (take n bytes) at ≡ number2 bytes at
-  same-number2 at h = rw (getD-take n bytes at 0 (omega arith), getD-take n bytes (at + 1) 0 (omega arith))
-
-  same-number4 : (at : ℕ) → at + 4 ≤ n → number4 (take n bytes) at ≡ number4 bytes at
-  same-number4 at h = rw (same-number2 at (omega arith), same-number2 (at + 2) (omega arith))
+  same-number : (width at : ℕ) → at + width ≤ n → numberAt width (take n bytes) at ≡ numberAt width bytes at
+  same-number zero at h = refl
+  same-number (suc width) at h = rw (getD-take n bytes at 0 (omega arith), same-number width (at + 1) (omega arith))
 
   same-contents : (i : ℕ) → 10 + 8 * i ≤ n → contentsAt (take n bytes) i ≡ contentsAt bytes i
   same-contents i h =
       rw (
         getD-take n bytes (2 + 8 * i) 0 (omega arith),
         getD-take n bytes (3 + 8 * i) 0 (omega arith),
-        same-number2 (4 + 8 * i) (omega arith),
-        same-number4 (6 + 8 * i) (omega arith),
+        same-number 2 (4 + 8 * i) (omega arith),
+        same-number 4 (6 + 8 * i) (omega arith),
       )
 
   same-start : (i : ℕ) → 2 + 8 * i ≤ n → startAt (take n bytes) i ≡ startAt bytes i
-  same-start zero h = rw (same-number2 0 h)
+  same-start zero h = rw (same-number 2 0 h)
   same-start (suc i) h = rw (same-start i (omega arith), getD-take n bytes (2 + 8 * i) 0 (omega arith))
 
   same-wrong : (i : ℕ) → 10 + 8 * i ≤ n → wrongAt (take n bytes) i ≡ wrongAt bytes i
@@ -177,13 +206,13 @@ module _ (bytes : List ℕ) (n : ℕ) where
 
   same-entry : 2 + 8 * entryCount bytes ≤ n → firstBadEntry (take n bytes) ≡ firstBadEntry bytes
   same-entry h =
-      rw (same-number2 0 (omega arith))
+      rw (same-number 2 0 (omega arith))
       (same-found (wrongAt (take n bytes)) (wrongAt bytes) (entryCount bytes) 0 (λ k from to. same-wrong k (omega arith)))
 
   same-long : 8_002 ≤ n
       → ofLong (badCount (entryCount (take n bytes))) (firstBadEntry (take n bytes))
       ≡ ofLong (badCount (entryCount bytes)) (firstBadEntry bytes)
-  same-long large = rw (ap badCount (same-number2 0 (omega arith))) (go (badCount (entryCount bytes)) refl)
+  same-long large = rw (ap badCount (same-number 2 0 (omega arith))) (go (badCount (entryCount bytes)) refl)
     where
       go : (b : Bool) → badCount (entryCount bytes) ≡ b → ofLong b (firstBadEntry (take n bytes)) ≡ ofLong b (firstBadEntry bytes)
       go true h = refl

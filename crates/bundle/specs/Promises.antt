@@ -3,14 +3,14 @@ use Prim.Native.Nat.{ℕ, _+_, _<_}
 use mathlib.Core.Path.{_≡_}
 use mathlib.Core.Logic.{_⊎_}
 use mathlib.Core.Bool.{cond}
-use mathlib.Core.List.{List, [], _∷_}
+use mathlib.Core.List.{List}
 use mathlib.Core.Option.{Option, none, some}
 use lib.Dec.{ltb}
 use lib.ListN.{length}
 use Rattle.model.specs.declared.Refusal.{Refusal}
 use Rattle.model.specs.declared.BundleReply.{BundleReply}
 use Rattle.model.specs.declared.BundleReply.the-variants.{BundleRefused}
-use Rattle.model.specs.Bundles.{entryCount, contentsAt, pageOf, startAt, firstBadEntry, Fault, faults, checkBundle, Reading, taken, noMore, readNext}
+use Rattle.model.specs.Bundles.{entryCount, contentsAt, pageOf, startAt, firstBadEntry, faultValues, faults, checkBundle, Reading, taken, noMore, readNext}
 use Rattle.model.specs.Replies.{codeOf, valuesOfBundle}
 use Rattle.bundle.specs.declared.Read.{Read}
 use Rattle.bundle.specs.declared.Read.the-variants.{Taken, NoMore}
@@ -18,11 +18,6 @@ use Rattle.bundle.specs.declared.checks.Walk.{Walk}
 use Rattle.bundle.specs.declared.checks.Walk.the-variants.{Wrong, EndsAt}
 use Rattle.bundle.specs.declared.checks.Search.{Search}
 use Rattle.bundle.specs.declared.checks.Search.the-variants.{At, Nowhere}
-
--- the code and the entry of the first fault that there is; with none, 0 and m
-abbrev pub faultValues : ℕ → List Fault → List ℕ
-faultValues m [] = 0 ∷ m ∷ []
-faultValues m (f ∷ fs) = elim (f .0) [ none ↦ faultValues m fs | some i ↦ codeOf (f .1) ∷ i ∷ [] ]
 
 -- The check of a bundle: the answer, and document 01's number and values of it.
 pub record CheckedAs (bytes : List ℕ) (r : BundleReply) : Type 0 where

@@ -6,14 +6,15 @@ use lib.Dec.{T}
 use lib.ListN.{take, set, replicate}
 use Rattle.model.specs.Types.{Transfer, Request, Circulated, Decision, Inquiry}
 use Rattle.model.specs.Basics.{every}
-use Rattle.model.specs.Records.{accountOf, noAcks}
+use Rattle.model.specs.Records.{accountOf, noAcks, emptyPage}
 use Rattle.model.specs.Transfers.{equal, conflict}
 use Rattle.model.specs.Openings.{openReply, openLedger}
 use Rattle.model.specs.Acks.{hasMost}
 use Rattle.model.specs.Settling.{lowestAffordable, apply, settleAtMost, settle}
 use Rattle.model.specs.Calls.{step}
 use Rattle.model.specs.Bundles.{checkBundle}
-use Rattle.model.proofs.Rows.{slip, ackBy, pageWith, A, B, C, K, N, P, R, _gives_, everyKind, Row, acksNeeded, opens, runs, proposals, lists, sums, checks, counts, shows, showsOpening, reads, rowHolds}
+use Rattle.model.specs.Writing.{written}
+use Rattle.model.proofs.Rows.{slip, ackBy, pageWith, A, B, C, K, N, P, R, _gives_, everyKind, Row, acksNeeded, opens, runs, proposals, lists, sums, checks, counts, shows, showsOpening, reads, writes, fits, rowHolds}
 
 -- slips that conflict with one another
 abbrev t : Transfer
@@ -177,7 +178,27 @@ format =
     ∷ counts 1_001 true
     ∷ []
 
+-- Document 02, request 1: the same bundles written; a page that an opening refuses, an ack of a seat that there is not, numbers of several bytes;
+-- and what the writer replies at its limits, 18 before 19.
+pub writing : List Row
+writing =
+    writes emptyPage [] onePage
+    ∷ writes emptyPage (ackBy 4 t ∷ []) sound
+    ∷ writes emptyPage (Request t ∷ Circulated t ∷ ackBy 4 t ∷ Decision t ∷ Inquiry (accountOf 1) ∷ []) allKinds
+    ∷ writes (pageWith 99 7 (16_909_060 ∷ [])) (ackBy 200 (slip 255 67_305_985 4_294_967_295 254) ∷ [])
+    ((2 ∷ 0 ∷ [])
+    ++ (0 ∷ 0 ∷ 18 ∷ 0 ∷ 123 ∷ 208 ∷ 194 ∷ 13 ∷ [])
+    ++ (3 ∷ 200 ∷ 149 ∷ 0 ∷ 29 ∷ 188 ∷ 53 ∷ 109 ∷ [])
+    ++ (99 ∷ 7 ∷ 1 ∷ 4 ∷ 3 ∷ 2 ∷ 1 ∷ [])
+    ++ replicate 124 0
+    ++ (255 ∷ 1 ∷ 2 ∷ 3 ∷ 4 ∷ 255 ∷ 255 ∷ 255 ∷ 255 ∷ 254 ∷ []))
+    ∷ fits 999 200 200 (0 ∷ 200 ∷ [])
+    ∷ fits 999 200 199 (19 ∷ 0 ∷ [])
+    ∷ fits 1_000 200 200 (18 ∷ 0 ∷ [])
+    ∷ fits 1_000 200 0 (18 ∷ 0 ∷ [])
+    ∷ []
+
 -- Every row holds of the definitions: the checker computes each.
-pub facts : T (every rowHolds marked) × T (every rowHolds further) × T (every rowHolds format)
-unfolding marked further format noAcks equal conflict hasMost openReply openLedger lowestAffordable apply settleAtMost settle step checkBundle
-facts = (tt, tt, tt)
+pub facts : T (every rowHolds marked) × T (every rowHolds further) × T (every rowHolds format) × T (every rowHolds writing)
+unfolding marked further format writing written noAcks equal conflict hasMost openReply openLedger lowestAffordable apply settleAtMost settle step checkBundle
+facts = (tt, tt, tt, tt)

@@ -12,3 +12,5 @@ pub mod Opened
 pub mod Steps
 pub mod Listing
 pub mod Witnesses
+pub mod Numbers
+pub mod Faults

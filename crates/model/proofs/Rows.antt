@@ -9,12 +9,13 @@ use Rattle.model.specs.Types.{Transfer, Slot, Empty, Full, AckSlot, Ledg
 use Rattle.model.specs.Basics.{every}
 use Rattle.model.specs.Records.{seatOf, accountOf, noLedger}
 use Rattle.model.specs.Transfers.{equal}
-use Rattle.model.specs.Replies.{letterOf, valuesOf, valuesOfTransfer, valuesOfOpen, valuesOfList, valuesOfBundle, Choice, exactly, proposes}
+use Rattle.model.specs.Replies.{letterOf, valuesOf, valuesOfTransfer, valuesOfOpen, valuesOfList, valuesOfBundle, valuesOfWrite, Choice, exactly, proposes}
 use Rattle.model.specs.Refusals.{firstRefusal, listRules}
 use Rattle.model.specs.Openings.{openReply, openLedger}
 use Rattle.model.specs.Acks.{enough, hasMost}
 use Rattle.model.specs.Calls.{step}
 use Rattle.model.specs.Bundles.{bodySum, badCount, checkBundle, pageAt, messageOf, openingOf, Reading, taken, noMore, readNext}
+use Rattle.model.specs.Writing.{written, writeFaults, writeReply}
 
 -- a slip: account, number, value, recipient
 abbrev pub slip : ℕ → ℕ → ℕ → ℕ → Transfer
@@ -86,6 +87,10 @@ pub data Row : Type 0 where
   showsOpening : List ℕ → Opening → Row
   -- a bundle, a reading's place in it; the kind of the page taken there, if any, and the place after it
   reads : List ℕ → ℕ → List ℕ → ℕ → Row
+  -- an opening page and messages, and the bundle that is written of them
+  writes : Opening → List Message → List ℕ → Row
+  -- how many messages, the lengths of their bundle and of a buffer, and the values of the writer's answer
+  fits : ℕ → ℕ → ℕ → List ℕ → Row
 
 -- two lists of numbers are equal
 abbrev pub same : List ℕ → List ℕ → Bool
@@ -159,3 +164,7 @@ rowHolds (counts m bad) = Bool·beq (badCount m) bad
 rowHolds (showsOpening body o) = same (numbersOfPage (openingOf body)) (numbersOfPage o)
 rowHolds (reads bytes place kinds next) = took (readNext bytes place) kinds next
 rowHolds (shows bytes i m) = same (numbersOf (messageOf (pageAt bytes i))) (numbersOf (some m))
+rowHolds (writes page messages bytes) = same (written page messages) bytes
+rowHolds (fits count size room said) =
+    let bundle : List ℕ = replicate size 0 in
+    same (valuesOfWrite (writeReply (writeFaults count bundle room) bundle)) said

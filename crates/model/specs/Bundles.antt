@@ -8,13 +8,19 @@ use lib.ListN.{length, getD, take, drop}
 use Rattle.model.specs.Types.{Transfer, Opening, Message, Request, Circulated, Ack, Decision, Inquiry, Refusal, BadHeader, BadContents, BadEnd, BadSum, ContentsEntry, BundleReply, Sound, BundleRefused}
 use Rattle.model.specs.Basics.{firstWhere}
 use Rattle.model.specs.Records.{seatOf, accountOf}
+use Rattle.model.specs.Replies.{codeOf}
 
--- "Numbers are little-endian": of 2 and of 4 bytes, at a place
+-- "Numbers are little-endian": of so many bytes, at a place
+abbrev pub numberAt : ℕ → List ℕ → ℕ → ℕ
+numberAt zero bytes at = 0
+numberAt (suc width) bytes at = getD bytes at 0 + 256 * numberAt width bytes (at + 1)
+
+-- of 2 and of 4 bytes
 abbrev pub number2 : List ℕ → ℕ → ℕ
-number2 bytes at = getD bytes at 0 + 256 * getD bytes (at + 1) 0
+number2 bytes at = numberAt 2 bytes at
 
 abbrev pub number4 : List ℕ → ℕ → ℕ
-number4 bytes at = number2 bytes at + 65_536 * number2 bytes (at + 2)
+number4 bytes at = numberAt 4 bytes at
 
 -- "First m in two bytes"
 abbrev pub entryCount : List ℕ → ℕ
@@ -103,10 +109,19 @@ Fault = Option ℕ × Refusal
 abbrev pub ofWhole : Bool → Option ℕ
 ofWhole b = cond b (some 0) none
 
--- the first fault that there is; with none, a sound bundle of m entries
+-- the answer that the first fault makes, if there is one; else this one
+abbrev pub unlessFault : {A : Type 0} → (Refusal → ℕ → A) → A → List Fault → A
+unlessFault refused answer [] = answer
+unlessFault refused answer (f ∷ fs) =
+    elim (f .0) [ none ↦ unlessFault refused answer fs | some i ↦ refused (f .1) i ]
+
+-- as values: the code and the entry, or 0 and a number
+abbrev pub faultValues : ℕ → List Fault → List ℕ
+faultValues n fs = unlessFault (λ r i. codeOf r ∷ i ∷ []) (0 ∷ n ∷ []) fs
+
+-- with no fault, a sound bundle of m entries
 abbrev pub firstFault : ℕ → List Fault → BundleReply
-firstFault m [] = Sound m
-firstFault m (f ∷ fs) = elim (f .0) [ none ↦ firstFault m fs | some i ↦ BundleRefused (f .1) i ]
+firstFault m fs = unlessFault BundleRefused (Sound m) fs
 
 -- "Codes 13, 14, 15, 16 are tried in that order over the whole bundle, the lowest entry first"
 abbrev pub faults : List ℕ → List Fault

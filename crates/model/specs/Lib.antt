@@ -10,3 +10,4 @@ pub mod Openings
 pub mod Settling
 pub mod Calls
 pub mod Bundles
+pub mod Writing

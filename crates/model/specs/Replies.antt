@@ -3,7 +3,7 @@ use Prim.Native.Nat.{ℕ}
 use mathlib.Core.Path.{_≡_}
 use mathlib.Core.List.{List, [], _∷_}
 use mathlib.Core.Bool.{true}
-use Rattle.model.specs.Types.{Transfer, AckSlot, Ledger, Answer, Refusal, BadGroup, BadAccounts, SumTooLarge, UnknownSeat, OutOfRange, PastNumber, FutureNumber, AlreadyAccepted, AckRepeated, AckConflicting, InsufficientFunds, AlreadyAcked, BadHeader, BadContents, BadEnd, BadSum, ShortBuffer, Reply, Circulate, Acknowledge, Accept, Propose, Note, Balance, Refuse, OpenReply, Opened, OpenRefused, ListReply, Listed, ListRefused, BundleReply, Sound, BundleRefused}
+use Rattle.model.specs.Types.{Transfer, AckSlot, Ledger, Answer, Refusal, BadGroup, BadAccounts, SumTooLarge, UnknownSeat, OutOfRange, PastNumber, FutureNumber, AlreadyAccepted, AckRepeated, AckConflicting, InsufficientFunds, AlreadyAcked, BadHeader, BadContents, BadEnd, BadSum, ShortBuffer, TooManyMessages, NoRoom, Reply, Circulate, Acknowledge, Accept, Propose, Note, Balance, Refuse, OpenReply, Opened, OpenRefused, ListReply, Listed, ListRefused, BundleReply, Sound, BundleRefused, WriteReply, Written, WriteRefused}
 use Rattle.model.specs.Acks.{hasMost}
 
 -- the refusal codes
@@ -25,6 +25,8 @@ codeOf BadContents = 14
 codeOf BadEnd = 15
 codeOf BadSum = 16
 codeOf ShortBuffer = 17
+codeOf TooManyMessages = 18
+codeOf NoRoom = 19
 
 -- the letter of a reply, in ASCII: C, A, K, P, N, B, R
 abbrev pub letterOf : Reply → ℕ
@@ -65,6 +67,11 @@ valuesOfList (ListRefused r) = codeOf r ∷ []
 abbrev pub valuesOfBundle : BundleReply → List ℕ
 valuesOfBundle (Sound m) = 0 ∷ m ∷ []
 valuesOfBundle (BundleRefused r i) = codeOf r ∷ i ∷ []
+
+-- the writer: the bundle's length, or the entry at fault
+abbrev pub valuesOfWrite : WriteReply → List ℕ
+valuesOfWrite (Written size) = 0 ∷ size ∷ []
+valuesOfWrite (WriteRefused r i) = codeOf r ∷ i ∷ []
 
 -- What a call may reply: one reply, or P with a slip that has the most of these acks.
 pub data Choice : Type 0 where

@@ -30,7 +30,7 @@ pub struct Opening {
     pub balances: [u32; 32],
 }
 
-// The refusals, in the order of their codes, 1 to 17.
+// The refusals, in the order of their codes, 1 to 19.
 pub enum Refusal {
     BadGroup,
     BadAccounts,
@@ -49,6 +49,8 @@ pub enum Refusal {
     BadEnd,
     BadSum,
     ShortBuffer,
+    TooManyMessages,
+    NoRoom,
 }
 
 // What a message asks for.
@@ -100,4 +102,10 @@ pub struct ContentsEntry {
 pub enum BundleReply {
     Sound(u16),
     BundleRefused(Refusal, u16),
+}
+
+// What the writer of bundles is answered: the bundle's length, or the refusal and the entry (0 where it is no entry's).
+pub enum WriteReply {
+    Written(u32),
+    WriteRefused(Refusal, u16),
 }

@@ -20,6 +20,7 @@ use Rattle.model.specs.Records.{freshLedger}
 use Rattle.model.specs.Openings.{openRules, openReply, openLedger}
 use Rattle.model.proofs.Sums.{impossible}
 use Rattle.model.proofs.Opened.{opened-fresh}
+use Rattle.basics.proofs.Arrays.{array-length}
 use Rattle.layout.specs.Layout.{ledgerIn}
 use Rattle.opening.specs.Promises.{Opens}
 
@@ -31,7 +32,7 @@ sum-each (x ∷ xs) (u ∷ us) h = omega (arith, h .0 .1, sum-each xs us (h .1))
 
 module _ (xs : List ℕ) (vs : List Val) (good : Is (Array (UInt w32) 32) xs vs) where
   pub balances-length : length xs ≡ 32
-  balances-length = good .1 .0 .1
+  balances-length = array-length (UInt w32 .own) 32 xs vs good
 
   pub balances-sum : sumOf (λ b. b) xs ≤ 137_438_953_440
   balances-sum = omega (arith, balances-length, sum-each xs (good .0) (good .1 .1))

@@ -1,0 +1,67 @@
+-- Numbers of so many bytes: written and read back, and read and written out, each one law over the width.
+use Prim.Native.Nat.{ℕ, zero, suc, _+_, _*_, _/_, _%_, _≤_, _<_}
+use native.Mathlib.Numerals.{add-one}
+use native.Mathlib.Omega.{arith}
+use mathlib.Core.Path.{_≡_, refl, ap, _∙_}
+use mathlib.Core.List.{List, [], _∷_, _++_}
+use lib.ListN.{length, take, drop, length-drop}
+use lib.Seq.{getD-drop}
+use Rattle.model.specs.Bundles.{numberAt}
+use Rattle.model.specs.Writing.{numberBytes, Bytes, numbersOf}
+
+-- how many bytes a number takes
+pub number-length : (width x : ℕ) → length (numberBytes width x) ≡ width
+number-length zero x = refl
+number-length (suc width) x = ap suc (number-length width _)
+
+-- bytes behind a place are bytes
+pub dropped-bytes : (bytes : List ℕ) (at : ℕ) → Bytes bytes → Bytes (drop at bytes)
+dropped-bytes bytes at small i = rw (getD-drop at bytes i 0) (small (at + i))
+
+-- a number stands where it stands without what is before it
+number-behind : (width b : ℕ) (bytes : List ℕ) (at : ℕ) → numberAt width (b ∷ bytes) (at + 1) ≡ numberAt width bytes at
+number-behind zero b bytes at = refl
+number-behind (suc width) b bytes at = rw (number-behind width b bytes (at + 1), add-one at)
+
+number-from : (width : ℕ) (bytes : List ℕ) (from at : ℕ) → numberAt width bytes (from + at) ≡ numberAt width (drop from bytes) at
+number-from zero bytes from at = refl
+number-from (suc width) bytes from at =
+    let place : from + at + 1 ≡ from + (at + 1) = omega arith in
+    rw (place, number-from width bytes from (at + 1), getD-drop from bytes at 0)
+
+number-drop : (width : ℕ) (bytes : List ℕ) (at : ℕ) → numberAt width bytes at ≡ numberAt width (drop at bytes) 0
+number-drop width bytes at = let here : at ≡ at + 0 = omega arith in ap (numberAt width bytes) here ∙ number-from width bytes at 0
+
+-- What is written is read.
+front-read : (width x : ℕ) (rest : List ℕ) → x < numbersOf width → numberAt width (numberBytes width x ++ rest) 0 ≡ x
+front-read zero x rest h = omega arith
+front-read (suc width) x rest h =
+    let tail = numberBytes width (x / 256) ++ rest in
+    omega (arith, number-behind width (x % 256) tail 0, front-read width (x / 256) rest (omega arith))
+
+pub number-read : (width x at : ℕ) (bytes rest : List ℕ) → x < numbersOf width → drop at bytes ≡ numberBytes width x ++ rest
+    → numberAt width bytes at ≡ x
+number-read width x at bytes rest h e = number-drop width bytes at ∙ rw e (front-read width x rest h)
+
+-- What is read is written.
+front-written : (width : ℕ) (bytes : List ℕ) → Bytes bytes → width ≤ length bytes
+    → numberBytes width (numberAt width bytes 0) ≡ take width bytes
+front-written zero bytes small h = refl
+front-written (suc width) [] small h = absurd (omega arith)
+front-written (suc width) (b ∷ bytes) small h =
+    let behind = number-behind width b bytes 0 in
+    let first : (b + 256 * numberAt width (b ∷ bytes) 1) % 256 ≡ b = omega (arith, small 0) in
+    let others : (b + 256 * numberAt width (b ∷ bytes) 1) / 256 ≡ numberAt width bytes 0 = omega (arith, small 0) in
+    rw (first, others, front-written width bytes (λ i. small (suc i)) (omega arith))
+
+pub number-written : (width : ℕ) (bytes : List ℕ) (at : ℕ) → Bytes bytes → at + width ≤ length bytes
+    → numberBytes width (numberAt width bytes at) ≡ take width (drop at bytes)
+number-written width bytes at small h =
+    let left = length-drop at bytes in
+    rw (number-drop width bytes at) (front-written width (drop at bytes) (dropped-bytes bytes at small) (omega arith))
+
+-- The bytes of a number are below 256.
+pub number-bytes : (width x : ℕ) → Bytes (numberBytes width x)
+number-bytes zero x i = omega arith
+number-bytes (suc width) x zero = omega arith
+number-bytes (suc width) x (suc i) = number-bytes width (x / 256) i

@@ -1,0 +1,7 @@
+-- The two round trips, `write-then-read` and `read-then-write`; and what the functions' proofs share. Each function's own proof stands in its folder.
+pub mod Pages
+pub mod WriteThenRead
+pub mod Turns
+pub mod Bundling
+pub mod PagesBack
+pub mod ReadThenWrite

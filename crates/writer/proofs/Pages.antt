@@ -1,0 +1,142 @@
+-- One page: what is written of it is read, how long its body is, that its entry is right wherever it stands, and that all of it is bytes.
+use Prim.Native.Nat.{ℕ, zero, suc, _+_, _*_, _%_, _≤_, _<_}
+use native.Mathlib.Omega.{arith}
+use mathlib.Core.Path.{_≡_, refl, ap, sym, _∙_}
+use mathlib.Core.Bool.{false}
+use mathlib.Core.List.{List, [], _∷_, _++_}
+use mathlib.Core.Option.{some}
+use lib.Dec.{eqb·suc-zero}
+use lib.ListN.{length, getD, drop}
+use lib.Seq.{drop-drop}
+use borrow.Author.Tests.{eq-eqb}
+use Rattle.model.specs.declared.Transfer.{Transfer}
+use Rattle.model.specs.declared.Opening.{Opening}
+use Rattle.model.specs.declared.Message.{Message}
+use Rattle.model.specs.declared.Message.the-variants.{Request, Circulated, Ack, Decision, Inquiry}
+use Rattle.model.specs.Bundles.{bodyLength, sumFrom, bodySum, Page, wrongEntry, balancesFrom, openingOf, transferOf, messageOf}
+use Rattle.model.specs.Writing.{numberBytes, Bytes, balanceBytes, openingPage, transferBytes, messagePage}
+use Rattle.model.proofs.Numbers.{number-length, number-read, number-bytes}
+use Rattle.writer.specs.RoundTrips.{TransferFits, MessageFits, OpeningFits}
+
+-- a transfer's ten bytes
+pub transfer-read : (t : Transfer) → TransferFits t → transferOf (transferBytes t) ≡ t
+transfer-read t fits =
+    let rest = numberBytes 4 (t .value) ++ (t .recipient .0 ∷ []) in
+    rw (
+      number-read 4 (t .number) 1 (transferBytes t) rest (fits .number) refl,
+      number-read 4 (t .value) 5 (transferBytes t) (t .recipient .0 ∷ []) (fits .value) refl,
+    )
+
+-- a message is read as it was written
+pub message-read : (m : Message) → MessageFits m → messageOf (messagePage m) ≡ some m
+message-read (Request t) fits = rw (transfer-read t fits)
+message-read (Circulated t) fits = rw (transfer-read t fits)
+message-read (Ack s t) fits = rw (transfer-read t (fits .1))
+message-read (Decision t) fits = rw (transfer-read t fits)
+message-read (Inquiry a) fits = refl
+
+-- so many balances of four bytes
+pub balances-length : (bs : List ℕ) → length (balanceBytes bs) ≡ 4 * length bs
+balances-length [] = refl
+balances-length (b ∷ bs) = omega (arith, balances-length bs)
+
+balances-read : (bs : List ℕ) (at : ℕ) (bytes : List ℕ) → ((i : ℕ) → getD bs i 0 < 4_294_967_296) → drop at bytes ≡ balanceBytes bs
+    → balancesFrom (length bs) at bytes ≡ bs
+balances-read [] at bytes small e = refl
+balances-read (b ∷ bs) at bytes small e =
+    let behind : drop (at + 4) bytes ≡ balanceBytes bs = sym (drop-drop 4 at bytes) ∙ ap (drop 4) e in
+    rw (
+      number-read 4 b at bytes (balanceBytes bs) (small 0) e,
+      balances-read bs (at + 4) bytes (λ i. small (suc i)) behind,
+    )
+
+-- an opening page is read as it was written
+pub opening-read : (o : Opening) → OpeningFits o → openingOf (openingPage o .body) ≡ o
+opening-read o fits =
+    let balances : balancesFrom 32 3 (openingPage o .body) ≡ o .balances =
+    ap (λ n. balancesFrom n 3 (openingPage o .body)) (sym (fits .count))
+    ∙ balances-read (o .balances) 3 (openingPage o .body) (fits .balances) refl in
+    ap (λ bs. record { seats = o .seats; faults = o .faults; accounts = o .accounts; balances = bs }) balances
+
+-- What a page has wherever it stands in a bundle: a body of its kind's length, and an entry that is right with its start.
+pub record Right (i : ℕ) (p : Page) : Type 0 where
+  pub size : length (p .body) ≡ bodyLength (p .kind)
+  pub entry : (start sum : ℕ) → wrongEntry i start (record { kind = p .kind; seat = p .seat; start = start; sum = sum }) ≡ false
+
+pub opening-right : (o : Opening) → length (o .balances) ≡ 32 → Right 0 (openingPage o)
+opening-right o count =
+    record { size = omega (arith, balances-length (o .balances)); entry = λ start sum. rw (eq-eqb start start refl) }
+
+pub message-right : (m : Message) (i : ℕ) → Right (suc i) (messagePage m)
+message-right (Request t) i = record { size = refl; entry = λ start sum. rw (eqb·suc-zero i, eq-eqb start start refl) }
+message-right (Circulated t) i = record { size = refl; entry = λ start sum. rw (eqb·suc-zero i, eq-eqb start start refl) }
+message-right (Ack s t) i = record { size = refl; entry = λ start sum. rw (eqb·suc-zero i, eq-eqb start start refl) }
+message-right (Decision t) i = record { size = refl; entry = λ start sum. rw (eqb·suc-zero i, eq-eqb start start refl) }
+message-right (Inquiry a) i = record { size = refl; entry = λ start sum. rw (eqb·suc-zero i, eq-eqb start start refl) }
+
+-- a message's body has at most ten bytes
+pub message-short : (m : Message) → length (messagePage m .body) ≤ 10
+message-short (Request t) = omega arith
+message-short (Circulated t) = omega arith
+message-short (Ack s t) = omega arith
+message-short (Decision t) = omega arith
+message-short (Inquiry a) = omega arith
+
+-- the sum of a body is a number of four bytes
+sum-from : (s : ℕ) (body : List ℕ) → s < 4_294_967_296 → sumFrom s body < 4_294_967_296
+sum-from s [] h = h
+sum-from s (b ∷ body) h = sum-from ((31 * s + b) % 4_294_967_296) body (omega arith)
+
+pub sum-below : (body : List ℕ) → bodySum body < 4_294_967_296
+sum-below body = sum-from 0 body (omega arith)
+
+-- bytes before bytes
+pub no-bytes : Bytes []
+no-bytes i = omega arith
+
+pub one-byte : (b : ℕ) → b < 256 → (bytes : List ℕ) → Bytes bytes → Bytes (b ∷ bytes)
+one-byte b small bytes behind zero = small
+one-byte b small bytes behind (suc i) = behind i
+
+pub more-bytes : (xs ys : List ℕ) → Bytes xs → Bytes ys → Bytes (xs ++ ys)
+more-bytes [] ys small behind = behind
+more-bytes (x ∷ xs) ys small behind = one-byte x (small 0) (xs ++ ys) (more-bytes xs ys (λ i. small (suc i)) behind)
+
+-- What of a page is written is bytes.
+pub record PageBytes (p : Page) : Type 0 where
+  pub kind : p .kind < 256
+  pub seat : p .seat < 256
+  pub body : Bytes (p .body)
+
+transfer-bytes : (t : Transfer) → TransferFits t → Bytes (transferBytes t)
+transfer-bytes t fits =
+    let recipient = t .recipient .0 ∷ [] in
+    let value = numberBytes 4 (t .value) ++ recipient in
+    let number = numberBytes 4 (t .number) ++ value in
+    one-byte (t .account .0) (fits .account) number
+    (more-bytes (numberBytes 4 (t .number)) value (number-bytes 4 (t .number))
+    (more-bytes (numberBytes 4 (t .value)) recipient (number-bytes 4 (t .value))
+    (one-byte (t .recipient .0) (fits .recipient) [] no-bytes)))
+
+pub message-bytes : (m : Message) → MessageFits m → PageBytes (messagePage m)
+message-bytes (Request t) fits = record { kind = omega arith; seat = omega arith; body = transfer-bytes t fits }
+message-bytes (Circulated t) fits = record { kind = omega arith; seat = omega arith; body = transfer-bytes t fits }
+message-bytes (Ack s t) fits = record { kind = omega arith; seat = fits .0; body = transfer-bytes t (fits .1) }
+message-bytes (Decision t) fits = record { kind = omega arith; seat = omega arith; body = transfer-bytes t fits }
+message-bytes (Inquiry a) fits = record { kind = omega arith; seat = omega arith; body = one-byte (a .0) fits [] no-bytes }
+
+balance-bytes : (bs : List ℕ) → Bytes (balanceBytes bs)
+balance-bytes [] = no-bytes
+balance-bytes (b ∷ bs) = more-bytes (numberBytes 4 b) (balanceBytes bs) (number-bytes 4 b) (balance-bytes bs)
+
+pub opening-bytes : (o : Opening) → OpeningFits o → PageBytes (openingPage o)
+opening-bytes o fits =
+    let balances = balanceBytes (o .balances) in
+    record {
+      kind = omega arith;
+      seat = omega arith;
+      body =
+          one-byte (o .seats) (fits .seats) (o .faults ∷ o .accounts ∷ balances)
+          (one-byte (o .faults) (fits .faults) (o .accounts ∷ balances)
+          (one-byte (o .accounts) (fits .accounts) balances (balance-bytes (o .balances))));
+    }

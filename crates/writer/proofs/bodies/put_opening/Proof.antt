@@ -1,0 +1,33 @@
+-- n, f, k, then the balances.
+use Rattle.basics.proofs.Writing.{then}
+use borrow.Author.Needs.{needs}
+use Rattle.writer.proofs.bodies.put_opening.Statement.{statement}
+use Rattle.writer.proofs.bodies.put_opening.Tie as tie
+
+put-requires : tie.Need-put-requires
+put-requires c κs = search needs
+
+put-requires-2 : tie.Need-put-requires-2
+put-requires-2 c κs = search needs
+
+put-requires-3 : tie.Need-put-requires-3
+put-requires-3 c κs = search needs
+
+put-balances-requires : tie.Need-put-balances-requires
+put-balances-requires c κs = search needs
+
+same-length : tie.Need-same-length
+same-length c = search needs
+
+returns : tie.Need-returns
+returns c =
+    let balances = c .before .before in
+    let accounts = balances .before .before .before .before in
+    let faults = accounts .before .before .before .before in
+    let seats = faults .before .before .before .before in
+    then (seats .put .ensures) (then (faults .put2 .ensures) (then (accounts .put3 .ensures) (balances .put-balances .ensures)))
+
+pub put-opening-spec : {M : Type 1} → statement M
+put-opening-spec =
+    tie.close
+    (tie.spec put-requires put-requires-2 put-requires-3 put-balances-requires same-length returns)

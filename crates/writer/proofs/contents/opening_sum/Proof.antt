@@ -1,0 +1,38 @@
+-- The array is long enough for the body, which stands in its front.
+use native.Mathlib.Omega.{arith}
+use mathlib.Core.Path.{ap, sym, _∙_}
+use lib.Seq.{length-take-le}
+use Rattle.model.specs.Bundles.{bodySum}
+use Rattle.basics.proofs.Writing.{front, front-inside}
+use borrow.Author.Needs.{needs}
+use Rattle.writer.proofs.contents.opening_sum.Statement.{statement}
+use Rattle.writer.proofs.contents.opening_sum.Tie as tie
+
+slice-aggregate-put-opening : tie.Need-slice-aggregate-put-opening
+slice-aggregate-put-opening c = search needs
+
+put-opening-requires : tie.Need-put-opening-requires
+put-opening-requires c κs = search needs
+
+array-share-prefix-body : tie.Need-array-share-prefix-body
+array-share-prefix-body c = front-inside (c .before .put-opening .ensures) (omega arith)
+
+slice-aggregate-body-sum : tie.Need-slice-aggregate-body-sum
+slice-aggregate-body-sum c = sym (length-take-le _ _ (front-inside (c .before .before .put-opening .ensures) (omega arith)))
+
+body-sum-requires : tie.Need-body-sum-requires
+body-sum-requires c κs = search needs
+
+returns : tie.Need-returns
+returns c = c .body-sum .ensures ∙ ap bodySum (front (c .before .before .before .put-opening .ensures) (omega arith))
+
+pub opening-sum-spec : {M : Type 1} → statement M
+opening-sum-spec =
+    tie.close
+    (tie.spec
+    slice-aggregate-put-opening
+    put-opening-requires
+    array-share-prefix-body
+    slice-aggregate-body-sum
+    body-sum-requires
+    returns)

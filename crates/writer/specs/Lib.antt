@@ -1,0 +1,3 @@
+-- What the writer promises, and what is stated of the definition.
+pub mod Promises
+pub mod RoundTrips

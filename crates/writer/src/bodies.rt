@@ -1,0 +1,57 @@
+// The bodies of pages, written at a place of a lent buffer: of a message, and of the opening page.
+use crate::numbers::put_number4;
+use basics::output::put;
+use model::Message;
+use model::Opening;
+use model::Transfer;
+ghost use Rattle.model.specs.Writing.{balanceBytes, openingPage, transferBytes, messagePage};
+ghost use Rattle.basics.specs.Outputs.{Writes};
+
+// A transfer's ten bytes: account (1), number (4), value (4), recipient (1).
+fn put_transfer(out: &mut [u8], at: usize, t: Transfer) -> usize
+    ensures { λ r. ⌜ Writes (now (out .entry)) at (transferBytes t) 10 (now (out .exit)) r ⌝ }
+{
+    let account = t.account;
+    let recipient = t.recipient;
+    let number = put(out, at, account.0);
+    let value = put_number4(out, number, t.number);
+    let last = put_number4(out, value, t.value);
+    put(out, last, recipient.0)
+}
+
+// A message's body.
+pub fn put_message(out: &mut [u8], at: usize, m: Message) -> usize
+    ensures { λ r. ⌜ Writes (now (out .entry)) at (messagePage m .body) 10 (now (out .exit)) r ⌝ }
+{
+    match m {
+        Message::Request(t) => put_transfer(out, at, t),
+        Message::Circulated(t) => put_transfer(out, at, t),
+        Message::Ack(_, t) => put_transfer(out, at, t),
+        Message::Decision(t) => put_transfer(out, at, t),
+        Message::Inquiry(a) => put(out, at, a.0),
+    }
+}
+
+// The balances of an opening page.
+fn put_balances(out: &mut [u8], at: usize, balances: [u32; 32]) -> usize
+    ensures { λ r. ⌜ Writes (now (out .entry)) at (balanceBytes balances) 128 (now (out .exit)) r ⌝ }
+{
+    let mut place = at;
+    let mut i: usize = 0;
+    while i < 32 {
+        place = put_number4(out, place, balances[i]);
+        i += 1;
+    }
+    place
+}
+
+// The opening page's body: n, f, k, 32 balances.
+pub fn put_opening(out: &mut [u8], at: usize, page: Opening) -> usize
+    ensures { λ r. ⌜ Writes (now (out .entry)) at (openingPage page .body) 131 (now (out .exit)) r ⌝ }
+{
+    let balances = page.balances;
+    let faults = put(out, at, page.seats);
+    let accounts = put(out, faults, page.faults);
+    let first = put(out, accounts, page.accounts);
+    put_balances(out, first, balances)
+}

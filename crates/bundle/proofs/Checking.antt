@@ -12,8 +12,7 @@ use Rattle.model.specs.Replies.{valuesOfBundle}
 use Rattle.model.proofs.Sums.{impossible}
 use Rattle.model.proofs.Faults.{fault-told}
 use Rattle.bundle.specs.declared.checks.Walk.the-variants.{Wrong, EndsAt}
-use Rattle.bundle.specs.declared.checks.Search.the-variants.{At, Nowhere}
-use Rattle.bundle.specs.Promises.{CheckedAs, walked, searchOf}
+use Rattle.bundle.specs.Promises.{CheckedAs, walked}
 
 -- the answer of the walk over the contents
 pub walk-wrong : (o : Option ℕ) (end : ℕ) {i : ℕ} → walked o end ≡ Wrong i → o ≡ some i
@@ -23,15 +22,6 @@ walk-wrong (some j) end e = cc
 pub walk-ends : (o : Option ℕ) (end : ℕ) {at : ℕ} → walked o end ≡ EndsAt at → (o ≡ none) × (at ≡ end)
 walk-ends none end e = (refl, cc)
 walk-ends (some j) end e = impossible (cc)
-
--- the answer of a search among the entries
-pub search-at : (o : Option ℕ) {i : ℕ} → searchOf o ≡ At i → o ≡ some i
-search-at none e = impossible (cc)
-search-at (some j) e = cc
-
-pub search-nowhere : (o : Option ℕ) → searchOf o ≡ Nowhere → o ≡ none
-search-nowhere none e = refl
-search-nowhere (some j) e = impossible (cc)
 
 module _ (bytes : List ℕ) where
   checked : {r : BundleReply} → r ≡ firstFault (entryCount bytes) (faults bytes) → CheckedAs bytes r

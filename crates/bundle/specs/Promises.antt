@@ -16,8 +16,6 @@ use Rattle.bundle.specs.declared.Read.{Read}
 use Rattle.bundle.specs.declared.Read.the-variants.{Taken, NoMore}
 use Rattle.bundle.specs.declared.checks.Walk.{Walk}
 use Rattle.bundle.specs.declared.checks.Walk.the-variants.{Wrong, EndsAt}
-use Rattle.bundle.specs.declared.checks.Search.{Search}
-use Rattle.bundle.specs.declared.checks.Search.the-variants.{At, Nowhere}
 
 -- The check of a bundle: the answer, and document 01's number and values of it.
 pub record CheckedAs (bytes : List ℕ) (r : BundleReply) : Type 0 where
@@ -31,11 +29,6 @@ walked (some i) end = Wrong i
 
 abbrev pub walkOf : List ℕ → Walk
 walkOf bytes = walked (firstBadEntry bytes) (startAt bytes (entryCount bytes))
-
--- what a search among the entries finds
-abbrev pub searchOf : Option ℕ → Search
-searchOf none = Nowhere
-searchOf (some i) = At i
 
 -- what a reading finds: the page with its body, and the next entry
 abbrev pub readingOf : List ℕ → Read → Reading

@@ -1,5 +1,6 @@
 // The four conditions of a bundle, each over the whole of it.
 use crate::sums::body_sum;
+use basics::results::Search;
 use model::ContentsEntry;
 use pages::contents::body;
 use pages::contents::body_length;
@@ -7,18 +8,13 @@ use pages::contents::contents_at;
 use pages::contents::entry_count;
 ghost use mathlib.Core.Path.{_≡_};
 ghost use Rattle.model.specs.Bundles.{badHeader, misplaced, wrongEntry, wrongSumAt, firstBadSum};
-ghost use Rattle.bundle.specs.Promises.{walkOf, searchOf};
+ghost use Rattle.basics.specs.Results.{searchOf};
+ghost use Rattle.bundle.specs.Promises.{walkOf};
 
 // What a walk over the contents finds: the lowest entry that is wrong, or where the last body ends.
 pub enum Walk {
     Wrong(u16),
     EndsAt(u32),
-}
-
-// What a search among the entries finds.
-pub enum Search {
-    At(u16),
-    Nowhere,
 }
 
 // 13: fewer than 2 bytes, m outside 1 to 1,000, or fewer than 2 + 8m bytes.
@@ -46,7 +42,7 @@ fn is_misplaced(i: u16, kind: u8) -> bool
 }
 
 // 14: kind above 5, kind 0 misplaced, seat (0 unless the kind is 3) or start wrong.
-fn is_wrong_entry(i: u16, start: u32, c: ContentsEntry) -> bool
+pub fn is_wrong_entry(i: u16, start: u32, c: ContentsEntry) -> bool
     ensures { λ r. ⌜ r ≡ wrongEntry i start c ⌝ }
 {
     if 5 < c.kind {

@@ -1,10 +1,10 @@
 // A bundle: its check, and its reading page by page, by a cursor. What a page holds is read by the crate `pages`; a reading that holds its
 // bundle is in the crate `reader`.
-use crate::checks::Search;
 use crate::checks::Walk;
 use crate::checks::first_wrong_sum;
 use crate::checks::is_bad_header;
 use crate::checks::walk_contents;
+use basics::results::Search;
 use model::BundleReply;
 use model::ContentsEntry;
 use model::Refusal;
@@ -12,7 +12,7 @@ use pages::contents::contents_at;
 use pages::contents::entry_count;
 ghost use Rattle.bundle.specs.Promises.{CheckedAs, ReadAs};
 
-mod checks;
+pub mod checks;
 pub mod sums;
 
 // Where a reading of a bundle goes on: the entry behind the page last taken.

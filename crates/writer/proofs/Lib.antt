@@ -3,5 +3,6 @@ pub mod Pages
 pub mod WriteThenRead
 pub mod Turns
 pub mod Bundling
+pub mod Recording
 pub mod PagesBack
 pub mod ReadThenWrite

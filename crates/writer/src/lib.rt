@@ -19,9 +19,10 @@ ghost use Rattle.model.specs.Writing.{messagePage, contentsOf, bodiesOf, writte
 ghost use Rattle.basics.specs.Outputs.{Writes};
 ghost use Rattle.writer.specs.Promises.{Wrote};
 
-pub mod bodies;
-pub mod contents;
-pub mod numbers;
+mod bodies;
+mod contents;
+mod numbers;
+pub mod records;
 
 // The most messages that a bundle has, beside its opening page.
 pub const MOST_MESSAGES: usize = 999;

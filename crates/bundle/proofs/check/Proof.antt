@@ -7,7 +7,8 @@ use mathlib.Core.Bool.{false}
 use mathlib.Core.List.{List}
 use mathlib.Core.Option.{none}
 use Rattle.model.specs.Bundles.{entryCount, startAt, badHeader, firstBadEntry, badEnd}
-use Rattle.bundle.proofs.Checking.{walk-wrong, walk-ends, search-at, search-nowhere, bad-header, bad-contents, bad-end, bad-sum, sound}
+use Rattle.basics.proofs.ReadBack.{search-at, search-nowhere}
+use Rattle.bundle.proofs.Checking.{walk-wrong, walk-ends, bad-header, bad-contents, bad-end, bad-sum, sound}
 use Rattle.bundle.proofs.check.Statement.{statement}
 use Rattle.bundle.proofs.check.Tie as tie
 

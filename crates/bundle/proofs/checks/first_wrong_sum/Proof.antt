@@ -5,7 +5,7 @@ use borrow.Author.Needs.{needs}
 use mathlib.Core.Path.{ap, sym}
 use Rattle.model.specs.Bundles.{entryCount, wrongSumAt}
 use Rattle.basics.proofs.Counting.{Searched, searched-none, searched-more, searched-found, searched-all}
-use Rattle.bundle.specs.Promises.{searchOf}
+use Rattle.basics.specs.Results.{searchOf}
 use Rattle.bundle.proofs.checks.first_wrong_sum.Statement.{statement}
 use Rattle.bundle.proofs.checks.first_wrong_sum.Tie as tie
 

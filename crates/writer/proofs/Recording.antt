@@ -1,0 +1,75 @@
+-- Records: what the loop that reads them knows at each turn, and what the writer promises for each outcome.
+use Prim.Native.Nat.{ℕ, zero, suc, _+_, _*_, _-_, _/_, _%_, _≤_, _<_}
+use native.Mathlib.Nat.{sub-zero}
+use native.Mathlib.Numerals.{add-one}
+use native.Mathlib.Omega.{arith}
+use borrow.Author.Tests.{lt-ltb, le-ltb, eq-eqb, ne-eqb}
+use mathlib.Core.Path.{_≡_, refl, ap, sym, _∙_}
+use mathlib.Core.Logic.{_≢_}
+use mathlib.Core.List.{List, [], _∷_, _++_, append-nil}
+use mathlib.Core.Option.{Option, none, some}
+use lib.ListN.{length, take, set, length-set}
+use lib.Seq.{take-suc-set, append-snoc}
+use Rattle.model.specs.declared.Message.{Message}
+use Rattle.model.specs.declared.WriteReply.{WriteReply}
+use Rattle.model.specs.declared.WriteReply.the-variants.{WriteRefused}
+use Rattle.model.specs.declared.Refusal.the-variants.{BadContents, BadEnd, TooManyMessages}
+use Rattle.model.specs.Writing.{writeFaults}
+use Rattle.writer.specs.Promises.{Wrote}
+use Rattle.writer.specs.Records.{recordCount, firstWrong, badLast, messageIn, messagesFrom, recordFaults}
+use Rattle.writer.proofs.Bundling.{wrote}
+
+-- the messages of the records before the i-th are in the array, and with those of the others they are all
+pub record ReadTo (records : List ℕ) (count : ℕ) (messages : List Message) (i : ℕ) : Type 0 where
+  pub inside : i ≤ count
+  pub size : length messages ≡ 999
+  pub all : take i messages ++ messagesFrom (count - i) records i ≡ messagesFrom count records 0
+
+pub read-none : (records : List ℕ) (count : ℕ) (messages : List Message) → length messages ≡ 999 → ReadTo records count messages 0
+read-none records count messages size = record { inside = omega arith; size = size; all = rw sub-zero }
+
+module _ {records : List ℕ} {count : ℕ} {messages : List Message} {i : ℕ} (so-far : ReadTo records count messages i) where
+  pub read-more : (m : Message) → m ≡ messageIn records i → i < count → count ≤ 999 → ReadTo records count (set messages i m) (i + 1)
+  read-more m e more few =
+      let within : i < length messages = omega (arith, so-far .size) in
+      let left : count - i ≡ suc (count - suc i) = omega arith in
+      record {
+        inside = omega arith;
+        size = rw length-set (so-far .size);
+        all =
+            rw (add-one i, take-suc-set messages i m within, append-snoc (take i messages) m (messagesFrom (count - suc i) records (suc i)), e)
+            (rw left at (so-far .all));
+      }
+
+  pub read-all : count ≤ i → take count messages ≡ messagesFrom count records 0
+  read-all over =
+      let last : i ≡ count = omega (arith, so-far .inside) in
+      let left : count - i ≡ 0 = omega arith in
+      ap (λ n. take n messages) (sym last) ∙ sym (append-nil (take i messages)) ∙ (rw left at (so-far .all))
+
+-- the outcomes before the writer itself is asked, in their order
+module _ (records bundle before : List ℕ) where
+  pub records-too-many : 999 < recordCount records
+      → Wrote (recordFaults records bundle (length before)) bundle before (WriteRefused TooManyMessages 0) before
+  records-too-many over = wrote _ bundle before (rw (lt-ltb 999 (recordCount records) over)) refl
+
+  module _ (few : recordCount records ≤ 999) where
+    pub record-wrong : {i : ℕ} → firstWrong records ≡ some i
+        → Wrote (recordFaults records bundle (length before)) bundle before (WriteRefused BadContents (i + 1)) before
+    record-wrong {i} wrong = wrote _ bundle before (rw (le-ltb 999 (recordCount records) few, wrong, add-one i)) refl
+
+    module _ (right : firstWrong records ≡ none) where
+      pub last-wrong : length records % 12 ≢ 0
+          → Wrote (recordFaults records bundle (length before)) bundle before (WriteRefused BadEnd 0) before
+      last-wrong piece =
+          wrote _ bundle before (rw (le-ltb 999 (recordCount records) few, right, ne-eqb (length records % 12) 0 piece)) refl
+
+      -- then only 19 is left, as it is for the writer
+      pub records-whole : {r : WriteReply} {after : List ℕ} → length records % 12 ≡ 0
+          → Wrote (writeFaults (recordCount records) bundle (length before)) bundle before r after
+          → Wrote (recordFaults records bundle (length before)) bundle before r after
+      records-whole whole w =
+          let test = le-ltb 999 (recordCount records) few in
+          wrote _ bundle before
+          (w .meets ∙ rw (test, right, eq-eqb (length records % 12) 0 whole))
+          (w .buffer)

@@ -11,12 +11,14 @@ use ledger::open;
 use model::ListReply;
 use model::OpenReply;
 use model::Reply;
+use model::WriteReply;
 use pages::messages::Asked;
 use pages::messages::message_from;
 use pages::messages::opening_of;
 use replay::TEXT_SIZE;
 use replay::list_after;
 use replay::replay;
+use writer::records::write_records;
 ghost use mathlib.Core.Path.{_≡_};
 ghost use Rattle.model.specs.Acks.{enough};
 ghost use Rattle.model.specs.Bundles.{bodySum};
@@ -28,6 +30,7 @@ ghost use Rattle.replay.specs.Promises.{Replayed};
 ghost use Rattle.host.specs.Messages.{replyWords, ToldOpening, ToldCall};
 ghost use Rattle.host.specs.Quorums.{Fewest};
 ghost use Rattle.host.specs.Waiting.{numberOf, ToldList};
+ghost use Rattle.host.specs.Writing.{numberOfWrite, ToldWriting};
 
 // How many words a reply has: its letter, and the four values of the longest.
 pub const REPLY_WORDS: usize = 5;
@@ -148,4 +151,29 @@ pub extern "C" fn bundle_sum(body: &[u8]) -> u32
     ensures { λ r. ⌜ r ≡ bodySum (now (body .entry)) ⌝ }
 {
     body_sum(body)
+}
+
+// How many bytes an opening page has.
+pub const PAGE_SIZE: usize = 131;
+
+// A writer's reply as one number: the bundle's length, or 65,536 times the code, and the entry.
+fn number_of_write(reply: WriteReply) -> u32
+    ensures { λ r. ⌜ r ≡ numberOfWrite reply ⌝ }
+{
+    match reply {
+        WriteReply::Written(size) => size,
+        WriteReply::WriteRefused(code, entry) => 65_536 * (code_of(code) as u32) + (entry as u32),
+    }
+}
+
+// Writes the bundle of an opening page and of messages into the front of the buffer that is lent; what stands behind it stays. A message is a record of
+// 12 bytes: kind, seat, and ten bytes of a body as a bundle has it (of a question's the account is read and no more). Returns the bundle's length, which
+// is below 65,536. Where it is refused, 65,536 times the code, and the entry, and the buffer is as it was: 18 for more than 999 whole records; 14 with
+// the entry of the lowest record (the first has entry 1) that has a kind of no message, or a seat where its kind has none; 15 where the last record is
+// not whole; 19 where the buffer is shorter than the bundle.
+#[no_mangle]
+pub extern "C" fn bundle_write(page: &[u8; PAGE_SIZE], records: &[u8], out: &mut [u8]) -> u32
+    ensures { λ r. ⌜ ToldWriting (now (page .entry)) (now (records .entry)) (now (out .entry)) r (now (out .exit)) ⌝ }
+{
+    number_of_write(write_records(opening_of(page), records, out))
 }

@@ -87,6 +87,17 @@ pub fn write(page: &OpeningPage, messages: &[Message]) -> Vec<u8> {
     bytes
 }
 
+/// Writes that bundle into the front of the buffer and replies its length; 18 if there are more than 999 messages, 19 if
+/// the buffer is too short. A refusal leaves the buffer as it is, and so is left what stands behind the bundle.
+pub fn write_into(page: &OpeningPage, messages: &[Message], buffer: &mut [u8]) -> Result<usize, u8> {
+    if messages.len() >= MOST_ENTRIES {
+        return Err(18);
+    }
+    let bytes = write(page, messages);
+    buffer.get_mut(..bytes.len()).ok_or(19)?.copy_from_slice(&bytes);
+    Ok(bytes.len())
+}
+
 fn push_opening(bytes: &mut Vec<u8>, page: &OpeningPage) {
     bytes.extend([page.n, page.f, page.k]);
     for balance in &page.balances {

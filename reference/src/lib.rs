@@ -1,4 +1,5 @@
-//! The second program: what `daybook` must print, written from document 01 alone, in place and without proofs.
+//! The second program: what `daybook` must print and what the writer of bundles must write, from documents 01 and 02
+//! alone, in place and without proofs.
 
 #![forbid(unsafe_code)]
 

@@ -1,4 +1,4 @@
-//! The compiled `daybook`, called through the static library or run as a program.
+//! The compiled `daybook`, called through the static library or run as a program, and the writer of bundles.
 
 use std::io::Write;
 use std::process::{Command, Stdio};
@@ -8,12 +8,20 @@ extern "C" {
     fn daybook_text(bytes: *const u8, length: usize, text: *mut [u8; TEXT_SIZE]) -> usize;
     fn daybook_waiting(bytes: *const u8, length: usize, list: *mut u8, list_length: usize) -> u32;
     fn bundle_sum(bytes: *const u8, length: usize) -> u32;
+    fn bundle_write(page: *const [u8; PAGE], records: *const u8, length: usize, out: *mut u8, out_length: usize)
+        -> u32;
     fn ledger_acks_needed(seats: u8, faults: u8) -> u16;
     fn ledger_is_enough(seats: u8, faults: u8, acks: u8) -> bool;
 }
 
 /// The longest text that `daybook` writes.
 pub const TEXT_SIZE: usize = 36_828;
+
+/// The length of an opening page, as a bundle's body of kind 0 has it.
+pub const PAGE: usize = 131;
+
+/// What the writer replies: the bundle's length, or the code and the entry of a refusal.
+pub type Written = Result<u32, (u32, u32)>;
 
 /// What a lent buffer holds before a call, to see that what stands behind the answer is left as it was.
 pub const UNTOUCHED: u8 = 170;
@@ -63,6 +71,15 @@ pub fn waiting(bytes: &[u8], list: &mut [u8]) -> (u8, u8) {
 /// The sum of these bytes, as a contents entry has it of a body.
 pub fn sum(bytes: &[u8]) -> u32 {
     unsafe { bundle_sum(bytes.as_ptr(), bytes.len()) }
+}
+
+/// Writes the bundle with this opening page and these records into the front of `out`.
+pub fn write(page: &[u8; PAGE], records: &[u8], out: &mut [u8]) -> Written {
+    let reply = unsafe { bundle_write(page, records.as_ptr(), records.len(), out.as_mut_ptr(), out.len()) };
+    match (reply / 65_536, reply % 65_536) {
+        (0, length) => Ok(length),
+        refusal => Err(refusal),
+    }
 }
 
 /// How many equal acks accept a slip.

@@ -12,6 +12,7 @@ pub mod known;
 pub mod ledgers;
 pub mod lent;
 pub mod openings;
+pub mod records;
 pub mod tallies;
 pub mod trial;
 pub mod waiting;

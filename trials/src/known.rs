@@ -63,7 +63,7 @@ pub fn examples(checks: &mut Checks, folder: &str, program: Option<&str>) {
 }
 
 /// The files NAME.bundle of a folder, by their names; none if the folder cannot be read.
-fn bundles(folder: &Path) -> Vec<PathBuf> {
+pub fn bundles(folder: &Path) -> Vec<PathBuf> {
     let files = std::fs::read_dir(folder).into_iter().flatten().flatten();
     let paths = files.map(|file| file.path());
     let mut bundles: Vec<PathBuf> = paths

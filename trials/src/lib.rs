@@ -17,3 +17,4 @@ pub mod tallies;
 pub mod trial;
 pub mod waiting;
 pub mod wild;
+pub mod writing;

@@ -1,4 +1,5 @@
-//! How often each reply and each refusal occurred, counted from what the compiled ledger replied or `daybook` printed.
+//! How often each reply and each refusal occurred, counted from what the compiled ledger or writer replied or `daybook`
+//! printed.
 
 use crate::checks::Checks;
 use crate::waiting::Answer;
@@ -30,7 +31,7 @@ const ROWS: [&[&str]; 5] = [
 ];
 
 /// The rows of bundles alone.
-const BUNDLE_ROWS: [&str; 12] = [
+const BUNDLE_ROWS: [&str; 13] = [
     "F 1",
     "F 2",
     "F 3",
@@ -43,11 +44,30 @@ const BUNDLE_ROWS: [&str; 12] = [
     "F 16 at entry 0",
     "F 16 at a later one",
     "waiting list F",
+    WRITTEN_AGAIN,
 ];
+pub const WRITTEN_AGAIN: &str = "written out again";
 
 /// The rows of held books alone.
 pub const NO_MESSAGE: &str = "no message";
 pub const SETTLED_LATER: &str = "settled by another's";
+
+/// The rows of the writer of bundles: the opening pages, how many messages and their kinds, its replies, and each two
+/// refusals that one call meets, of which the first is due.
+const WRITER_ROWS: [&[&str]; 5] = [
+    &["page opens", "page refused"],
+    &["no message", "999 messages"],
+    &["request", "slip", "ack", "ruling", "question"],
+    &["a length", "18", "14", "15", "19"],
+    &[
+        "18 before 14",
+        "18 before 15",
+        "18 before 19",
+        "14 before 15",
+        "14 before 19",
+        "15 before 19",
+    ],
+];
 
 pub struct Tallies {
     columns: &'static [&'static str],
@@ -68,11 +88,21 @@ impl Tallies {
         Tallies::new(columns, 1, &[NO_MESSAGE, SETTLED_LATER])
     }
 
+    /// Of the writer: each row has to be met.
+    pub fn of_writing(columns: &'static [&'static str]) -> Tallies {
+        let rows = WRITER_ROWS.concat().iter().map(|row| row.to_string()).collect();
+        Tallies::of_rows(columns, columns.len(), rows)
+    }
+
     fn new(columns: &'static [&'static str], decisive: usize, more: &[&str]) -> Tallies {
         let mut rows: Vec<String> = ROWS.concat().iter().chain(more).map(|row| row.to_string()).collect();
         for (word, replies) in KINDS {
             rows.extend(replies.iter().map(|reply| format!("{word}: {reply}")));
         }
+        Tallies::of_rows(columns, decisive, rows)
+    }
+
+    fn of_rows(columns: &'static [&'static str], decisive: usize, rows: Vec<String>) -> Tallies {
         Tallies {
             columns,
             decisive,
@@ -173,7 +203,7 @@ impl Tallies {
             );
         }
         for row in self.counts.keys().filter(|row| !self.rows.contains(row)) {
-            checks.fail(&format!("not a reply of document 01: {row}"));
+            checks.fail(&format!("not a reply of the documents: {row}"));
         }
     }
 }

@@ -13,7 +13,8 @@ pub fn wild(dice: &mut Dice) -> Vec<u8> {
     bundle::write(&page, &messages)
 }
 
-fn message(dice: &mut Dice) -> Message {
+/// A message of any kind with arbitrary fields.
+pub fn message(dice: &mut Dice) -> Message {
     if dice.once_in(6) {
         return Message::Question { account: account(dice) };
     }

@@ -1,4 +1,4 @@
-//! Calls each function that the static library exports, and holds it to document 01's known answers:
+//! Calls each function that the static library exports, and holds it to the known answers of documents 01 and 02:
 //!
 //!     host DIR
 //!
@@ -11,6 +11,7 @@ use trials::daybook::{acks_needed, is_enough, text_of, waiting, UNTOUCHED};
 use trials::dice::Dice;
 use trials::edges::wait_of;
 use trials::known::{self, page};
+use trials::writing;
 
 /// The two functions on acks against each other and against document 01: twice the count exceeds n + 3f.
 fn acks(checks: &mut Checks) {
@@ -150,5 +151,13 @@ fn main() -> ExitCode {
     damaged(&mut checks, &folder);
     checks.part("host: waiting lists");
     waiting_lists(&mut checks, &folder);
+    checks.part("host: the writer of bundles");
+    writing::examples(&mut checks, &mut dice, &folder);
+    writing::known_replies(&mut checks, &mut dice);
+    writing::counts(&mut checks, &mut dice);
+    checks.part("host: records that are malformed");
+    writing::single_records(&mut checks, &mut dice);
+    writing::lowest_wrong(&mut checks, &mut dice);
+    writing::last_pieces(&mut checks, &mut dice);
     checks.finish()
 }

@@ -1,4 +1,5 @@
-//! Very many bundles through the compiled `daybook`, and books held for long in lent words, held to the second program:
+//! Very many bundles through the compiled `daybook`, books held for long in lent words, and very many lists through the
+//! writer of bundles, held to the second program:
 //!
 //!     trials --examples DIR --program PATH [--seed N] [--bundles N] [--only INDEX]
 //!
@@ -10,8 +11,9 @@ use reference::written::shown;
 use std::process::ExitCode;
 use trials::checks::Checks;
 use trials::dice::{self, Dice};
-use trials::tallies::{Tallies, CLASSES};
-use trials::{any_words, damage, daybook, edges, held, known, ledgers, openings, trial, waiting, wild};
+use trials::records::written_again;
+use trials::tallies::{Tallies, CLASSES, WRITTEN_AGAIN};
+use trials::{any_words, damage, daybook, edges, held, known, ledgers, openings, trial, waiting, wild, writing};
 
 const USAGE: &str = "trials --examples DIR --program PATH [--seed N] [--bundles N] [--only INDEX]";
 
@@ -58,7 +60,7 @@ impl Options {
 }
 
 /// The random bundle of this index: its class, a place in CLASSES, its bytes, and the dice as they are then, which
-/// decide how its waiting list is asked.
+/// decide how its waiting list is asked and what the writer's buffer holds.
 fn random(seed: u64, index: u64) -> (usize, Vec<u8>, Dice) {
     let mut dice = Dice::of(seed, index);
     let (class, bytes) = match dice.below(20) {
@@ -116,9 +118,14 @@ fn try_random(checks: &mut Checks, tallies: &mut Tallies, options: &Options, ind
             answer.map(|answer| tallies.waiting(class, answer)),
         );
     }
+    let again = written_again(&mut dice, &bytes);
+    if again == Ok(true) {
+        tallies.add(class, WRITTEN_AGAIN);
+    }
+    trial::count(checks, &name, &bytes, again.map(drop));
 }
 
-/// Each edge once, through the program as well, and its waiting list.
+/// Each edge once, through the program as well, its waiting list, and what is read of it written out again.
 fn try_edges(checks: &mut Checks, options: &Options) {
     for edge in made(checks, "the edges", edges::edges).unwrap_or_default() {
         let (text, outcome) = trial::text_tried(&edge.bytes, Some(&options.program));
@@ -131,6 +138,8 @@ fn try_edges(checks: &mut Checks, options: &Options) {
             let answer = waiting::tried(&edge.bytes, length);
             trial::count(checks, &edge.name, &edge.bytes, answer.map(drop));
         }
+        let again = written_again(&mut Dice::new(options.seed), &edge.bytes);
+        trial::count(checks, &edge.name, &edge.bytes, again.map(drop));
     }
 }
 
@@ -185,6 +194,8 @@ fn run(checks: &mut Checks, options: &Options) {
     any_words::try_messages(checks, options.seed);
     checks.part("books held for long");
     held::lives(checks, options.seed);
+    checks.part("bundles written");
+    writing::random(checks, options.seed, &options.program);
     checks.part("every byte changed");
     try_every_byte(checks);
     checks.part("random bundles");

@@ -1,5 +1,5 @@
 //! The compiled `daybook` against the second program, in one run: instructions and time per message, their ratio, and how
-//! both grow with the bundle:
+//! both grow with the bundle; and the writer of bundles against the second program's, in time:
 //!
 //!     bench --daybook PATH --reference PATH
 //!
@@ -8,10 +8,11 @@
 //! The status is 1 where the ratio of instructions is above the limit, and the last lines say where.
 
 use reference::book::{Message, OpeningPage, Slip};
-use reference::bundle::write;
+use reference::bundle::{write, LONGEST};
 use std::process::{Command, ExitCode};
 use std::time::{Duration, Instant};
-use trials::daybook::Replay;
+use trials::daybook::{self, Replay};
+use trials::records::{page_bytes, records};
 
 /// How many messages the bundles have; the last is the longest bundle.
 const SIZES: [usize; 4] = [124, 249, 499, 999];
@@ -94,6 +95,24 @@ fn refused(index: usize) -> Message {
     }
 }
 
+/// A message of each kind in turn.
+fn each_kind(index: usize) -> Message {
+    let slip = Slip {
+        account: (index % 32) as u8,
+        number: index as u32,
+        value: 1_000 + index as u32,
+        recipient: 3,
+    };
+    let seat = (index % 16) as u8;
+    match index % 5 {
+        0 => Message::Request(slip),
+        1 => Message::Slip(slip),
+        2 => Message::Ack { seat, slip },
+        3 => Message::Ruling(slip),
+        _ => Message::Question { account: slip.account },
+    }
+}
+
 fn loads() -> [Load; 4] {
     let mut first = [0; 32];
     first[0] = 5;
@@ -145,7 +164,7 @@ fn instructions(program: &str, bundle: &[u8]) -> Result<u64, String> {
         .ok_or(format!("valgrind did not count {program}: {said}"))
 }
 
-/// The best time of many rounds, and how many bytes of text they made.
+/// The best time of many rounds, and how many bytes they made.
 fn best(round: &mut dyn FnMut() -> usize) -> (Duration, usize) {
     let mut bytes = 0;
     let times = (0..ROUNDS).map(|_| {
@@ -199,6 +218,32 @@ fn measure(load: &Load, programs: &[String; 2], replay: &mut Replay) -> Result<V
     Ok(above)
 }
 
+/// Prints the rows of the writer. The messages are there before, in each of the two forms.
+fn measure_writer() -> Result<(), String> {
+    println!("writing, a message of each kind in turn:");
+    println!(" messages  per message      writer  second program   ratio");
+    let page = page([100; 32]);
+    let page_bytes = page_bytes(&page);
+    let mut buffer = vec![0; LONGEST];
+    for count in SIZES {
+        let messages: Vec<Message> = (0..count).map(each_kind).collect();
+        let records = records(&messages);
+        let mut ours = || daybook::write(&page_bytes, &records, &mut buffer).unwrap_or(0) as usize;
+        let (our_time, our_bytes) = best(&mut ours);
+        let (their_time, their_bytes) = best(&mut || write(&page, &messages).len());
+        if our_bytes != their_bytes || !buffer.starts_with(&write(&page, &messages)) {
+            return Err("the two written bundles differ".to_string());
+        }
+        row(
+            count,
+            "nanoseconds",
+            our_time.as_nanos() as f64,
+            their_time.as_nanos() as f64,
+        );
+    }
+    Ok(())
+}
+
 fn main() -> ExitCode {
     let arguments: Vec<String> = std::env::args().skip(1).collect();
     let programs = match arguments.iter().map(String::as_str).collect::<Vec<_>>()[..] {
@@ -218,6 +263,10 @@ fn main() -> ExitCode {
                 return ExitCode::FAILURE;
             }
         }
+    }
+    if let Err(what) = measure_writer() {
+        eprintln!("bench: {what}");
+        return ExitCode::FAILURE;
     }
     for place in &above {
         println!("more than {MOST} times the second program's instructions: {place}");

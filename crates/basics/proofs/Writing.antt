@@ -8,7 +8,7 @@ use mathlib.Core.Bool.{Bool, true, false, cond}
 use mathlib.Core.List.{List, [], _∷_, _++_, append-nil, append-assoc}
 use lib.Dec.{ltb}
 use lib.ListN.{length, set, drop, take, length-append, length-set}
-use lib.Seq.{sets, sets-eq, take-append-seam}
+use lib.Seq.{sets, sets-eq}
 use borrow.Author.Tests.{lt-ltb, le-ltb}
 use Rattle.basics.specs.Outputs.{Output, output, withByte, withBytes, Writes}
 
@@ -104,12 +104,3 @@ module _ {before all mid : List ℕ} {at most p : ℕ} where
 
   pub pieces-all : Pieces before at all [] most mid p → Writes before at all most mid p
   pieces-all so-far = instead (so-far .writes) (sym (append-nil (so-far .done)) ∙ so-far .goes-on)
-
--- what stands before the place that was replied
-pub front : {before after xs : List ℕ} {r m : ℕ} → Writes before 0 xs m after r → m ≤ length before → take r after ≡ xs
-front {before} {after} {xs} w room =
-    let filled = whole w (omega (arith, w .short)) in
-    rw (filled .0, filled .1) (take-append-seam xs (drop (length xs) before))
-
-pub front-inside : {before after xs : List ℕ} {r m : ℕ} → Writes before 0 xs m after r → m ≤ length before → r ≤ length after
-front-inside {before} {after} {xs} w room = let filled = whole w (omega (arith, w .short)) in omega (arith, w .short, filled .1, same-length w)

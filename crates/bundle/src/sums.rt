@@ -20,14 +20,21 @@ pub fn times_31(s: u32) -> u32
     wrapping_sub_u32(twice(twice(eight)), s)
 }
 
-// "The sum begins at 0; each body byte replaces it by 31 × sum + byte modulo 4,294,967,296."
+// The sum with one byte more: "each body byte replaces it by 31 × sum + byte modulo 4,294,967,296".
+pub fn with_byte(s: u32, b: u8) -> u32
+    ensures { λ r. ⌜ r ≡ (31 * s + b) % 4_294_967_296 ⌝ }
+{
+    wrapping_add_u32(times_31(s), wide(b))
+}
+
+// The sum of a body: "The sum begins at 0", and each byte of the body is added in turn.
 pub fn body_sum(body: &[u8]) -> u32
     ensures { λ r. ⌜ r ≡ bodySum (now (body .entry)) ⌝ }
 {
     let mut s: u32 = 0;
     let mut i: usize = 0;
     while i < body.len() {
-        s = wrapping_add_u32(times_31(s), wide(body[i]));
+        s = with_byte(s, body[i]);
         i += 1;
     }
     s

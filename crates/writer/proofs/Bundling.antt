@@ -1,18 +1,16 @@
 -- The parts of a bundle put together, and what the writer promises for each outcome.
 use Prim.Native.Nat.{ℕ, suc, _+_, _*_, _≤_, _<_}
-use native.Mathlib.Numerals.{add-one}
 use native.Mathlib.Omega.{arith}
 use borrow.Author.Tests.{lt-ltb, le-ltb}
 use mathlib.Core.Path.{_≡_, refl, ap, sym, _∙_}
-use mathlib.Core.List.{List, [], _∷_, _++_, map}
-use lib.ListN.{length, take, drop, length-map, length-append}
+use mathlib.Core.List.{List, _++_, map}
+use lib.ListN.{length, take, length-map, length-append}
 use lib.Seq.{length-take-le}
 use mir.Val.{Val}
 use denote.Laws.{Is}
 use denote.Struct.Declared.{row}
 use Rattle.model.specs.declared.Opening.{Opening}
 use Rattle.model.specs.declared.Message.{Message}
-use Rattle.model.specs.declared.Refusal.{Refusal}
 use Rattle.model.specs.declared.Refusal.the-variants.{TooManyMessages, NoRoom}
 use Rattle.model.specs.declared.WriteReply.{WriteReply}
 use Rattle.model.specs.declared.WriteReply.the-variants.{Written, WriteRefused}

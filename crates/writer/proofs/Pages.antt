@@ -15,7 +15,7 @@ use Rattle.model.specs.declared.Message.{Message}
 use Rattle.model.specs.declared.Message.the-variants.{Request, Circulated, Ack, Decision, Inquiry}
 use Rattle.model.specs.Bundles.{bodyLength, sumFrom, bodySum, Page, wrongEntry, balancesFrom, openingOf, transferOf, messageOf}
 use Rattle.model.specs.Writing.{numberBytes, Bytes, balanceBytes, openingPage, transferBytes, messagePage}
-use Rattle.model.proofs.Numbers.{number-length, number-read, number-bytes}
+use Rattle.model.proofs.Numbers.{number-read, number-bytes}
 use Rattle.writer.specs.RoundTrips.{TransferFits, MessageFits, OpeningFits}
 
 -- a transfer's ten bytes

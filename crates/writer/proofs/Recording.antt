@@ -1,13 +1,13 @@
 -- Records: what the loop that reads them knows at each turn, and what the writer promises for each outcome.
-use Prim.Native.Nat.{ℕ, zero, suc, _+_, _*_, _-_, _/_, _%_, _≤_, _<_}
+use Prim.Native.Nat.{ℕ, suc, _+_, _-_, _%_, _≤_, _<_}
 use native.Mathlib.Nat.{sub-zero}
 use native.Mathlib.Numerals.{add-one}
 use native.Mathlib.Omega.{arith}
 use borrow.Author.Tests.{lt-ltb, le-ltb, eq-eqb, ne-eqb}
 use mathlib.Core.Path.{_≡_, refl, ap, sym, _∙_}
 use mathlib.Core.Logic.{_≢_}
-use mathlib.Core.List.{List, [], _∷_, _++_, append-nil}
-use mathlib.Core.Option.{Option, none, some}
+use mathlib.Core.List.{List, _++_, append-nil}
+use mathlib.Core.Option.{none, some}
 use lib.ListN.{length, take, set, length-set}
 use lib.Seq.{take-suc-set, append-snoc}
 use Rattle.model.specs.declared.Message.{Message}
@@ -16,7 +16,7 @@ use Rattle.model.specs.declared.WriteReply.the-variants.{WriteRefused}
 use Rattle.model.specs.declared.Refusal.the-variants.{BadContents, BadEnd, TooManyMessages}
 use Rattle.model.specs.Writing.{writeFaults}
 use Rattle.writer.specs.Promises.{Wrote}
-use Rattle.writer.specs.Records.{recordCount, firstWrong, badLast, messageIn, messagesFrom, recordFaults}
+use Rattle.writer.specs.Records.{recordCount, firstWrong, messageIn, messagesFrom, recordFaults}
 use Rattle.writer.proofs.Bundling.{wrote}
 
 -- the messages of the records before the i-th are in the array, and with those of the others they are all

@@ -1,7 +1,7 @@
 -- What the loops over the messages know at each turn: of the first `count` of the array, those behind the i-th are left.
 use Prim.Native.Nat.{ℕ, _+_, _*_, _≤_, _<_}
 use native.Mathlib.Omega.{arith}
-use mathlib.Core.Path.{_≡_, refl, ap, sym, _∙_}
+use mathlib.Core.Path.{_≡_, ap, sym, _∙_}
 use mathlib.Core.List.{List, [], _∷_, _++_, map}
 use lib.ListN.{length, getD, take, drop, length-append}
 use lib.Seq.{length-take-le, getD-take}
@@ -93,4 +93,31 @@ module _ (messages : List Message) (count : ℕ) (there : count ≤ length messa
       → Writes before at (contentsOf (141 + 8 * count) (pagesLeft messages count 0)) (8 * count) mid place
   entered-all over =
       let left = ap (contentsOf start) (none-turn messages count there i over) in
+      within (omega (arith, so-far .inside)) (pieces-all (rw left at (so-far .writes)))
+
+-- The bodies of the messages before the i-th are written.
+pub record Bodied (messages : List Message) (count : ℕ) (before : List ℕ) (at i : ℕ) (out : List ℕ) (place : ℕ) : Type 0 where
+  pub inside : i ≤ count
+  pub writes : Pieces before at (bodiesOf (pagesLeft messages count 0)) (bodiesOf (pagesLeft messages count i)) (10 * i) out place
+
+pub bodied-none : (messages : List Message) (count : ℕ) (before : List ℕ) (at : ℕ) → Bodied messages count before at 0 before at
+bodied-none messages count before at = record { inside = omega arith; writes = pieces-none }
+
+module _ (messages : List Message) (count : ℕ) (there : count ≤ length messages) {before mid : List ℕ} {at i place : ℕ}
+    (so-far : Bodied messages count before at i mid place) where
+  pub bodied-more : {after : List ℕ} {r : ℕ} (d : Message) → i < count → Writes mid place (messagePage (getD messages i d) .body) 10 after r
+      → Bodied messages count before at (i + 1) after r
+  bodied-more d inside body =
+      let m = getD messages i d in
+      let rest = bodiesOf (pagesLeft messages count (i + 1)) in
+      let one : bodiesOf (pagesLeft messages count i) ≡ messagePage m .body ++ rest = ap bodiesOf (turn messages count there i d inside) in
+      let bytes : 10 * i + 10 ≡ 10 * (i + 1) = omega arith in
+      record {
+        inside = omega arith;
+        writes = rw bytes at (pieces-more (messagePage m .body) rest (rw one at (so-far .writes)) body);
+      }
+
+  pub bodied-all : count ≤ i → Writes before at (bodiesOf (pagesLeft messages count 0)) (10 * count) mid place
+  bodied-all over =
+      let left = ap bodiesOf (none-turn messages count there i over) in
       within (omega (arith, so-far .inside)) (pieces-all (rw left at (so-far .writes)))

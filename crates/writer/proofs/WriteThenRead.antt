@@ -1,5 +1,5 @@
 -- The first round trip: what is written is sound, and read, it is the page and the list. The statement is `WriteThenRead` in specs/RoundTrips.antt.
-use Prim.Native.Nat.{ℕ, zero, suc, _+_, _*_, _≤_, _<_}
+use Prim.Native.Nat.{ℕ, suc, _+_, _*_, _≤_, _<_}
 use native.Mathlib.Nat.{zero-add}
 use native.Mathlib.Numerals.{add-one}
 use native.Mathlib.Omega.{arith}
@@ -19,8 +19,8 @@ use Rattle.model.specs.Bundles.{numberAt, entryCount, contentsAt, startAt, body
 use Rattle.model.specs.Writing.{numberBytes, Bytes, openingPage, messagePage, pagesOf, entryBytes, contentsOf, bodiesOf, bundleOf, written}
 use Rattle.model.proofs.Numbers.{number-read, number-bytes}
 use Rattle.bundle.proofs.Longest.{wrongAt}
-use Rattle.writer.specs.RoundTrips.{AllFit, OpeningFits, ReadsFrom, Reads, ReadsBack, WriteThenRead}
-use Rattle.writer.proofs.Pages.{message-read, balances-length, opening-read, Right, opening-right, message-right, message-short, sum-below, no-bytes, one-byte, more-bytes, PageBytes, message-bytes, opening-bytes}
+use Rattle.writer.specs.RoundTrips.{AllFit, OpeningFits, ReadsFrom, ReadsBack, WriteThenRead}
+use Rattle.writer.proofs.Pages.{message-read, opening-read, Right, opening-right, message-right, message-short, sum-below, no-bytes, one-byte, more-bytes, PageBytes, message-bytes, opening-bytes}
 
 -- how many bytes the contents and the bodies have
 pub entries-length : (start : ℕ) (ps : List Page) → length (contentsOf start ps) ≡ 8 * length ps

@@ -1,16 +1,13 @@
 // The contents of a bundle: the entry of each page. Start and sum are computed, never given.
-use crate::bodies::put_message;
-use crate::bodies::put_opening;
 use crate::numbers::put_number2;
 use crate::numbers::put_number4;
+use crate::sums::message_sum;
+use crate::sums::opening_sum;
 use basics::output::put;
-use bundle::sums::body_sum;
 use model::ContentsEntry;
 use model::Message;
 use model::Opening;
-use pages::contents::body_length;
 ghost use mathlib.Core.Path.{_≡_};
-ghost use Rattle.model.specs.Bundles.{bodySum};
 ghost use Rattle.model.specs.Writing.{openingPage, messagePage, contentsEntry, contentsBytes};
 ghost use Rattle.basics.specs.Outputs.{Writes};
 
@@ -38,24 +35,6 @@ fn seat_of(m: Message) -> u8
         Message::Decision(_) => 0,
         Message::Inquiry(_) => 0,
     }
-}
-
-// The sum of a message's body.
-fn message_sum(m: Message) -> u32
-    ensures { λ r. ⌜ r ≡ bodySum (messagePage m .body) ⌝ }
-{
-    let mut body: [u8; 10] = [0; 10];
-    let end = put_message(&mut body, 0, m);
-    body_sum(&body[..end])
-}
-
-// The sum of the opening page's body.
-fn opening_sum(page: Opening) -> u32
-    ensures { λ r. ⌜ r ≡ bodySum (openingPage page .body) ⌝ }
-{
-    let mut body: [u8; 131] = [0; 131];
-    let end = put_opening(&mut body, 0, page);
-    body_sum(&body[..end])
 }
 
 // The entry of a message whose body starts at a place.

@@ -23,6 +23,7 @@ mod bodies;
 mod contents;
 mod numbers;
 pub mod records;
+mod sums;
 
 // The most messages that a bundle has, beside its opening page.
 pub const MOST_MESSAGES: usize = 999;

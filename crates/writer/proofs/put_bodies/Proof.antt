@@ -1,19 +1,16 @@
 -- The loop writes one body after another.
-use Prim.Native.Nat.{_+_, _*_, _-_, _≤_}
+use Prim.Native.Nat.{_-_, _≤_}
 use native.Mathlib.Omega.{arith}
-use mathlib.Core.Path.{_≡_, ap}
 use lib.ListN.{length}
 use borrow.Author.Needs.{needs}
-use Rattle.model.specs.Writing.{bodiesOf}
 use Rattle.basics.proofs.Arrays.{array-length}
 use Rattle.basics.proofs.Writing as Writing
-use Rattle.writer.proofs.Turns.{pagesLeft, turn, none-turn}
+use Rattle.writer.proofs.Turns.{Bodied, bodied-none, bodied-more, bodied-all}
 use Rattle.writer.proofs.put_bodies.Statement.{statement}
 use Rattle.writer.proofs.put_bodies.Tie as tie
 
 abbrev Inv-loop : tie.InvT-loop
-Inv-loop out₀ at count messages place₀ i₀ out place i =
-    (i ≤ count) × Writing.Pieces out₀ at (bodiesOf (pagesLeft messages count 0)) (bodiesOf (pagesLeft messages count i)) (10 * i) out place
+Inv-loop out₀ at count messages place₀ i₀ out place i = Bodied messages count out₀ at i out place
 
 abbrev μ-loop : tie.MeasureT-loop
 μ-loop out₀ at count messages place₀ i₀ out place i = count - i
@@ -23,7 +20,7 @@ enough : (c : tie.Start Inv-loop μ-loop) → c .args .count ≤ length (c .args
 enough c = omega (arith, c .pre, array-length _ 999 (c .args .t3) _ (c .good .1 .1 .0))
 
 loop-holds : tie.Need-loop-holds Inv-loop μ-loop
-loop-holds c = (omega arith, Writing.pieces-none)
+loop-holds c = bodied-none _ _ _ _
 
 mul-put-message : tie.Need-mul-put-message Inv-loop μ-loop
 mul-put-message c = omega arith
@@ -44,19 +41,15 @@ loop-again : tie.Need-loop-again Inv-loop μ-loop
 loop-again c =
     let loop = c .before .before .before .before .before .before in
     let start = loop .before .before in
-    let one = turn (start .args .t3) (start .args .count) (enough start) (loop .loop .i) _ (c .before .before .before .before .before .loop-test .taken) in
-    let so-far = rw (ap bodiesOf one) at (loop .loop .inv .1) in
-    let bytes : 10 * loop .loop .i + 10 ≡ 10 * (loop .loop .i + 1) = omega arith in
-    (omega arith, rw bytes at (Writing.pieces-more _ _ so-far (c .before .before .put-message .ensures)))
+    bodied-more (start .args .t3) (start .args .count) (enough start) (loop .loop .inv) _ (c .before .before .before .before .before .loop-test .taken) (c .before .before .put-message .ensures)
 
 same-length : tie.Need-same-length Inv-loop μ-loop
-same-length c = Writing.same-length (c .before .loop .inv .1 .writes)
+same-length c = Writing.same-length (c .before .loop .inv .writes .writes)
 
 returns : tie.Need-returns Inv-loop μ-loop
 returns c =
     let start = c .before .before .before in
-    let over = none-turn (start .args .t3) (start .args .count) (enough start) (c .before .loop .i) (c .loop-test .left) in
-    Writing.within (omega arith) (Writing.pieces-all (rw over at (c .before .loop .inv .1)))
+    bodied-all (start .args .t3) (start .args .count) (enough start) (c .before .loop .inv) (c .loop-test .left)
 
 pub put-bodies-spec : {M : Type 1} → statement M
 put-bodies-spec =

@@ -1,15 +1,14 @@
 -- The loop writes one entry after another, and knows where the next body starts.
-use Prim.Native.Nat.{_+_, _*_, _-_, _≤_}
+use Prim.Native.Nat.{_-_, _≤_}
 use native.Mathlib.Omega.{arith}
-use mathlib.Core.Path.{_≡_, ap, _∙_}
+use mathlib.Core.Path.{ap, _∙_}
 use lib.ListN.{length}
 use borrow.Author.Needs.{needs}
 use Rattle.model.specs.Bundles.{bodyLength}
-use Rattle.model.specs.Writing.{contentsOf}
 use Rattle.bundle.proofs.Longest.{body-any}
 use Rattle.basics.proofs.Arrays.{array-length}
 use Rattle.basics.proofs.Writing as Writing
-use Rattle.writer.proofs.Turns.{pagesLeft, Entered, entered-none, entered-more, entered-all}
+use Rattle.writer.proofs.Turns.{Entered, entered-none, entered-more, entered-all}
 use Rattle.writer.proofs.put_entries.Statement.{statement}
 use Rattle.writer.proofs.put_entries.Tie as tie
 

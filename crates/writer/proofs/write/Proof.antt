@@ -1,7 +1,7 @@
 -- The tests in their order: 18, then 19 by the length of the bundle.
 use Prim.Native.Nat.{_+_, _*_, _≤_}
 use native.Mathlib.Omega.{arith}
-use mathlib.Core.Path.{_≡_, sym, _∙_}
+use mathlib.Core.Path.{_≡_}
 use mathlib.Core.List.{map}
 use lib.ListN.{length, take}
 use Rattle.model.specs.Writing.{messagePage, bodiesOf, written}

@@ -1,0 +1,45 @@
+-- One byte after another.
+use borrow.Author.Needs.{needs}
+use Rattle.writer.proofs.sums.with_number4.Statement.{statement}
+use Rattle.writer.proofs.sums.with_number4.Tie as tie
+
+cast-with-byte : tie.Need-cast-with-byte
+cast-with-byte c = search needs
+
+with-byte-requires : tie.Need-with-byte-requires
+with-byte-requires c κs = search needs
+
+cast-with-byte-2 : tie.Need-cast-with-byte-2
+cast-with-byte-2 c = search needs
+
+with-byte-requires-2 : tie.Need-with-byte-requires-2
+with-byte-requires-2 c κs = search needs
+
+cast-with-byte-3 : tie.Need-cast-with-byte-3
+cast-with-byte-3 c = search needs
+
+with-byte-requires-3 : tie.Need-with-byte-requires-3
+with-byte-requires-3 c κs = search needs
+
+cast-with-byte-4 : tie.Need-cast-with-byte-4
+cast-with-byte-4 c = search needs
+
+with-byte-requires-4 : tie.Need-with-byte-requires-4
+with-byte-requires-4 c κs = search needs
+
+returns : tie.Need-returns
+returns c = rw (c .with-byte4 .ensures, c .before .with-byte3 .ensures, c .before .before .with-byte2 .ensures, c .before .before .before .with-byte .ensures)
+
+pub with-number4-spec : {M : Type 1} → statement M
+with-number4-spec =
+    tie.close
+    (tie.spec
+    cast-with-byte
+    with-byte-requires
+    cast-with-byte-2
+    with-byte-requires-2
+    cast-with-byte-3
+    with-byte-requires-3
+    cast-with-byte-4
+    with-byte-requires-4
+    returns)

@@ -29,7 +29,7 @@ same-found p q (suc left) i h =
     rw (h i (omega arith) (omega arith), same-found p q left (suc i) (λ k from to. h k (omega arith) (omega arith)))
 
 -- in a list of numbers of at most b, each is at most b
-at-most : (b : ℕ) (xs : List ℕ) (i : ℕ) → every (λ x. leb x b) xs ≡ true → getD xs i 0 ≤ b
+pub at-most : (b : ℕ) (xs : List ℕ) (i : ℕ) → every (λ x. leb x b) xs ≡ true → getD xs i 0 ≤ b
 at-most b [] i e = omega arith
 at-most b (x ∷ xs) zero e = leb-true x b (both (leb x b) (every (λ y. leb y b) xs) e .0)
 at-most b (x ∷ xs) (suc i) e = at-most b xs i (both (leb x b) (every (λ y. leb y b) xs) e .1)

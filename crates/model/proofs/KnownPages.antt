@@ -14,7 +14,7 @@ use Rattle.model.specs.Settling.{lowestAffordable, apply, settleAtMost, 
 use Rattle.model.specs.Calls.{step}
 use Rattle.model.specs.Bundles.{checkBundle}
 use Rattle.model.specs.Writing.{written}
-use Rattle.model.proofs.Rows.{slip, ackBy, pageWith, A, B, C, K, N, P, R, _gives_, everyKind, Row, acksNeeded, opens, runs, proposals, lists, sums, checks, counts, shows, showsOpening, reads, writes, fits, rowHolds}
+use Rattle.model.proofs.Rows.{slip, ackBy, pageWith, A, B, C, K, N, P, R, _gives_, everyKind, Row, acksNeeded, opens, runs, proposals, lists, sums, checks, counts, shows, showsOpening, reads, writes, fits, leaves, rowHolds}
 
 -- slips that conflict with one another
 abbrev t : Transfer
@@ -179,7 +179,7 @@ format =
     ∷ []
 
 -- Document 02, request 1: the same bundles written; a page that an opening refuses, an ack of a seat that there is not, numbers of several bytes;
--- and what the writer replies at its limits, 18 before 19.
+-- what the writer replies at its limits, 18 before 19; and what it leaves in a buffer.
 pub writing : List Row
 writing =
     writes emptyPage [] onePage
@@ -196,6 +196,9 @@ writing =
     ∷ fits 999 200 199 (19 ∷ 0 ∷ [])
     ∷ fits 1_000 200 200 (18 ∷ 0 ∷ [])
     ∷ fits 1_000 200 0 (18 ∷ 0 ∷ [])
+    ∷ leaves 999 (1 ∷ 2 ∷ []) (7 ∷ 8 ∷ 9 ∷ 10 ∷ []) (1 ∷ 2 ∷ 9 ∷ 10 ∷ [])
+    ∷ leaves 999 (1 ∷ 2 ∷ []) (7 ∷ []) (7 ∷ [])
+    ∷ leaves 1_000 (1 ∷ 2 ∷ []) (7 ∷ 8 ∷ 9 ∷ []) (7 ∷ 8 ∷ 9 ∷ [])
     ∷ []
 
 -- Every row holds of the definitions: the checker computes each.

@@ -15,7 +15,7 @@ use Rattle.model.specs.Openings.{openReply, openLedger}
 use Rattle.model.specs.Acks.{enough, hasMost}
 use Rattle.model.specs.Calls.{step}
 use Rattle.model.specs.Bundles.{bodySum, badCount, checkBundle, pageAt, messageOf, openingOf, Reading, taken, noMore, readNext}
-use Rattle.model.specs.Writing.{written, writeFaults, writeReply}
+use Rattle.model.specs.Writing.{written, writeFaults, writeReply, bufferAfter}
 
 -- a slip: account, number, value, recipient
 abbrev pub slip : ℕ → ℕ → ℕ → ℕ → Transfer
@@ -91,6 +91,8 @@ pub data Row : Type 0 where
   writes : Opening → List Message → List ℕ → Row
   -- how many messages, the lengths of their bundle and of a buffer, and the values of the writer's answer
   fits : ℕ → ℕ → ℕ → List ℕ → Row
+  -- how many messages, their bundle, a buffer, and the buffer after it
+  leaves : ℕ → List ℕ → List ℕ → List ℕ → Row
 
 -- two lists of numbers are equal
 abbrev pub same : List ℕ → List ℕ → Bool
@@ -168,3 +170,5 @@ rowHolds (writes page messages bytes) = same (written page messages) bytes
 rowHolds (fits count size room said) =
     let bundle : List ℕ = replicate size 0 in
     same (valuesOfWrite (writeReply (writeFaults count bundle room) bundle)) said
+rowHolds (leaves count bundle before after) =
+    same (bufferAfter (writeReply (writeFaults count bundle (length before)) bundle) bundle before) after

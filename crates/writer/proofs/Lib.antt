@@ -6,3 +6,5 @@ pub mod Bundling
 pub mod Recording
 pub mod PagesBack
 pub mod ReadThenWrite
+pub mod RecordFacts
+pub mod Tried

@@ -7,17 +7,18 @@ use mathlib.Core.Path.{_≡_, refl, ap, sym, _∙_}
 use mathlib.Core.Bool.{true, false, not, _&&_}
 use mathlib.Core.List.{List, [], _∷_, _++_, map}
 use lib.Dec.{eqb, eqb·suc-zero}
+use mathlib.Core.Option.{some}
 use lib.ListN.{length, getD, take, drop, length-drop, length-map, take-append-drop, drop-of-length-le}
 use lib.Seq.{length-take-le, drop-cons, drop-drop, take-add}
 use Rattle.model.specs.declared.Opening.{Opening}
 use Rattle.model.specs.declared.Message.{Message}
 use Rattle.model.specs.declared.BundleReply.the-variants.{Sound}
-use Rattle.model.specs.Bundles.{Page, numberAt, entryCount, contentsAt, bodyLength, startAt, misplaced, pageAt, checkBundle, bodySum, taken, readNext, openingOf}
+use Rattle.model.specs.Bundles.{Page, numberAt, entryCount, contentsAt, bodyLength, startAt, misplaced, pageAt, checkBundle, bodySum, taken, readNext, openingOf, messageOf}
 use Rattle.model.specs.Writing.{numberBytes, Bytes, openingPage, messagePage, entryBytes, contentsOf, bodiesOf, bundleOf, written}
 use Rattle.model.proofs.Numbers.{number-written, dropped-bytes}
 use Rattle.model.proofs.Sums.{impossible}
 use Rattle.bundle.proofs.Longest.{few-entries, right-entries, right-end, right-sums, right-entry, kind-later, no-difference, wrongAt}
-use Rattle.writer.specs.RoundTrips.{AllFit, ReadsFrom, WritesBack, ReadThenWrite, OneReading}
+use Rattle.writer.specs.RoundTrips.{AllFit, ReadsFrom, WritesBack, ReadThenWrite, ReadOnce}
 use Rattle.writer.proofs.PagesBack.{joined, opening-fits, first-back, PageBack, page-back}
 
 -- the first bytes of bytes are bytes
@@ -60,6 +61,10 @@ kind-first (suc kind) e = let wrong : true ≡ false = simp (eqb·suc-zero kind)
 page-taken : (bytes : List ℕ) (i : ℕ) → i < entryCount bytes → readNext bytes i ≡ taken (pageAt bytes i) (i + 1)
 page-taken bytes i inside = rw (lt-ltb i (entryCount bytes) inside)
 
+-- one page has one message
+one-message : {p q : Page} {m n : Message} → p ≡ q → messageOf p ≡ some m → messageOf q ≡ some n → m ≡ n
+one-message e r s = let both = sym r ∙ ap messageOf e ∙ s in cc
+
 -- readNext is a function: what a reading finds is one list
 one-from : (bytes : List ℕ) (i : ℕ) (ms ns : List Message) → ReadsFrom bytes i ms → ReadsFrom bytes i ns → ms ≡ ns
 one-from bytes i [] [] r s = refl
@@ -67,13 +72,13 @@ one-from bytes i [] (n ∷ ns) r s = impossible (cc (s .1))
 one-from bytes i (m ∷ ms) [] r s = impossible (cc (r .1))
 one-from bytes i (m ∷ ms) (n ∷ ns) r s =
     let page : r .0 ≡ s .0 = cc (r .1, s .1) in
-    let first : m ≡ n = cc (page, r .2, s .2) in
+    let first = one-message page (r .2) (s .2) in
     let others = one-from bytes (i + 1) ms ns (r .3) (s .3) in
     cc
 
 -- so a bundle is read as one page and one list
-pub one-reading : OneReading
-one-reading bytes o q ms ns r s =
+pub read-once : ReadOnce
+read-once bytes o q ms ns r s =
     let page : r .page .0 ≡ s .page .0 = cc (r .page .1, s .page .1) in
     (cc (page, r .page .2, s .page .2), one-from bytes 1 ms ns (r .messages) (s .messages))
 

@@ -75,6 +75,6 @@ ReadThenWrite =
     (bytes : List ℕ) (m : ℕ) → Bytes bytes → checkBundle bytes ≡ Sound m → (o : Opening) × (ms : List Message) × WritesBack bytes o ms
 
 -- and it is read as nothing else
-abbrev pub OneReading : Type 0
-OneReading =
+abbrev pub ReadOnce : Type 0
+ReadOnce =
     (bytes : List ℕ) (o q : Opening) (ms ns : List Message) → Reads bytes o ms → Reads bytes q ns → (o ≡ q) × (ms ≡ ns)

@@ -20,8 +20,8 @@ pub fn put_number4(out: &mut [u8], at: usize, x: u32) -> usize
     let x1 = x / 256;
     let x2 = x1 / 256;
     let x3 = x2 / 256;
-    let second = put(out, at, (x % 256) as u8);
-    let third = put(out, second, (x1 % 256) as u8);
-    let fourth = put(out, third, (x2 % 256) as u8);
-    put(out, fourth, (x3 % 256) as u8)
+    let at1 = put(out, at, (x % 256) as u8);
+    let at2 = put(out, at1, (x1 % 256) as u8);
+    let at3 = put(out, at2, (x2 % 256) as u8);
+    put(out, at3, (x3 % 256) as u8)
 }

@@ -4,6 +4,7 @@ use crate::daybook::{self, Written, PAGE};
 use crate::dice::Dice;
 use crate::known;
 use crate::lent::Sent;
+use crate::tallies::{KIND_0, KIND_ABOVE_5, SEAT_OF_NO_ACK};
 use crate::trial::caught;
 use reference::book::{Message, OpeningPage};
 use reference::bundle::{self, read_message, write_into, ACK, QUESTION, REQUEST};
@@ -51,18 +52,31 @@ pub fn length(records: &[u8]) -> usize {
 pub fn met(records: &[u8], room: usize) -> Vec<(u32, u32)> {
     let tests = [
         (records.len() / RECORD > 999).then_some((18, 0)),
-        first_wrong(records).map(|entry| (14, entry)),
+        first_wrong(records).map(|(entry, _)| (14, entry)),
         (records.len() % RECORD > 0).then_some((15, 0)),
         (room < length(records)).then_some((19, 0)),
     ];
     tests.into_iter().flatten().collect()
 }
 
-/// The entry of the lowest wrong record: its kind is 0 or above 5, or it has a seat and is no ack.
-fn first_wrong(records: &[u8]) -> Option<u32> {
-    let wrong = |record: &[u8]| !(REQUEST..=QUESTION).contains(&record[0]) || (record[0] != ACK && record[1] != 0);
+/// The entry of the lowest wrong record, and what is wrong with it.
+pub fn first_wrong(records: &[u8]) -> Option<(u32, &'static str)> {
     let mut entries = (1..).zip(records.chunks_exact(RECORD));
-    entries.find(|(_, record)| wrong(record)).map(|(entry, _)| entry)
+    entries.find_map(|(entry, record)| Some((entry, wrong(record)?)))
+}
+
+/// What is wrong with a record: its kind is 0 or above 5, or it has a seat and is no ack.
+fn wrong(record: &[u8]) -> Option<&'static str> {
+    let (kind, seat) = (record[0], record[1]);
+    if kind < REQUEST {
+        Some(KIND_0)
+    } else if kind > QUESTION {
+        Some(KIND_ABOVE_5)
+    } else if kind != ACK && seat != 0 {
+        Some(SEAT_OF_NO_ACK)
+    } else {
+        None
+    }
 }
 
 /// What is due of a call, and is done to this buffer. Where each record is whole and right, the second program decides,

@@ -52,13 +52,14 @@ pub const WRITTEN_AGAIN: &str = "written out again";
 pub const NO_MESSAGE: &str = "no message";
 pub const SETTLED_LATER: &str = "settled by another's";
 
-/// The rows of the writer of bundles: the opening pages, how many messages and their kinds, its replies, and each two
-/// refusals that one call meets, of which the first is due.
-const WRITER_ROWS: [&[&str]; 5] = [
+/// The rows of the writer of bundles: the opening pages, how many messages and their kinds, its replies, the causes of
+/// 14, and each two refusals that one call meets, of which the first is due.
+const WRITER_ROWS: [&[&str]; 6] = [
     &["page opens", "page refused"],
-    &["no message", "999 messages"],
+    &["0 messages", "999 messages"],
     &["request", "slip", "ack", "ruling", "question"],
     &["a length", "18", "14", "15", "19"],
+    &[KIND_0, KIND_ABOVE_5, SEAT_OF_NO_ACK],
     &[
         "18 before 14",
         "18 before 15",
@@ -68,6 +69,9 @@ const WRITER_ROWS: [&[&str]; 5] = [
         "15 before 19",
     ],
 ];
+pub const KIND_0: &str = "14: kind 0";
+pub const KIND_ABOVE_5: &str = "14: kind above 5";
+pub const SEAT_OF_NO_ACK: &str = "14: seat of no ack";
 
 pub struct Tallies {
     columns: &'static [&'static str],

@@ -6,7 +6,7 @@ use crate::daybook::Written;
 use crate::dice::Dice;
 use crate::known;
 use crate::openings;
-use crate::records::{length, met, records, tried, written_again, RECORD};
+use crate::records::{first_wrong, length, met, records, tried, written_again, RECORD};
 use crate::tallies::Tallies;
 use crate::trial::{self, caught};
 use crate::wild;
@@ -21,6 +21,9 @@ const COLUMNS: [&str; 2] = ["lists", "malformed"];
 const LISTS: u64 = 3_000;
 const PROGRAM_EACH: u64 = 50;
 const MALFORMED: u64 = 6_000;
+/// The dice of each come from the seed with this bit changed: neither shares them with the random bundles.
+const LISTS_BIT: u64 = 1 << 62;
+const MALFORMED_BIT: u64 = 1 << 63;
 
 const T: Slip = Slip {
     account: 0,
@@ -165,7 +168,7 @@ pub fn random(checks: &mut Checks, seed: u64, program: &str) {
     let mut tallies = Tallies::of_writing(&COLUMNS);
     for index in 1..=LISTS {
         let program = (index % PROGRAM_EACH == 0).then_some(program);
-        let mut dice = Dice::of(seed, index);
+        let mut dice = Dice::of(seed ^ LISTS_BIT, index);
         let (page, messages) = list(&mut dice);
         let name = format!("list {index} of seed {seed}");
         let bytes = bundle::write(&page, &messages);
@@ -173,7 +176,7 @@ pub fn random(checks: &mut Checks, seed: u64, program: &str) {
         trial::count(checks, &name, &bytes, outcome.and_then(|outcome| outcome));
     }
     for index in 1..=MALFORMED {
-        let mut dice = Dice::of(seed, index);
+        let mut dice = Dice::of(seed ^ MALFORMED_BIT, index);
         let outcome = caught(|| try_malformed(&mut dice, &mut tallies)).and_then(|outcome| outcome);
         checks.same(&format!("malformed records {index} of seed {seed}"), outcome, Ok(()));
     }
@@ -242,13 +245,16 @@ fn try_list(
     trial::text_tried(&written, program).1
 }
 
-/// Counts a reply, and with it each refusal that stands back behind the one that is due.
+/// Counts a reply, and with it the cause of a 14 and each refusal that stands back behind the one that is due.
 fn tally(tallies: &mut Tallies, column: usize, records: &[u8], room: usize, reply: Written) {
     let code = match reply {
         Ok(_) => return tallies.add(column, "a length"),
         Err((code, _)) => code,
     };
     tallies.add(column, &code.to_string());
+    if let (14, Some((_, cause))) = (code, first_wrong(records)) {
+        tallies.add(column, cause);
+    }
     for (behind, _) in &met(records, room)[1..] {
         tallies.add(column, &format!("{code} before {behind}"));
     }
@@ -264,7 +270,7 @@ fn tally_list(tallies: &mut Tallies, page: &OpeningPage, written: &[u8]) {
         tallies.add(0, KIND_WORDS[usize::from(kind)]);
     }
     match m {
-        1 => tallies.add(0, "no message"),
+        1 => tallies.add(0, "0 messages"),
         1_000 => tallies.add(0, "999 messages"),
         _ => {}
     }

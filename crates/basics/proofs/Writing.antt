@@ -76,7 +76,7 @@ pub placed : (before bs : List ℕ) (at : ℕ) → at + length bs ≤ length bef
     → withBytes (output before at) bs ≡ output (take at before ++ bs ++ drop (at + length bs) before) (at + length bs)
 placed before bs at h = stored bs before at h ∙ ap (λ l. output l (at + length bs)) (sets-eq bs before at h)
 
--- the buffer's front is the text, the rest is as before
+-- the buffer's front is the bytes, the rest is as before
 pub whole : {before after xs : List ℕ} {r m : ℕ} → Writes before 0 xs m after r → length xs ≤ length before
     → (after ≡ xs ++ drop (length xs) before) × (r ≡ length xs)
 whole {before} {after} {xs} w h =

@@ -1,10 +1,10 @@
-// Document 01's numbers and letters.
+// The documents' numbers and letters.
 use model::Refusal;
 use model::Reply;
 ghost use mathlib.Core.Path.{_≡_};
 ghost use Rattle.model.specs.Replies.{codeOf, letterOf};
 
-// Document 01's number of a refusal.
+// The documents' number of a refusal.
 pub fn code_of(r: Refusal) -> u8
     ensures { λ code. ⌜ code ≡ codeOf r ⌝ }
 {

@@ -6,7 +6,7 @@ pub enum Check {
     Failed(Refusal),
 }
 
-// What a search among entries finds.
+// What a search among entries, or records, finds.
 pub enum Search {
     At(u16),
     Nowhere,

@@ -150,37 +150,35 @@ no-fault n m false none true sum e = impossible (cc)
 no-fault n m false none false (some i) e = impossible (cc)
 no-fault n m false none false none e = (cc, refl, refl, refl, refl)
 
--- it has as many entries as its header says, 1 to 1,000
-pub few-entries : (bytes : List ℕ) (m : ℕ) → checkBundle bytes ≡ Sound m → (m ≡ entryCount bytes) × (1 ≤ m) × (m ≤ 1_000)
-unfolding checkBundle
-few-entries bytes m sound =
-    let n = entryCount bytes in
-    let right = no-fault n m (badHeader bytes) (firstBadEntry bytes) (badEnd bytes) (firstBadSum bytes) sound in
-    let parts = neither (ltb (length bytes) 2 || badCount n) (ltb (length bytes) (2 + 8 * n)) (right .1) in
-    let few = count-right n (neither (ltb (length bytes) 2) (badCount n) (parts .0) .1) in
-    (right .0, omega arith, omega arith)
-
 module _ (bytes : List ℕ) (m : ℕ) (sound : checkBundle bytes ≡ Sound m) where
-  -- none of its entries is wrong,
-  pub right-entries : NotFound (wrongAt bytes) (entryCount bytes) 0
+  sound-parts : (m ≡ entryCount bytes)
+      × (badHeader bytes ≡ false)
+      × (firstBadEntry bytes ≡ none)
+      × (badEnd bytes ≡ false)
+      × (firstBadSum bytes ≡ none)
   unfolding checkBundle
-  right-entries =
-      let right = no-fault (entryCount bytes) m (badHeader bytes) (firstBadEntry bytes) (badEnd bytes) (firstBadSum bytes) sound in
-      first-none (wrongAt bytes) (entryCount bytes) 0 (right .2)
+  sound-parts = no-fault (entryCount bytes) m (badHeader bytes) (firstBadEntry bytes) (badEnd bytes) (firstBadSum bytes) sound
+
+  -- it has as many entries as its header says, 1 to 1,000,
+  pub few-entries : (m ≡ entryCount bytes) × (1 ≤ m) × (m ≤ 1_000)
+  few-entries =
+      let n = entryCount bytes in
+      let same = sound-parts .0 in
+      let parts = neither (ltb (length bytes) 2 || badCount n) (ltb (length bytes) (2 + 8 * n)) (sound-parts .1) in
+      let few = count-right n (neither (ltb (length bytes) 2) (badCount n) (parts .0) .1) in
+      (same, omega arith, omega arith)
+
+  -- none of these is wrong,
+  pub right-entries : NotFound (wrongAt bytes) (entryCount bytes) 0
+  right-entries = first-none (wrongAt bytes) (entryCount bytes) 0 (sound-parts .2)
 
   -- it ends with its last body,
   pub right-end : length bytes ≡ startAt bytes (entryCount bytes)
-  unfolding checkBundle
-  right-end =
-      let right = no-fault (entryCount bytes) m (badHeader bytes) (firstBadEntry bytes) (badEnd bytes) (firstBadSum bytes) sound in
-      no-difference (length bytes) (startAt bytes (entryCount bytes)) (right .3)
+  right-end = no-difference (length bytes) (startAt bytes (entryCount bytes)) (sound-parts .3)
 
   -- and none of its sums is wrong
   pub right-sums : NotFound (wrongSumAt bytes) (entryCount bytes) 0
-  unfolding checkBundle
-  right-sums =
-      let right = no-fault (entryCount bytes) m (badHeader bytes) (firstBadEntry bytes) (badEnd bytes) (firstBadSum bytes) sound in
-      first-none (wrongSumAt bytes) (entryCount bytes) 0 (right .4)
+  right-sums = first-none (wrongSumAt bytes) (entryCount bytes) 0 (sound-parts .4)
 
 -- The first n bytes of a bundle say the same as the whole of all that stands in them.
 module _ (bytes : List ℕ) (n : ℕ) where

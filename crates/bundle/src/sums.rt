@@ -3,7 +3,8 @@ use std::num::wrapping_add_u32;
 use std::num::wrapping_sub_u32;
 ghost use Prim.Native.Nat.{_+_, _*_, _%_};
 ghost use mathlib.Core.Path.{_≡_};
-ghost use Rattle.model.specs.Bundles.{bodySum};
+ghost use mathlib.Core.List.{[], _∷_};
+ghost use Rattle.model.specs.Bundles.{sumFrom, bodySum};
 
 // Twice a number, modulo 2^32.
 fn twice(s: u32) -> u32
@@ -22,7 +23,7 @@ pub fn times_31(s: u32) -> u32
 
 // The sum with one byte more: "each body byte replaces it by 31 × sum + byte modulo 4,294,967,296".
 pub fn with_byte(s: u32, b: u8) -> u32
-    ensures { λ r. ⌜ r ≡ (31 * s + b) % 4_294_967_296 ⌝ }
+    ensures { λ r. ⌜ r ≡ sumFrom s (b ∷ []) ⌝ }
 {
     wrapping_add_u32(times_31(s), wide(b))
 }

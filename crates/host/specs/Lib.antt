@@ -2,4 +2,4 @@
 pub mod Messages
 pub mod Quorums
 pub mod Waiting
-pub mod Writing
+pub mod BundleWriting

@@ -1,5 +1,5 @@
 // What a host in Rust or C calls: the exported functions of the static library. Each takes any numbers and any bytes, and its
-// contract fixes the result by document 01's definitions. In C a slice is a pointer and a length, an array the pointer alone.
+// contract fixes the result by the documents' definitions. In C a slice is a pointer and a length, an array the pointer alone.
 use basics::codes::code_of;
 use basics::codes::letter_of;
 use basics::quorums::is_enough;
@@ -30,7 +30,7 @@ ghost use Rattle.replay.specs.Promises.{Replayed};
 ghost use Rattle.host.specs.Messages.{replyWords, ToldOpening, ToldCall};
 ghost use Rattle.host.specs.Quorums.{Fewest};
 ghost use Rattle.host.specs.Waiting.{numberOf, ToldList};
-ghost use Rattle.host.specs.Writing.{numberOfWrite, ToldWriting};
+ghost use Rattle.host.specs.BundleWriting.{numberOfWrite, ToldWriting};
 
 // How many words a reply has: its letter, and the four values of the longest.
 pub const REPLY_WORDS: usize = 5;

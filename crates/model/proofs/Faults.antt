@@ -6,7 +6,7 @@ use mathlib.Core.Option.{Option, none, some}
 use Rattle.model.specs.Types.{Refusal}
 use Rattle.model.specs.Bundles.{Fault, unlessFault}
 
--- of the answer, or of the fault
+-- a function of the answer is the answer made of the function's values
 pub fault-told : {A B : Type 0} (f : A → B) (refused : Refusal → ℕ → A) (answer : A) (fs : List Fault)
     → f (unlessFault refused answer fs) ≡ unlessFault (λ r i. f (refused r i)) (f answer) fs
 fault-told f refused answer [] = refl

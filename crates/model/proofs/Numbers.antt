@@ -7,12 +7,12 @@ use mathlib.Core.List.{List, [], _∷_, _++_}
 use lib.ListN.{length, take, drop, length-drop}
 use lib.Seq.{getD-drop}
 use Rattle.model.specs.Bundles.{numberAt}
-use Rattle.model.specs.Writing.{numberBytes, Bytes, numbersOf}
+use Rattle.model.specs.Writing.{numberBytes, Bytes}
 
--- how many bytes a number takes
-pub number-length : (width x : ℕ) → length (numberBytes width x) ≡ width
-number-length zero x = refl
-number-length (suc width) x = ap suc (number-length width _)
+-- how many numbers so many bytes can tell
+abbrev pub numberLimit : ℕ → ℕ
+numberLimit zero = 1
+numberLimit (suc width) = 256 * numberLimit width
 
 -- bytes behind a place are bytes
 pub dropped-bytes : (bytes : List ℕ) (at : ℕ) → Bytes bytes → Bytes (drop at bytes)
@@ -33,13 +33,13 @@ number-drop : (width : ℕ) (bytes : List ℕ) (at : ℕ) → numberAt width byt
 number-drop width bytes at = let here : at ≡ at + 0 = omega arith in ap (numberAt width bytes) here ∙ number-from width bytes at 0
 
 -- What is written is read.
-front-read : (width x : ℕ) (rest : List ℕ) → x < numbersOf width → numberAt width (numberBytes width x ++ rest) 0 ≡ x
+front-read : (width x : ℕ) (rest : List ℕ) → x < numberLimit width → numberAt width (numberBytes width x ++ rest) 0 ≡ x
 front-read zero x rest h = omega arith
 front-read (suc width) x rest h =
     let tail = numberBytes width (x / 256) ++ rest in
     omega (arith, number-behind width (x % 256) tail 0, front-read width (x / 256) rest (omega arith))
 
-pub number-read : (width x at : ℕ) (bytes rest : List ℕ) → x < numbersOf width → drop at bytes ≡ numberBytes width x ++ rest
+pub number-read : (width x at : ℕ) (bytes rest : List ℕ) → x < numberLimit width → drop at bytes ≡ numberBytes width x ++ rest
     → numberAt width bytes at ≡ x
 number-read width x at bytes rest h e = number-drop width bytes at ∙ rw e (front-read width x rest h)
 
@@ -65,3 +65,27 @@ pub number-bytes : (width x : ℕ) → Bytes (numberBytes width x)
 number-bytes zero x i = omega arith
 number-bytes (suc width) x zero = omega arith
 number-bytes (suc width) x (suc i) = number-bytes width (x / 256) i
+
+-- a number that is read of bytes fits in as many
+pub number-small : (width : ℕ) (bytes : List ℕ) (at : ℕ) → Bytes bytes → numberAt width bytes at < numberLimit width
+number-small zero bytes at small = omega arith
+number-small (suc width) bytes at small = omega (arith, small at, number-small width bytes (at + 1) small)
+
+-- bytes before bytes
+pub no-bytes : Bytes []
+no-bytes i = omega arith
+
+pub one-byte : (b : ℕ) → b < 256 → (bytes : List ℕ) → Bytes bytes → Bytes (b ∷ bytes)
+one-byte b small bytes behind zero = small
+one-byte b small bytes behind (suc i) = behind i
+
+pub more-bytes : (xs ys : List ℕ) → Bytes xs → Bytes ys → Bytes (xs ++ ys)
+more-bytes [] ys small behind = behind
+more-bytes (x ∷ xs) ys small behind = one-byte x (small 0) (xs ++ ys) (more-bytes xs ys (λ i. small (suc i)) behind)
+
+-- the first of bytes are bytes
+pub taken-bytes : (bytes : List ℕ) (n : ℕ) → Bytes bytes → Bytes (take n bytes)
+taken-bytes bytes zero small i = omega arith
+taken-bytes [] (suc n) small i = omega arith
+taken-bytes (b ∷ bytes) (suc n) small zero = small 0
+taken-bytes (b ∷ bytes) (suc n) small (suc i) = taken-bytes bytes n (λ k. small (suc k)) i

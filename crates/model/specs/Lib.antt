@@ -1,4 +1,4 @@
--- Document 01 as definitions: all that a reader must believe, in reading order.
+-- Documents 01 and 02 as definitions: all that a reader must believe, in reading order.
 pub mod Types
 pub mod Basics
 pub mod Records

@@ -1,4 +1,4 @@
--- Document 01's letter, number and values of each answer; and which answers a call allows.
+-- The documents' letter, number and values of each answer; and which answers a call allows.
 use Prim.Native.Nat.{ℕ}
 use mathlib.Core.Path.{_≡_}
 use mathlib.Core.List.{List, [], _∷_}

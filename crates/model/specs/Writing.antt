@@ -11,22 +11,13 @@ abbrev pub numberBytes : ℕ → ℕ → List ℕ
 numberBytes zero x = []
 numberBytes (suc width) x = x % 256 ∷ numberBytes width (x / 256)
 
--- how many numbers so many bytes can tell
-abbrev pub numbersOf : ℕ → ℕ
-numbersOf zero = 1
-numbersOf (suc width) = 256 * numbersOf width
-
--- a list of bytes: of numbers below 256
-abbrev pub Bytes : List ℕ → Type 0
-Bytes bytes = (i : ℕ) → getD bytes i 0 < 256
-
 -- "Kind 0 is the opening page: n, f, k (1 byte each), 32 balances (4 each)."
 abbrev pub balanceBytes : List ℕ → List ℕ
 balanceBytes [] = []
 balanceBytes (b ∷ bs) = numberBytes 4 b ++ balanceBytes bs
 
-abbrev pub openingPage : Opening → Page
-openingPage o =
+abbrev pub pageZero : Opening → Page
+pageZero o =
     record { kind = 0; seat = 0; body = o .seats ∷ o .faults ∷ o .accounts ∷ balanceBytes (o .balances) }
 
 -- "account (1), number (4), value (4), recipient (1)"
@@ -44,23 +35,20 @@ messagePage (Inquiry a) = record { kind = 5; seat = 0; body = a .0 ∷ [] }
 
 -- "page 0 is the opening page"
 abbrev pub pagesOf : Opening → List Message → List Page
-pagesOf o ms = openingPage o ∷ map messagePage ms
+pagesOf o ms = pageZero o ∷ map messagePage ms
 
 -- "kind (1), seat (1), start (2), sum (4)"
-abbrev pub contentsBytes : ContentsEntry → List ℕ
-contentsBytes c = (c .kind ∷ c .seat ∷ []) ++ numberBytes 2 (c .start) ++ numberBytes 4 (c .sum)
+abbrev pub entryBytes : ContentsEntry → List ℕ
+entryBytes c = (c .kind ∷ c .seat ∷ []) ++ numberBytes 2 (c .start) ++ numberBytes 4 (c .sum)
 
 -- the entry of a page whose body starts at a place
-abbrev pub contentsEntry : ℕ → Page → ContentsEntry
-contentsEntry start p = record { kind = p .kind; seat = p .seat; start = start; sum = bodySum (p .body) }
-
-abbrev pub entryBytes : ℕ → Page → List ℕ
-entryBytes start p = contentsBytes (contentsEntry start p)
+abbrev pub entryFor : ℕ → Page → ContentsEntry
+entryFor start p = record { kind = p .kind; seat = p .seat; start = start; sum = bodySum (p .body) }
 
 -- the entries of pages, of which the first has its body at a place, "each next where the one before it ends"
 abbrev pub contentsOf : ℕ → List Page → List ℕ
 contentsOf start [] = []
-contentsOf start (p ∷ ps) = entryBytes start p ++ contentsOf (start + length (p .body)) ps
+contentsOf start (p ∷ ps) = entryBytes (entryFor start p) ++ contentsOf (start + length (p .body)) ps
 
 -- "then the bodies in that order"
 abbrev pub bodiesOf : List Page → List ℕ
@@ -75,10 +63,17 @@ bundleOf ps = numberBytes 2 (length ps) ++ contentsOf (2 + 8 * length ps) ps ++ 
 unfoldable pub written : Opening → List Message → List ℕ
 written o ms = bundleOf (pagesOf o ms)
 
--- "18 if there are more than 999 messages. 19 if the buffer is shorter than the bundle; 18 is tried first."
+-- "18 if there are more than 999 messages."
+abbrev pub tooMany : ℕ → Fault
+tooMany count = (ofWhole (ltb 999 count), TooManyMessages)
+
+-- "19 if the buffer is shorter than the bundle"
+abbrev pub noRoom : List ℕ → ℕ → Fault
+noRoom bundle room = (ofWhole (ltb room (length bundle)), NoRoom)
+
+-- "18 is tried first"
 abbrev pub writeFaults : ℕ → List ℕ → ℕ → List Fault
-writeFaults count bundle room =
-    (ofWhole (ltb 999 count), TooManyMessages) ∷ (ofWhole (ltb room (length bundle)), NoRoom) ∷ []
+writeFaults count bundle room = tooMany count ∷ noRoom bundle room ∷ []
 
 -- "replies the bundle's length"
 abbrev pub writeReply : List Fault → List ℕ → WriteReply
@@ -88,3 +83,7 @@ writeReply faults bundle = unlessFault WriteRefused (Written (length bundle)) fa
 abbrev pub bufferAfter : WriteReply → List ℕ → List ℕ → List ℕ
 bufferAfter (Written size) bundle before = bundle ++ drop size before
 bufferAfter (WriteRefused r i) bundle before = before
+
+-- a list of bytes: of numbers below 256
+abbrev pub Bytes : List ℕ → Type 0
+Bytes bytes = (i : ℕ) → getD bytes i 0 < 256

@@ -1,5 +1,5 @@
 -- One page: what is written of it is read, how long its body is, that its entry is right wherever it stands, and that all of it is bytes.
-use Prim.Native.Nat.{ℕ, zero, suc, _+_, _*_, _%_, _≤_, _<_}
+use Prim.Native.Nat.{ℕ, suc, _+_, _*_, _%_, _≤_, _<_}
 use native.Mathlib.Omega.{arith}
 use mathlib.Core.Path.{_≡_, refl, ap, sym, _∙_}
 use mathlib.Core.Bool.{false}
@@ -14,8 +14,8 @@ use Rattle.model.specs.declared.Opening.{Opening}
 use Rattle.model.specs.declared.Message.{Message}
 use Rattle.model.specs.declared.Message.the-variants.{Request, Circulated, Ack, Decision, Inquiry}
 use Rattle.model.specs.Bundles.{bodyLength, sumFrom, bodySum, Page, wrongEntry, balancesFrom, openingOf, transferOf, messageOf}
-use Rattle.model.specs.Writing.{numberBytes, Bytes, balanceBytes, openingPage, transferBytes, messagePage}
-use Rattle.model.proofs.Numbers.{number-read, number-bytes}
+use Rattle.model.specs.Writing.{numberBytes, Bytes, balanceBytes, pageZero, transferBytes, messagePage}
+use Rattle.model.proofs.Numbers.{number-read, number-bytes, no-bytes, one-byte, more-bytes}
 use Rattle.writer.specs.RoundTrips.{TransferFits, MessageFits, OpeningFits}
 
 -- a transfer's ten bytes
@@ -36,7 +36,7 @@ message-read (Decision t) fits = rw (transfer-read t fits)
 message-read (Inquiry a) fits = refl
 
 -- so many balances of four bytes
-pub balances-length : (bs : List ℕ) → length (balanceBytes bs) ≡ 4 * length bs
+balances-length : (bs : List ℕ) → length (balanceBytes bs) ≡ 4 * length bs
 balances-length [] = refl
 balances-length (b ∷ bs) = omega (arith, balances-length bs)
 
@@ -51,11 +51,11 @@ balances-read (b ∷ bs) at bytes small e =
     )
 
 -- an opening page is read as it was written
-pub opening-read : (o : Opening) → OpeningFits o → openingOf (openingPage o .body) ≡ o
+pub opening-read : (o : Opening) → OpeningFits o → openingOf (pageZero o .body) ≡ o
 opening-read o fits =
-    let balances : balancesFrom 32 3 (openingPage o .body) ≡ o .balances =
-    ap (λ n. balancesFrom n 3 (openingPage o .body)) (sym (fits .count))
-    ∙ balances-read (o .balances) 3 (openingPage o .body) (fits .balances) refl in
+    let balances : balancesFrom 32 3 (pageZero o .body) ≡ o .balances =
+    ap (λ n. balancesFrom n 3 (pageZero o .body)) (sym (fits .count))
+    ∙ balances-read (o .balances) 3 (pageZero o .body) (fits .balances) refl in
     ap (λ bs. record { seats = o .seats; faults = o .faults; accounts = o .accounts; balances = bs }) balances
 
 -- What a page has wherever it stands in a bundle: a body of its kind's length, and an entry that is right with its start.
@@ -63,7 +63,7 @@ pub record Right (i : ℕ) (p : Page) : Type 0 where
   pub size : length (p .body) ≡ bodyLength (p .kind)
   pub entry : (start sum : ℕ) → wrongEntry i start (record { kind = p .kind; seat = p .seat; start = start; sum = sum }) ≡ false
 
-pub opening-right : (o : Opening) → length (o .balances) ≡ 32 → Right 0 (openingPage o)
+pub opening-right : (o : Opening) → length (o .balances) ≡ 32 → Right 0 (pageZero o)
 opening-right o count =
     record { size = omega (arith, balances-length (o .balances)); entry = λ start sum. rw (eq-eqb start start refl) }
 
@@ -89,18 +89,6 @@ sum-from s (b ∷ body) h = sum-from ((31 * s + b) % 4_294_967_296) body (omega 
 
 pub sum-below : (body : List ℕ) → bodySum body < 4_294_967_296
 sum-below body = sum-from 0 body (omega arith)
-
--- bytes before bytes
-pub no-bytes : Bytes []
-no-bytes i = omega arith
-
-pub one-byte : (b : ℕ) → b < 256 → (bytes : List ℕ) → Bytes bytes → Bytes (b ∷ bytes)
-one-byte b small bytes behind zero = small
-one-byte b small bytes behind (suc i) = behind i
-
-pub more-bytes : (xs ys : List ℕ) → Bytes xs → Bytes ys → Bytes (xs ++ ys)
-more-bytes [] ys small behind = behind
-more-bytes (x ∷ xs) ys small behind = one-byte x (small 0) (xs ++ ys) (more-bytes xs ys (λ i. small (suc i)) behind)
 
 -- What of a page is written is bytes.
 pub record PageBytes (p : Page) : Type 0 where
@@ -129,7 +117,7 @@ balance-bytes : (bs : List ℕ) → Bytes (balanceBytes bs)
 balance-bytes [] = no-bytes
 balance-bytes (b ∷ bs) = more-bytes (numberBytes 4 b) (balanceBytes bs) (number-bytes 4 b) (balance-bytes bs)
 
-pub opening-bytes : (o : Opening) → OpeningFits o → PageBytes (openingPage o)
+pub opening-bytes : (o : Opening) → OpeningFits o → PageBytes (pageZero o)
 opening-bytes o fits =
     let balances = balanceBytes (o .balances) in
     record {

@@ -11,20 +11,15 @@ use lib.Seq.{take-all, drop-cons, drop-drop, take-add}
 use Rattle.model.specs.declared.Message.{Message}
 use Rattle.model.specs.declared.Message.the-variants.{Request, Circulated, Ack, Decision, Inquiry}
 use Rattle.model.specs.Records.{seatOf, accountOf}
-use Rattle.model.specs.Bundles.{Page, numberAt, bodyLength, balancesFrom, openingOf, transferOf, messageOf}
-use Rattle.model.specs.Writing.{numbersOf, Bytes, balanceBytes, openingPage, transferBytes, messagePage}
-use Rattle.model.proofs.Numbers.{number-written}
+use Rattle.model.specs.Bundles.{Page, bodyLength, balancesFrom, openingOf, transferOf, messageOf}
+use Rattle.model.specs.Writing.{Bytes, balanceBytes, pageZero, transferBytes, messagePage}
+use Rattle.model.proofs.Numbers.{number-written, number-small}
 use Rattle.bundle.proofs.Longest.{no-difference}
 use Rattle.writer.specs.RoundTrips.{TransferFits, MessageFits, OpeningFits}
 
 -- a byte at a place, by itself
 byte-there : (bytes : List ℕ) (at : ℕ) → at < length bytes → getD bytes at 0 ∷ [] ≡ take 1 (drop at bytes)
 byte-there bytes at h = rw (drop-cons bytes at 0 h)
-
--- a number that is read of bytes fits in as many
-number-small : (width : ℕ) (bytes : List ℕ) (at : ℕ) → Bytes bytes → numberAt width bytes at < numbersOf width
-number-small zero bytes at small = omega arith
-number-small (suc width) bytes at small = omega (arith, small at, number-small width bytes (at + 1) small)
 
 -- the same parts make the same whole
 pub joined : {a b c d : List ℕ} → a ≡ c → b ≡ d → a ++ b ≡ c ++ d
@@ -69,7 +64,7 @@ module _ (body : List ℕ) (small : Bytes body) where
   balances-small (suc left) at (suc i) = balances-small left (at + 4) i
 
   -- an opening page
-  opening-back : length body ≡ 131 → openingPage (openingOf body) .body ≡ body
+  opening-back : length body ≡ 131 → pageZero (openingOf body) .body ≡ body
   opening-back size =
       let left = length-drop 3 body in
       three-first body (omega arith) (balances-back 32 3 (omega arith) ∙ take-all 128 (drop 3 body) (omega arith))
@@ -89,7 +84,7 @@ page-of-parts p k s b = rw (← k, ← s, b)
 
 -- an opening page with a whole body and no seat
 pub first-back : (p : Page) → p .kind ≡ 0 → p .seat ≡ 0 → Bytes (p .body) → length (p .body) ≡ 131
-    → openingPage (openingOf (p .body)) ≡ p
+    → pageZero (openingOf (p .body)) ≡ p
 first-back p k s small size = page-of-parts p k s (opening-back (p .body) small size)
 
 -- What a page is read as, written, is the page; and it fits.

@@ -14,19 +14,12 @@ use Rattle.model.specs.declared.Opening.{Opening}
 use Rattle.model.specs.declared.Message.{Message}
 use Rattle.model.specs.declared.BundleReply.the-variants.{Sound}
 use Rattle.model.specs.Bundles.{Page, numberAt, entryCount, contentsAt, bodyLength, startAt, misplaced, pageAt, checkBundle, bodySum, taken, readNext, openingOf, messageOf}
-use Rattle.model.specs.Writing.{numberBytes, Bytes, openingPage, messagePage, entryBytes, contentsOf, bodiesOf, bundleOf, written}
-use Rattle.model.proofs.Numbers.{number-written, dropped-bytes}
+use Rattle.model.specs.Writing.{numberBytes, Bytes, pageZero, messagePage, entryBytes, entryFor, contentsOf, bodiesOf, bundleOf, written}
+use Rattle.model.proofs.Numbers.{number-written, dropped-bytes, taken-bytes}
 use Rattle.model.proofs.Sums.{impossible}
 use Rattle.bundle.proofs.Longest.{few-entries, right-entries, right-end, right-sums, right-entry, kind-later, no-difference, wrongAt}
-use Rattle.writer.specs.RoundTrips.{AllFit, ReadsFrom, WritesBack, ReadThenWrite, ReadOnce}
+use Rattle.writer.specs.RoundTrips.{AllFit, ReadsFrom, WritesBack, ReadThenWrite, Reads}
 use Rattle.writer.proofs.PagesBack.{joined, opening-fits, first-back, PageBack, page-back}
-
--- the first bytes of bytes are bytes
-taken-bytes : (bytes : List ℕ) (n : ℕ) → Bytes bytes → Bytes (take n bytes)
-taken-bytes bytes zero small i = omega arith
-taken-bytes [] (suc n) small i = omega arith
-taken-bytes (b ∷ bytes) (suc n) small zero = small 0
-taken-bytes (b ∷ bytes) (suc n) small (suc i) = taken-bytes bytes n (λ k. small (suc k)) i
 
 -- two bytes at a place
 bytes-there : (bytes : List ℕ) (at next : ℕ) → next ≡ suc at → next < length bytes
@@ -76,8 +69,8 @@ one-from bytes i (m ∷ ms) (n ∷ ns) r s =
     let others = one-from bytes (i + 1) ms ns (r .3) (s .3) in
     cc
 
--- so a bundle is read as one page and one list
-pub read-once : ReadOnce
+-- so any bytes are read as one page and one list
+read-once : (bytes : List ℕ) (o q : Opening) (ms ns : List Message) → Reads bytes o ms → Reads bytes q ns → (o ≡ q) × (ms ≡ ns)
 read-once bytes o q ms ns r s =
     let page : r .page .0 ≡ s .page .0 = cc (r .page .1, s .page .1) in
     (cc (page, r .page .2, s .page .2), one-from bytes 1 ms ns (r .messages) (s .messages))
@@ -128,7 +121,7 @@ module _ (bytes : List ℕ) (m : ℕ) (small : Bytes bytes) (sound : checkBundle
         let behind = ap (λ (at : ℕ). drop at bytes) there ∙ sym (drop-drop n (2 + 8 * i) bytes) in
         ap (numberBytes width) (sym e) ∙ number-written width bytes place small (omega arith) ∙ ap (take width) behind
 
-    entry-there : entryBytes (startAt bytes i) (pageAt bytes i) ≡ take 8 (drop (2 + 8 * i) bytes)
+    entry-there : entryBytes (entryFor (startAt bytes i) (pageAt bytes i)) ≡ take 8 (drop (2 + 8 * i) bytes)
     entry-there =
         let entry = entry-inside in
         let here = drop (2 + 8 * i) bytes in
@@ -208,7 +201,7 @@ module _ (bytes : List ℕ) (m : ℕ) (small : Bytes bytes) (sound : checkBundle
       (page .0 ∷ others .0, one-more (omega arith) (page .1) (others .1))
 
   -- page 0 is that of the opening which it is read as
-  page-zero : openingPage (openingOf (pageAt bytes 0 .body)) ≡ pageAt bytes 0
+  page-zero : pageZero (openingOf (pageAt bytes 0 .body)) ≡ pageAt bytes 0
   page-zero =
       let few = few-entries bytes m sound in
       let inside : 0 < entryCount bytes = omega arith in
@@ -226,11 +219,13 @@ module _ (bytes : List ℕ) (m : ℕ) (small : Bytes bytes) (sound : checkBundle
       let asked = all-asked left 0 (omega arith) in
       let ms = asked .0 in
       let pages = listed page-zero (asked .1 .pages) ∙ ap (λ (n : ℕ). pagesFrom bytes n 0) e in
+      let reads : Reads bytes o ms = record { page = (p, page-taken bytes 0 (omega arith), refl); messages = asked .1 .reads } in
       let count = sym (length-map ms messagePage) ∙ ap length (asked .1 .pages) ∙ pages-length bytes left 1 in (
         o,
         ms,
         record {
-          reads = record { page = (p, page-taken bytes 0 (omega arith), refl); messages = asked .1 .reads };
+          reads = reads;
+          only = λ q ns other. read-once bytes q o ns ms other reads;
           page = opening-fits (p .body) (body-small 0 (omega arith));
           messages = asked .1 .fits;
           count = omega arith;

@@ -8,7 +8,7 @@ use Rattle.model.specs.Records.{accountOf}
 use Rattle.model.specs.Replies.{valuesOfWrite}
 use Rattle.model.specs.Writing.{writeReply}
 use Rattle.model.proofs.Rows.{slip, ackBy}
-use Rattle.writer.specs.Records.{messagesOf, recordFaults}
+use Rattle.writer.specs.RecordLists.{messagesOf, recordFaults}
 
 -- a record of a kind and a seat, with the slip (2, 1, 4, 3) or, of a question, account 2 and nine bytes that are not read
 abbrev item : ℕ → ℕ → List ℕ

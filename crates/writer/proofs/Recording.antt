@@ -4,7 +4,7 @@ use native.Mathlib.Nat.{sub-zero}
 use native.Mathlib.Numerals.{add-one}
 use native.Mathlib.Omega.{arith}
 use borrow.Author.Tests.{lt-ltb, le-ltb, eq-eqb, ne-eqb}
-use mathlib.Core.Path.{_≡_, refl, ap, sym, _∙_}
+use mathlib.Core.Path.{_≡_, ap, sym, _∙_}
 use mathlib.Core.Logic.{_≢_}
 use mathlib.Core.List.{List, _++_, append-nil}
 use mathlib.Core.Option.{none, some}
@@ -15,9 +15,9 @@ use Rattle.model.specs.declared.WriteReply.{WriteReply}
 use Rattle.model.specs.declared.WriteReply.the-variants.{WriteRefused}
 use Rattle.model.specs.declared.Refusal.the-variants.{BadContents, BadEnd, TooManyMessages}
 use Rattle.model.specs.Writing.{writeFaults}
-use Rattle.writer.specs.Promises.{Wrote}
-use Rattle.writer.specs.Records.{recordCount, firstWrong, messageIn, messagesFrom, recordFaults}
-use Rattle.writer.proofs.Bundling.{wrote}
+use Rattle.writer.specs.Promises.{WroteBundle}
+use Rattle.writer.specs.RecordLists.{recordCount, firstWrong, messageIn, messagesFrom, recordFaults}
+use Rattle.writer.proofs.Bundling.{wrote, refused}
 
 -- the messages of the records before the i-th are in the array, and with those of the others they are all
 pub record ReadTo (records : List ℕ) (count : ℕ) (messages : List Message) (i : ℕ) : Type 0 where
@@ -50,26 +50,24 @@ module _ {records : List ℕ} {count : ℕ} {messages : List Message} {i : ℕ} 
 -- the outcomes before the writer itself is asked, in their order
 module _ (records bundle before : List ℕ) where
   pub records-too-many : 999 < recordCount records
-      → Wrote (recordFaults records bundle (length before)) bundle before (WriteRefused TooManyMessages 0) before
-  records-too-many over = wrote _ bundle before (rw (lt-ltb 999 (recordCount records) over)) refl
+      → WroteBundle (recordFaults records bundle (length before)) bundle before (WriteRefused TooManyMessages 0) before
+  records-too-many over = refused (rw (lt-ltb 999 (recordCount records) over))
 
   module _ (few : recordCount records ≤ 999) where
     pub record-wrong : {i : ℕ} → firstWrong records ≡ some i
-        → Wrote (recordFaults records bundle (length before)) bundle before (WriteRefused BadContents (i + 1)) before
-    record-wrong {i} wrong = wrote _ bundle before (rw (le-ltb 999 (recordCount records) few, wrong, add-one i)) refl
+        → WroteBundle (recordFaults records bundle (length before)) bundle before (WriteRefused BadContents (i + 1)) before
+    record-wrong {i} wrong = refused (rw (le-ltb 999 (recordCount records) few, wrong, add-one i))
 
     module _ (right : firstWrong records ≡ none) where
       pub last-wrong : length records % 12 ≢ 0
-          → Wrote (recordFaults records bundle (length before)) bundle before (WriteRefused BadEnd 0) before
+          → WroteBundle (recordFaults records bundle (length before)) bundle before (WriteRefused BadEnd 0) before
       last-wrong piece =
-          wrote _ bundle before (rw (le-ltb 999 (recordCount records) few, right, ne-eqb (length records % 12) 0 piece)) refl
+          refused (rw (le-ltb 999 (recordCount records) few, right, ne-eqb (length records % 12) 0 piece))
 
       -- then only 19 is left, as it is for the writer
       pub records-whole : {r : WriteReply} {after : List ℕ} → length records % 12 ≡ 0
-          → Wrote (writeFaults (recordCount records) bundle (length before)) bundle before r after
-          → Wrote (recordFaults records bundle (length before)) bundle before r after
+          → WroteBundle (writeFaults (recordCount records) bundle (length before)) bundle before r after
+          → WroteBundle (recordFaults records bundle (length before)) bundle before r after
       records-whole whole w =
           let test = le-ltb 999 (recordCount records) few in
-          wrote _ bundle before
-          (w .meets ∙ rw (test, right, eq-eqb (length records % 12) 0 whole))
-          (w .buffer)
+          wrote (w .meets ∙ rw (test, right, eq-eqb (length records % 12) 0 whole)) (w .buffer) (w .short)

@@ -15,7 +15,7 @@ use Rattle.model.proofs.Rows.{slip, ackBy, pageWith}
 use Rattle.bundle.proofs.Longest.{at-most}
 use Rattle.writer.specs.RoundTrips.{TransferFits, AllFit, OpeningFits, ReadsBack, WritesBack}
 use Rattle.writer.proofs.WriteThenRead.{write-then-read}
-use Rattle.writer.proofs.ReadThenWrite.{read-then-write, read-once}
+use Rattle.writer.proofs.ReadThenWrite.{read-then-write}
 
 abbrev page : Opening
 page = pageWith 6 1 (10 ∷ 4_294_967_285 ∷ [])
@@ -43,9 +43,9 @@ messages-fit = (t-fits, (t-fits, ((omega arith, t-fits), (t-fits, (omega arith, 
 pub tried : ReadsBack page messages
 tried = write-then-read page messages page-fits messages-fit (omega arith)
 
--- and the second of what the first wrote
+-- and the second of what the first wrote: it was read as this page and this list
 pub tried-back : (o : Opening) × (ms : List Message) × WritesBack (written page messages) o ms
 tried-back = read-then-write (written page messages) 6 (tried .bytes) (tried .sound)
 
-pub tried-both : (tried-back .0 ≡ page) × (tried-back .1 ≡ messages)
-tried-both = read-once (written page messages) (tried-back .0) page (tried-back .1) messages (tried-back .2 .reads) (tried .reads)
+pub tried-both : (page ≡ tried-back .0) × (messages ≡ tried-back .1)
+tried-both = tried-back .2 .only page messages (tried .reads)

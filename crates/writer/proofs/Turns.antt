@@ -7,7 +7,8 @@ use lib.ListN.{length, getD, take, drop, length-append}
 use lib.Seq.{length-take-le, getD-take}
 use Rattle.model.specs.declared.Message.{Message}
 use Rattle.model.specs.Bundles.{Page, bodyLength}
-use Rattle.model.specs.Writing.{messagePage, entryBytes, contentsOf, bodiesOf}
+use Rattle.model.specs.Writing.{messagePage, entryBytes, entryFor, contentsOf, bodiesOf}
+use Rattle.writer.specs.Promises.{firstStart}
 use Rattle.basics.proofs.Loops.{one-left, none-left}
 use Rattle.basics.specs.Outputs.{Writes}
 use Rattle.basics.proofs.Writing.{within, Pieces, pieces-none, pieces-more, pieces-all}
@@ -37,10 +38,10 @@ module _ (messages : List Message) (count : ℕ) (there : count ≤ length messa
 -- The length of the bundle so far, which with the bodies that are left is the whole.
 pub record Measured (messages : List Message) (count i end : ℕ) : Type 0 where
   pub inside : i ≤ count
-  pub left : end + length (bodiesOf (pagesLeft messages count i)) ≡ 141 + 8 * count + length (bodiesOf (pagesLeft messages count 0))
-  pub low : end ≤ 141 + 8 * count + 10 * i
+  pub left : end + length (bodiesOf (pagesLeft messages count i)) ≡ firstStart count + length (bodiesOf (pagesLeft messages count 0))
+  pub low : end ≤ firstStart count + 10 * i
 
-pub measured-none : (messages : List Message) (count end : ℕ) → end ≡ 141 + 8 * count → Measured messages count 0 end
+pub measured-none : (messages : List Message) (count end : ℕ) → end ≡ firstStart count → Measured messages count 0 end
 measured-none messages count end e = record { inside = omega arith; left = omega arith; low = omega arith }
 
 module _ (messages : List Message) (count : ℕ) (there : count ≤ length messages) {i end : ℕ} (so-far : Measured messages count i end) where
@@ -55,7 +56,7 @@ module _ (messages : List Message) (count : ℕ) (there : count ≤ length messa
       let own : size ≡ length (messagePage m .body) = e ∙ message-size m in
       record { inside = omega arith; left = omega arith; low = omega (arith, so-far .low, message-short m) }
 
-  pub measured-all : count ≤ i → end ≡ 141 + 8 * count + length (bodiesOf (pagesLeft messages count 0))
+  pub measured-all : count ≤ i → end ≡ firstStart count + length (bodiesOf (pagesLeft messages count 0))
   measured-all over =
       let none-left = ap (λ ps. length (bodiesOf ps)) (none-turn messages count there i over) in
       omega (arith, so-far .left)
@@ -63,34 +64,34 @@ module _ (messages : List Message) (count : ℕ) (there : count ≤ length messa
 -- The entries of the messages before the i-th are written, and the i-th body starts here.
 pub record Entered (messages : List Message) (count : ℕ) (before : List ℕ) (at i start : ℕ) (out : List ℕ) (place : ℕ) : Type 0 where
   pub inside : i ≤ count
-  pub low : start ≤ 141 + 8 * count + 10 * i
+  pub low : start ≤ firstStart count + 10 * i
   pub writes :
-      Pieces before at (contentsOf (141 + 8 * count) (pagesLeft messages count 0)) (contentsOf start (pagesLeft messages count i)) (8 * i) out place
+      Pieces before at (contentsOf (firstStart count) (pagesLeft messages count 0)) (contentsOf start (pagesLeft messages count i)) (8 * i) out place
 
-pub entered-none : (messages : List Message) {count start : ℕ} (before : List ℕ) (at : ℕ) → start ≡ 141 + 8 * count
+pub entered-none : (messages : List Message) {count start : ℕ} (before : List ℕ) (at : ℕ) → start ≡ firstStart count
     → Entered messages count before at 0 start before at
 entered-none messages before at e = record { inside = omega arith; low = omega arith; writes = rw e pieces-none }
 
 module _ (messages : List Message) (count : ℕ) (there : count ≤ length messages) {before mid : List ℕ} {at i start place : ℕ}
     (so-far : Entered messages count before at i start mid place) where
   pub entered-more : {after : List ℕ} {r : ℕ} (d : Message) (size : ℕ) → i < count → size ≡ bodyLength (messagePage (getD messages i d) .kind)
-      → Writes mid place (entryBytes start (messagePage (getD messages i d))) 8 after r
+      → Writes mid place (entryBytes (entryFor start (messagePage (getD messages i d)))) 8 after r
       → Entered messages count before at (i + 1) (start + size) after r
   entered-more d size inside e entry =
       let m = getD messages i d in
       let own : size ≡ length (messagePage m .body) = e ∙ message-size m in
       let rest = contentsOf (start + size) (pagesLeft messages count (i + 1)) in
-      let one : contentsOf start (pagesLeft messages count i) ≡ entryBytes start (messagePage m) ++ rest =
+      let one : contentsOf start (pagesLeft messages count i) ≡ entryBytes (entryFor start (messagePage m)) ++ rest =
       ap (contentsOf start) (turn messages count there i d inside) ∙ rw (← own) in
       let bytes : 8 * i + 8 ≡ 8 * (i + 1) = omega arith in
       record {
         inside = omega arith;
         low = omega (arith, so-far .low, message-short m);
-        writes = rw bytes at (pieces-more (entryBytes start (messagePage m)) rest (rw one at (so-far .writes)) entry);
+        writes = rw bytes at (pieces-more (entryBytes (entryFor start (messagePage m))) rest (rw one at (so-far .writes)) entry);
       }
 
   pub entered-all : count ≤ i
-      → Writes before at (contentsOf (141 + 8 * count) (pagesLeft messages count 0)) (8 * count) mid place
+      → Writes before at (contentsOf (firstStart count) (pagesLeft messages count 0)) (8 * count) mid place
   entered-all over =
       let left = ap (contentsOf start) (none-turn messages count there i over) in
       within (omega (arith, so-far .inside)) (pieces-all (rw left at (so-far .writes)))

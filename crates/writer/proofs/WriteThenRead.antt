@@ -16,14 +16,14 @@ use Rattle.model.specs.declared.ContentsEntry.{ContentsEntry}
 use Rattle.model.specs.declared.BundleReply.the-variants.{Sound}
 use Rattle.model.specs.Basics.{firstWhere}
 use Rattle.model.specs.Bundles.{numberAt, entryCount, contentsAt, startAt, bodyLength, bodySum, Page, pageOf, pageAt, wrongEntry, badHeader, firstBadEntry, badEnd, wrongSumAt, firstBadSum, checkBundle, openingOf, messageOf}
-use Rattle.model.specs.Writing.{numberBytes, Bytes, openingPage, messagePage, pagesOf, entryBytes, contentsOf, bodiesOf, bundleOf, written}
-use Rattle.model.proofs.Numbers.{number-read, number-bytes}
+use Rattle.model.specs.Writing.{numberBytes, Bytes, pageZero, messagePage, pagesOf, entryBytes, entryFor, contentsOf, bodiesOf, bundleOf, written}
+use Rattle.model.proofs.Numbers.{number-read, number-bytes, no-bytes, one-byte, more-bytes}
 use Rattle.bundle.proofs.Longest.{wrongAt}
 use Rattle.writer.specs.RoundTrips.{AllFit, OpeningFits, ReadsFrom, ReadsBack, WriteThenRead}
-use Rattle.writer.proofs.Pages.{message-read, opening-read, Right, opening-right, message-right, message-short, sum-below, no-bytes, one-byte, more-bytes, PageBytes, message-bytes, opening-bytes}
+use Rattle.writer.proofs.Pages.{message-read, opening-read, Right, opening-right, message-right, message-short, sum-below, PageBytes, message-bytes, opening-bytes}
 
 -- how many bytes the contents and the bodies have
-pub entries-length : (start : ℕ) (ps : List Page) → length (contentsOf start ps) ≡ 8 * length ps
+entries-length : (start : ℕ) (ps : List Page) → length (contentsOf start ps) ≡ 8 * length ps
 entries-length start [] = refl
 entries-length start (p ∷ ps) = omega (arith, entries-length (start + length (p .body)) ps)
 
@@ -48,12 +48,12 @@ record Here (bytes after : List ℕ) (i s : ℕ) (ps : List Page) : Type 0 where
 module _ {bytes after : List ℕ} {i s : ℕ} {p : Page} {ps : List Page} (here : Here bytes after i s (p ∷ ps)) where
   -- behind the entry's first k bytes
   behind : (at k : ℕ) → at ≡ 2 + 8 * i + k
-      → drop at bytes ≡ drop k (entryBytes s p ++ contentsOf (s + length (p .body)) ps ++ after)
+      → drop at bytes ≡ drop k (entryBytes (entryFor s p) ++ contentsOf (s + length (p .body)) ps ++ after)
   behind at k e = rw (e, ← drop-drop k (2 + 8 * i) bytes, here .entries)
 
   module _ (right : Right i p) (small : s < 65_536) where
     -- the entry is read as it was written,
-    entry-read : contentsAt bytes i ≡ record { kind = p .kind; seat = p .seat; start = s; sum = bodySum (p .body) }
+    entry-read : contentsAt bytes i ≡ entryFor s p
     entry-read =
         let kind : getD bytes (2 + 8 * i) 0 ≡ p .kind = first-of bytes (2 + 8 * i) (behind (2 + 8 * i) 0 (omega arith)) in
         let seat : getD bytes (3 + 8 * i) 0 ≡ p .seat = first-of bytes (3 + 8 * i) (behind (3 + 8 * i) 1 (omega arith)) in
@@ -206,7 +206,7 @@ module _ (o : Opening) (ms : List Message) (fits : OpeningFits o) (fit : AllFit 
   bodies-short : length (bodiesOf (pagesOf o ms)) ≤ 131 + 10 * length ms
   bodies-short =
       let first = opening-right o (fits .count) .size in
-      let joined = length-append (openingPage o .body) (bodiesOf (map messagePage ms)) in
+      let joined = length-append (pageZero o .body) (bodiesOf (map messagePage ms)) in
       omega (arith, messages-short ms)
 
   reads-back : ReadsBack o ms
@@ -216,7 +216,7 @@ module _ (o : Opening) (ms : List Message) (fits : OpeningFits o) (fit : AllFit 
       let bytes = bundleOf ps in
       let many : length ps ≡ suc (length ms) = pages-count in
       let all : length (bodiesOf ps) ≤ 131 + 10 * length ms = bodies-short in
-      let joined = length-append (openingPage o .body) (bodiesOf (map messagePage ms)) in
+      let joined = length-append (pageZero o .body) (bodiesOf (map messagePage ms)) in
       let size : length bytes ≡ 2 + 8 * length ps + length (bodiesOf ps) = bundle-length ps in
       let count : entryCount bytes ≡ length ps = count-read ps (omega arith) in
       let start = at-first ps (omega arith) in

@@ -11,6 +11,7 @@ use Rattle.model.specs.declared.Message.the-variants.{Request, Circulated, Ack,
 use Rattle.model.specs.declared.BundleReply.the-variants.{Sound}
 use Rattle.model.specs.Bundles.{Page, checkBundle, taken, noMore, readNext, openingOf, messageOf}
 use Rattle.model.specs.Writing.{Bytes, written}
+use Rattle.bundle.specs.Promises.{longest}
 
 -- numbers that fit their types: one byte is below 256, four bytes are below 4,294,967,296
 pub record TransferFits (t : Transfer) : Type 0 where
@@ -53,7 +54,7 @@ pub record Reads (bytes : List ℕ) (o : Opening) (ms : List Message) : Type 0 w
 -- was written.
 pub record ReadsBack (o : Opening) (ms : List Message) : Type 0 where
   pub bytes : Bytes (written o ms)
-  pub short : length (written o ms) ≤ 18_123
+  pub short : length (written o ms) ≤ longest
   pub sound : checkBundle (written o ms) ≡ Sound (suc (length ms))
   pub reads : Reads (written o ms) o ms
 
@@ -61,9 +62,10 @@ pub record ReadsBack (o : Opening) (ms : List Message) : Type 0 where
 abbrev pub WriteThenRead : Type 0
 WriteThenRead = (o : Opening) (ms : List Message) → OpeningFits o → AllFit ms → length ms ≤ 999 → ReadsBack o ms
 
--- What a sound bundle is read as fits, too; and written, it is the same bytes.
+-- What a sound bundle is read as, and as nothing else, fits; and written, it is the same bytes.
 pub record WritesBack (bytes : List ℕ) (o : Opening) (ms : List Message) : Type 0 where
   pub reads : Reads bytes o ms
+  pub only : (q : Opening) (ns : List Message) → Reads bytes q ns → (q ≡ o) × (ns ≡ ms)
   pub page : OpeningFits o
   pub messages : AllFit ms
   pub count : length ms ≤ 999
@@ -73,8 +75,3 @@ pub record WritesBack (bytes : List ℕ) (o : Opening) (ms : List Message) : Typ
 abbrev pub ReadThenWrite : Type 0
 ReadThenWrite =
     (bytes : List ℕ) (m : ℕ) → Bytes bytes → checkBundle bytes ≡ Sound m → (o : Opening) × (ms : List Message) × WritesBack bytes o ms
-
--- and it is read as nothing else
-abbrev pub ReadOnce : Type 0
-ReadOnce =
-    (bytes : List ℕ) (o q : Opening) (ms ns : List Message) → Reads bytes o ms → Reads bytes q ns → (o ≡ q) × (ms ≡ ns)

@@ -4,7 +4,7 @@ use basics::output::put;
 use model::Message;
 use model::Opening;
 use model::Transfer;
-ghost use Rattle.model.specs.Writing.{balanceBytes, openingPage, transferBytes, messagePage};
+ghost use Rattle.model.specs.Writing.{balanceBytes, pageZero, transferBytes, messagePage};
 ghost use Rattle.basics.specs.Outputs.{Writes};
 
 // A transfer's ten bytes: account (1), number (4), value (4), recipient (1).
@@ -47,7 +47,7 @@ fn put_balances(out: &mut [u8], at: usize, balances: [u32; 32]) -> usize
 
 // The opening page's body: n, f, k, 32 balances.
 pub fn put_opening(out: &mut [u8], at: usize, page: Opening) -> usize
-    ensures { λ r. ⌜ Writes (now (out .entry)) at (openingPage page .body) 131 (now (out .exit)) r ⌝ }
+    ensures { λ r. ⌜ Writes (now (out .entry)) at (pageZero page .body) 131 (now (out .exit)) r ⌝ }
 {
     let balances = page.balances;
     let faults = put(out, at, page.seats);

@@ -8,7 +8,7 @@ use model::ContentsEntry;
 use model::Message;
 use model::Opening;
 ghost use mathlib.Core.Path.{_≡_};
-ghost use Rattle.model.specs.Writing.{openingPage, messagePage, contentsEntry, contentsBytes};
+ghost use Rattle.model.specs.Writing.{pageZero, messagePage, entryBytes, entryFor};
 ghost use Rattle.basics.specs.Outputs.{Writes};
 
 // A message's kind.
@@ -39,7 +39,7 @@ fn seat_of(m: Message) -> u8
 
 // The entry of a message whose body starts at a place.
 pub fn message_entry(m: Message, start: u16) -> ContentsEntry
-    ensures { λ r. ⌜ r ≡ contentsEntry start (messagePage m) ⌝ }
+    ensures { λ r. ⌜ r ≡ entryFor start (messagePage m) ⌝ }
 {
     ContentsEntry {
         kind: kind_of(m),
@@ -51,7 +51,7 @@ pub fn message_entry(m: Message, start: u16) -> ContentsEntry
 
 // The entry of the opening page.
 pub fn opening_entry(page: Opening, start: u16) -> ContentsEntry
-    ensures { λ r. ⌜ r ≡ contentsEntry start (openingPage page) ⌝ }
+    ensures { λ r. ⌜ r ≡ entryFor start (pageZero page) ⌝ }
 {
     ContentsEntry {
         kind: 0,
@@ -63,7 +63,7 @@ pub fn opening_entry(page: Opening, start: u16) -> ContentsEntry
 
 // An entry's eight bytes: kind (1), seat (1), start (2), sum (4).
 pub fn put_entry(out: &mut [u8], at: usize, c: ContentsEntry) -> usize
-    ensures { λ r. ⌜ Writes (now (out .entry)) at (contentsBytes c) 8 (now (out .exit)) r ⌝ }
+    ensures { λ r. ⌜ Writes (now (out .entry)) at (entryBytes c) 8 (now (out .exit)) r ⌝ }
 {
     let seat = put(out, at, c.kind);
     let start = put(out, seat, c.seat);

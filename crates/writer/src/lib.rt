@@ -11,13 +11,14 @@ use model::Opening;
 use model::Refusal;
 use model::WriteReply;
 use pages::contents::body_length;
-ghost use Prim.Native.Nat.{_+_, _*_, _≤_};
+ghost use Prim.Native.Nat.{suc, _+_, _*_, _≤_};
 ghost use mathlib.Core.Path.{_≡_};
 ghost use mathlib.Core.List.{map};
 ghost use lib.ListN.{length, take};
-ghost use Rattle.model.specs.Writing.{messagePage, contentsOf, bodiesOf, written, writeFaults};
+ghost use Rattle.model.specs.Writing.{messagePage, contentsOf, bodiesOf, written};
 ghost use Rattle.basics.specs.Outputs.{Writes};
-ghost use Rattle.writer.specs.Promises.{Wrote};
+ghost use Rattle.bundle.specs.Promises.{longest};
+ghost use Rattle.writer.specs.Promises.{WroteList, firstStart};
 
 mod bodies;
 mod contents;
@@ -28,18 +29,26 @@ mod sums;
 // The most messages that a bundle has, beside its opening page.
 pub const MOST_MESSAGES: usize = 999;
 
-// Where the first message's body starts: behind m, the entries of the opening page and of so many messages, and the opening page's body.
+// Where the contents end: behind m, and the entries of the opening page and of so many messages.
+fn contents_end(count: usize) -> usize
+    requires { ⌜ count ≤ 999 ⌝ }
+    ensures { λ r. ⌜ r ≡ 2 + 8 * suc count ⌝ }
+{
+    2 + 8 * (count + 1)
+}
+
+// Where the first message's body starts: behind the opening page's.
 fn first_start(count: usize) -> usize
     requires { ⌜ count ≤ 999 ⌝ }
-    ensures { λ r. ⌜ r ≡ 141 + 8 * count ⌝ }
+    ensures { λ r. ⌜ r ≡ firstStart count ⌝ }
 {
-    2 + 8 * (count + 1) + body_length(0)
+    contents_end(count) + body_length(0)
 }
 
 // The length of the bundle: where the last message's body ends.
 fn bundle_length(messages: [Message; MOST_MESSAGES], count: usize) -> usize
     requires { ⌜ count ≤ 999 ⌝ }
-    ensures { λ r. ⌜ r ≡ 141 + 8 * count + length (bodiesOf (map messagePage (take count messages))) ⌝ }
+    ensures { λ r. ⌜ r ≡ firstStart count + length (bodiesOf (map messagePage (take count messages))) ⌝ }
 {
     let mut end = first_start(count);
     let mut i: usize = 0;
@@ -53,7 +62,7 @@ fn bundle_length(messages: [Message; MOST_MESSAGES], count: usize) -> usize
 // The entries of the messages, each with the place where its body starts: "each next where the one before it ends".
 fn put_entries(out: &mut [u8], at: usize, messages: [Message; MOST_MESSAGES], count: usize) -> usize
     requires { ⌜ count ≤ 999 ⌝ }
-    ensures { λ r. ⌜ Writes (now (out .entry)) at (contentsOf (141 + 8 * count) (map messagePage (take count messages))) (8 * count) (now (out .exit)) r ⌝ }
+    ensures { λ r. ⌜ Writes (now (out .entry)) at (contentsOf (firstStart count) (map messagePage (take count messages))) (8 * count) (now (out .exit)) r ⌝ }
 {
     let mut start = first_start(count);
     let mut place = at;
@@ -89,9 +98,9 @@ fn put_bundle(
     count: usize,
 ) -> usize
     requires { ⌜ count ≤ 999 ⌝ }
-    ensures { λ r. ⌜ Writes (now (out .entry)) 0 (written page (take count messages)) 18_123 (now (out .exit)) r ⌝ }
+    ensures { λ r. ⌜ Writes (now (out .entry)) 0 (written page (take count messages)) longest (now (out .exit)) r ⌝ }
 {
-    let start = 2 + 8 * (count + 1);
+    let start = contents_end(count);
     let contents = put_number2(out, 0, (count + 1) as u16);
     let entries = put_entry(out, contents, opening_entry(page, start as u16));
     let bodies = put_entries(out, entries, messages, count);
@@ -100,14 +109,15 @@ fn put_bundle(
 }
 
 // Writes the bundle of a page and the first `count` of the messages into the front of the buffer that is lent, and replies its length; what stands
-// behind it stays. 18 for more than 999 messages, whatever the array holds; then 19 for a buffer that is shorter than the bundle: then all of it stays.
+// behind it stays. 18 for more than 999 messages, whatever the array holds; then 19 for a buffer that is shorter than the bundle. A refusal leaves the
+// buffer as it was.
 pub fn write(
     page: Opening,
     messages: [Message; MOST_MESSAGES],
     count: usize,
     out: &mut [u8],
 ) -> WriteReply
-    ensures { λ r. ⌜ Wrote (writeFaults count (written page (take count messages)) (length (now (out .entry)))) (written page (take count messages)) (now (out .entry)) r (now (out .exit)) ⌝ }
+    ensures { λ r. ⌜ WroteList page messages count (now (out .entry)) r (now (out .exit)) ⌝ }
 {
     if MOST_MESSAGES < count {
         return WriteReply::WriteRefused(Refusal::TooManyMessages, 0);

@@ -14,16 +14,15 @@ use pages::messages::message_from;
 ghost use Prim.Native.Nat.{_+_, _*_, _≤_};
 ghost use mathlib.Core.Path.{_≡_};
 ghost use lib.ListN.{length, take};
-ghost use Rattle.model.specs.Writing.{written};
 ghost use Rattle.basics.specs.Results.{searchOf};
 ghost use Rattle.pages.specs.Results.{asks};
-ghost use Rattle.writer.specs.Promises.{Wrote};
-ghost use Rattle.writer.specs.Records.{recordCount, wrongRecord, firstWrong, messageOr, messageIn, messagesFrom, messagesOf, recordFaults};
+ghost use Rattle.writer.specs.Promises.{WroteRecords};
+ghost use Rattle.writer.specs.RecordLists.{recordCount, wrongRecord, firstWrong, messageOr, messageIn, messagesFrom};
 
 // Kind, seat and ten bytes of a body.
 const RECORD_SIZE: usize = 12;
 
-// 14, of a record: what its entry in the contents would be, wherever its body starts.
+// 14, of a record: its entry in the contents would be wrong, wherever its body starts.
 fn is_wrong_record(records: &[u8], i: usize) -> bool
     requires { ⌜ 12 * i + 12 ≤ length (now records) ⌝ }
     ensures { λ r. ⌜ r ≡ wrongRecord (now (records .entry)) i ⌝ }
@@ -91,7 +90,7 @@ fn messages_in(records: &[u8], count: usize) -> [Message; MOST_MESSAGES]
 // Writes the bundle of a page and of the messages in the records, as `write` does. 18 for more than 999 whole records; then 14 with the entry of the
 // lowest record whose kind is no message's or that has a seat where its kind has none; 15 where the last record is not whole; 19.
 pub fn write_records(page: Opening, records: &[u8], out: &mut [u8]) -> WriteReply
-    ensures { λ r. ⌜ Wrote (recordFaults (now (records .entry)) (written page (messagesOf (now (records .entry)))) (length (now (out .entry)))) (written page (messagesOf (now (records .entry)))) (now (out .entry)) r (now (out .exit)) ⌝ }
+    ensures { λ r. ⌜ WroteRecords page (now (records .entry)) (now (out .entry)) r (now (out .exit)) ⌝ }
 {
     let count = records.len() / RECORD_SIZE;
     if MOST_MESSAGES < count {

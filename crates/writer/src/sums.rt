@@ -1,23 +1,22 @@
 // The sums of the bodies that are written, byte by byte as they stand in them.
+use crate::numbers::bytes4;
 use bundle::sums::with_byte;
 use model::Message;
 use model::Opening;
 use model::Transfer;
 ghost use mathlib.Core.Path.{_≡_};
 ghost use Rattle.model.specs.Bundles.{sumFrom, bodySum};
-ghost use Rattle.model.specs.Writing.{numberBytes, balanceBytes, openingPage, transferBytes, messagePage};
+ghost use Rattle.model.specs.Writing.{numberBytes, balanceBytes, pageZero, transferBytes, messagePage};
 
 // The sum with the four bytes of a number more.
 fn with_number4(s: u32, x: u32) -> u32
     ensures { λ r. ⌜ r ≡ sumFrom s (numberBytes 4 x) ⌝ }
 {
-    let x1 = x / 256;
-    let x2 = x1 / 256;
-    let x3 = x2 / 256;
-    let one = with_byte(s, (x % 256) as u8);
-    let two = with_byte(one, (x1 % 256) as u8);
-    let three = with_byte(two, (x2 % 256) as u8);
-    with_byte(three, (x3 % 256) as u8)
+    let b = bytes4(x);
+    let one = with_byte(s, b[0]);
+    let two = with_byte(one, b[1]);
+    let three = with_byte(two, b[2]);
+    with_byte(three, b[3])
 }
 
 // The sum of a transfer's ten bytes.
@@ -58,7 +57,7 @@ fn with_balances(s: u32, balances: [u32; 32]) -> u32
 
 // The sum of the opening page's body.
 pub fn opening_sum(page: Opening) -> u32
-    ensures { λ r. ⌜ r ≡ bodySum (openingPage page .body) ⌝ }
+    ensures { λ r. ⌜ r ≡ bodySum (pageZero page .body) ⌝ }
 {
     let balances = page.balances;
     let seats = with_byte(0, page.seats);

@@ -127,6 +127,7 @@ fn try_random(checks: &mut Checks, tallies: &mut Tallies, options: &Options, ind
 
 /// Each edge once, through the program as well, its waiting list, and what is read of it written out again.
 fn try_edges(checks: &mut Checks, options: &Options) {
+    let mut sound = 0;
     for edge in made(checks, "the edges", edges::edges).unwrap_or_default() {
         let (text, outcome) = trial::text_tried(&edge.bytes, Some(&options.program));
         trial::count(checks, &edge.name, &edge.bytes, outcome);
@@ -139,8 +140,11 @@ fn try_edges(checks: &mut Checks, options: &Options) {
             trial::count(checks, &edge.name, &edge.bytes, answer.map(drop));
         }
         let again = written_again(&mut Dice::new(options.seed), &edge.bytes);
+        sound += u32::from(again == Ok(true));
         trial::count(checks, &edge.name, &edge.bytes, again.map(drop));
     }
+    // 8 sound ones, the 5 fullest, and the wait of each of 32 accounts
+    checks.same("edges that are sound and written out", sound, 45);
 }
 
 /// Each byte of a small bundle takes each other value.

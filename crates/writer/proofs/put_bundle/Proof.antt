@@ -8,14 +8,8 @@ use borrow.Author.Needs.{needs}
 use Rattle.writer.proofs.put_bundle.Statement.{statement}
 use Rattle.writer.proofs.put_bundle.Tie as tie
 
-add-start : tie.Need-add-start
-add-start c = search needs
-
-mul-start : tie.Need-mul-start
-mul-start c = search needs
-
-add-start-2 : tie.Need-add-start-2
-add-start-2 c = search needs
+contents-end-requires : tie.Need-contents-end-requires
+contents-end-requires c κs = search needs
 
 add-put-number2 : tie.Need-add-put-number2
 add-put-number2 c = search needs
@@ -58,9 +52,10 @@ returns c =
     let entries = opening .before .before .before .before in
     let entry = entries .before .before .before .before in
     let number = entry .before .before .before .before .before in
-    let start = number .before .before .before in
+    let end = number .before .before in
+    let start = end .before .before in
     let a = start .args in
-    let first = rw (entry .before .opening-entry .ensures) at (entry .put-entry .ensures) in
+    let first = rw (entry .before .opening-entry .ensures, end .contents-end .ensures) at (entry .put-entry .ensures) in
     bundled (a .page) (a .messages) (a .count) (balances-count (a .page) _ (start .good .1 .0)) (enough start) (start .pre)
     (number .put-number2 .ensures) first (entries .put-entries .ensures) (opening .put-opening .ensures) (bodies .put-bodies .ensures)
 
@@ -68,9 +63,7 @@ pub put-bundle-spec : {M : Type 1} → statement M
 put-bundle-spec =
     tie.close
     (tie.spec
-    add-start
-    mul-start
-    add-start-2
+    contents-end-requires
     add-put-number2
     cast-put-number2
     put-number2-requires

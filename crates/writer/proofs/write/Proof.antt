@@ -1,10 +1,11 @@
 -- The tests in their order: 18, then 19 by the length of the bundle.
-use Prim.Native.Nat.{_+_, _*_, _≤_}
+use Prim.Native.Nat.{_+_, _≤_}
 use native.Mathlib.Omega.{arith}
 use mathlib.Core.Path.{_≡_}
 use mathlib.Core.List.{map}
 use lib.ListN.{length, take}
 use Rattle.model.specs.Writing.{messagePage, bodiesOf, written}
+use Rattle.writer.specs.Promises.{firstStart}
 use Rattle.basics.proofs.Arrays.{array-length}
 use Rattle.basics.proofs.Writing.{whole}
 use Rattle.writer.proofs.Bundling.{balances-count, written-length, too-many, no-room, all-written}
@@ -15,7 +16,7 @@ use Rattle.writer.proofs.write.Tie as tie
 -- the length that the bundle has
 size : (c : tie.Start) → c .args .count ≤ 999
     → length (written (c .args .page) (take (c .args .count) (c .args .messages)))
-    ≡ 141 + 8 * c .args .count + length (bodiesOf (map messagePage (take (c .args .count) (c .args .messages))))
+    ≡ firstStart (c .args .count) + length (bodiesOf (map messagePage (take (c .args .count) (c .args .messages))))
 size c few =
     let a = c .args in
     written-length (a .page) (a .messages) (a .count) (balances-count (a .page) _ (c .good .0)) (omega (arith, array-length _ 999 (a .messages) _ (c .good .1 .0)))

@@ -4,7 +4,7 @@ use native.Mathlib.Omega.{arith}
 use mathlib.Core.Path.{ap, sym}
 use Rattle.basics.specs.Results.{searchOf}
 use Rattle.basics.proofs.Counting.{Searched, searched-none, searched-more, searched-found, searched-all}
-use Rattle.writer.specs.Records.{recordCount, wrongRecord}
+use Rattle.writer.specs.RecordLists.{recordCount, wrongRecord}
 use Rattle.writer.proofs.records.first_wrong.Statement.{statement}
 use Rattle.writer.proofs.records.first_wrong.Tie as tie
 

@@ -3,7 +3,7 @@ use native.Mathlib.Omega.{arith}
 use mathlib.Core.Path.{sym, _∙_}
 use Rattle.model.proofs.Sums.{first-found}
 use Rattle.basics.proofs.ReadBack.{search-at, search-nowhere}
-use Rattle.writer.specs.Records.{recordCount, wrongRecord, firstWrong}
+use Rattle.writer.specs.RecordLists.{recordCount, wrongRecord, firstWrong}
 use Rattle.writer.proofs.Recording.{records-too-many, record-wrong, last-wrong, records-whole}
 use borrow.Author.Needs.{needs}
 use Rattle.writer.proofs.records.write_records.Statement.{statement}

@@ -3,14 +3,15 @@ use Prim.Native.Nat.{ℕ, zero, suc, _+_, _*_, _/_, _%_}
 use mathlib.Core.Bool.{Bool, not}
 use mathlib.Core.List.{List, [], _∷_}
 use mathlib.Core.Option.{Option, none, some}
-use lib.Dec.{ltb, eqb}
+use lib.Dec.{eqb}
 use lib.ListN.{length, getD, take, drop}
 use Rattle.model.specs.declared.Message.{Message}
 use Rattle.model.specs.declared.Message.the-variants.{Inquiry}
-use Rattle.model.specs.declared.Refusal.the-variants.{BadContents, BadEnd, TooManyMessages, NoRoom}
+use Rattle.model.specs.declared.Refusal.the-variants.{BadContents, BadEnd}
 use Rattle.model.specs.Basics.{firstWhere}
 use Rattle.model.specs.Records.{accountOf}
 use Rattle.model.specs.Bundles.{Page, wrongEntry, Fault, ofWhole, messageOf}
+use Rattle.model.specs.Writing.{tooMany, noRoom}
 
 -- how many whole records there are
 abbrev pub recordCount : List ℕ → ℕ
@@ -62,8 +63,8 @@ messagesOf records = messagesFrom (recordCount records) records 0
 -- "18 is tried first"; then the codes rise: 14, 15, 19
 abbrev pub recordFaults : List ℕ → List ℕ → ℕ → List Fault
 recordFaults records bundle room =
-    (ofWhole (ltb 999 (recordCount records)), TooManyMessages)
+    tooMany (recordCount records)
     ∷ (behindPage (firstWrong records), BadContents)
     ∷ (ofWhole (badLast records), BadEnd)
-    ∷ (ofWhole (ltb room (length bundle)), NoRoom)
+    ∷ noRoom bundle room
     ∷ []

@@ -28,14 +28,14 @@ pub fn with_byte(s: u32, b: u8) -> u32
     wrapping_add_u32(times_31(s), wide(b))
 }
 
-// The sum of a body: "The sum begins at 0", and each byte of the body is added in turn.
+// The sum of a body: "The sum begins at 0", and each byte of the body is added in turn, as `with_byte` does it.
 pub fn body_sum(body: &[u8]) -> u32
     ensures { λ r. ⌜ r ≡ bodySum (now (body .entry)) ⌝ }
 {
     let mut s: u32 = 0;
     let mut i: usize = 0;
     while i < body.len() {
-        s = with_byte(s, body[i]);
+        s = wrapping_add_u32(times_31(s), wide(body[i]));
         i += 1;
     }
     s

@@ -12,6 +12,7 @@ use model::ListReply;
 use model::OpenReply;
 use model::Reply;
 use model::WriteReply;
+use pages::contents::BODY_LENGTHS;
 use pages::messages::Asked;
 use pages::messages::message_from;
 use pages::messages::opening_of;
@@ -154,7 +155,7 @@ pub extern "C" fn bundle_sum(body: &[u8]) -> u32
 }
 
 // How many bytes an opening page has.
-pub const PAGE_SIZE: usize = 131;
+pub const PAGE_SIZE: usize = BODY_LENGTHS[0];
 
 // A writer's reply as one number: the bundle's length, or 65,536 times the code, and the entry.
 fn number_of_write(reply: WriteReply) -> u32

@@ -7,7 +7,7 @@ ghost use mathlib.Core.Path.{_≡_};
 ghost use Rattle.model.specs.Bundles.{entryCount, contentsAt, bodyLength, pageOf};
 
 // "Body lengths for kinds 0 to 5 are 131, 10, 10, 10, 10 and 1 bytes."
-const BODY_LENGTHS: [usize; 6] = [131, 10, 10, 10, 10, 1];
+pub const BODY_LENGTHS: [usize; 6] = [131, 10, 10, 10, 10, 1];
 
 // The length of a kind's body; 0 for a kind that there is not.
 pub fn body_length(kind: u8) -> usize

@@ -1,9 +1,9 @@
 -- The loop's invariant: the sum of what is left of the body, begun with the sum so far, is the sum of the whole.
-use Prim.Native.Nat.{_-_}
+use Prim.Native.Nat.{_+_, _-_, _*_, _%_}
 use borrow.Author.Needs.{needs}
 use native.Mathlib.Omega.{arith}
 use mathlib.Core.Path.{_≡_, refl}
-use lib.ListN.{length, drop}
+use lib.ListN.{length, getD, drop}
 use Rattle.model.specs.Bundles.{sumFrom, bodySum}
 use Rattle.basics.proofs.Loops.{one-left, none-left}
 use Rattle.bundle.proofs.sums.body_sum.Statement.{statement}
@@ -18,11 +18,17 @@ abbrev μ-loop : tie.MeasureT-loop
 loop-holds : tie.Need-loop-holds Inv-loop μ-loop
 loop-holds c = refl
 
-shared-slice-read-with-byte : tie.Need-shared-slice-read-with-byte Inv-loop μ-loop
-shared-slice-read-with-byte c = omega arith
+times-31-requires : tie.Need-times-31-requires Inv-loop μ-loop
+times-31-requires c κs = search needs
 
-with-byte-requires : tie.Need-with-byte-requires Inv-loop μ-loop
-with-byte-requires c κs = search needs
+shared-slice-read-wide : tie.Need-shared-slice-read-wide Inv-loop μ-loop
+shared-slice-read-wide c = omega arith
+
+wide-requires : tie.Need-wide-requires Inv-loop μ-loop
+wide-requires c κs = search needs
+
+wrapping-add-u32-requires : tie.Need-wrapping-add-u32-requires Inv-loop μ-loop
+wrapping-add-u32-requires c κs = search needs
 
 add-i : tie.Need-add-i Inv-loop μ-loop
 add-i c = omega arith
@@ -32,9 +38,10 @@ loop-less c = omega arith
 
 loop-again : tie.Need-loop-again Inv-loop μ-loop
 loop-again c =
-    let loop = c .before .before .before in
-    let body = loop .before .before .args .body .now in
-    rw (c .with-byte .ensures) (rw (one-left body (loop .loop .i) 0 (omega arith)) at (loop .loop .inv))
+    let body = c .before .before .before .before .before .before .before .args .body .now in
+    let loop = c .before .before .before .before .before .loop in
+    let next : c .wrapping-add-u32 .result ≡ (31 * loop .s + getD body (loop .i) 0) % 4_294_967_296 = omega arith in
+    rw next (rw (one-left body (loop .i) 0 (omega arith)) at (loop .inv))
 
 returns : tie.Need-returns Inv-loop μ-loop
 returns c =
@@ -49,8 +56,10 @@ body-sum-spec =
     Inv-loop
     μ-loop
     loop-holds
-    shared-slice-read-with-byte
-    with-byte-requires
+    times-31-requires
+    shared-slice-read-wide
+    wide-requires
+    wrapping-add-u32-requires
     add-i
     loop-less
     loop-again

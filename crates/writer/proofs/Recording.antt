@@ -10,13 +10,14 @@ use mathlib.Core.List.{List, _++_, append-nil}
 use mathlib.Core.Option.{none, some}
 use lib.ListN.{length, take, set, length-set}
 use lib.Seq.{take-suc-set, append-snoc}
+use Rattle.model.specs.declared.Opening.{Opening}
 use Rattle.model.specs.declared.Message.{Message}
 use Rattle.model.specs.declared.WriteReply.{WriteReply}
 use Rattle.model.specs.declared.WriteReply.the-variants.{WriteRefused}
 use Rattle.model.specs.declared.Refusal.the-variants.{BadContents, BadEnd, TooManyMessages}
-use Rattle.model.specs.Writing.{writeFaults}
-use Rattle.writer.specs.Promises.{WroteBundle}
-use Rattle.writer.specs.RecordLists.{recordCount, firstWrong, messageIn, messagesFrom, recordFaults}
+use Rattle.model.specs.Writing.{written, writeFaults}
+use Rattle.writer.specs.Promises.{WroteBundle, WroteList, WroteRecords}
+use Rattle.writer.specs.RecordLists.{recordCount, firstWrong, messageIn, messagesFrom, messagesOf, recordFaults}
 use Rattle.writer.proofs.Bundling.{wrote, refused}
 
 -- the messages of the records before the i-th are in the array, and with those of the others they are all
@@ -65,9 +66,17 @@ module _ (records bundle before : List ℕ) where
           refused (rw (le-ltb 999 (recordCount records) few, right, ne-eqb (length records % 12) 0 piece))
 
       -- then only 19 is left, as it is for the writer
-      pub records-whole : {r : WriteReply} {after : List ℕ} → length records % 12 ≡ 0
+      only-room : {r : WriteReply} {after : List ℕ} → length records % 12 ≡ 0
           → WroteBundle (writeFaults (recordCount records) bundle (length before)) bundle before r after
           → WroteBundle (recordFaults records bundle (length before)) bundle before r after
-      records-whole whole w =
+      only-room whole w =
           let test = le-ltb 999 (recordCount records) few in
           wrote (w .meets ∙ rw (test, right, eq-eqb (length records % 12) 0 whole)) (w .buffer) (w .short)
+
+-- where no record is at fault, the writer is asked for a list that begins with their messages
+pub records-written : (page : Opening) (records before : List ℕ) (messages : List Message) {r : WriteReply} {after : List ℕ}
+    → recordCount records ≤ 999 → firstWrong records ≡ none → length records % 12 ≡ 0
+    → take (recordCount records) messages ≡ messagesOf records
+    → WroteList page messages (recordCount records) before r after → WroteRecords page records before r after
+records-written page records before messages few right whole same w =
+    only-room records (written page (messagesOf records)) before few right whole (rw same at w)

@@ -126,6 +126,6 @@ pub fn write(
     if out.len() < size {
         return WriteReply::WriteRefused(Refusal::NoRoom, 0);
     }
-    let end = put_bundle(out, page, messages, count);
-    WriteReply::Written(end as u32)
+    let end = put_bundle(out, page, messages, count) as u32;
+    WriteReply::Written(end)
 }

@@ -31,13 +31,13 @@ returns-2 : tie.Need-returns-2
 returns-2 c =
     let start = c .before .before .before .before in
     let few = c .before .before .if1 .left in
-    no-room _ _ _ few (omega (arith, size start few, c .before .bundle-length .ensures, c .if2 .taken))
+    no-room _ _ (start .args .out .now) few (omega (arith, size start few, c .before .bundle-length .ensures, c .if2 .taken))
 
 put-bundle-requires : tie.Need-put-bundle-requires
 put-bundle-requires c κs = search needs
 
-cast-t13 : tie.Need-cast-t13
-cast-t13 c =
+cast-end : tie.Need-cast-end
+cast-end c =
     let start = c .before .before .before .before .before .before .before .before in
     let few = c .before .before .before .before .before .before .if1 .left in
     let w = c .before .before .put-bundle .ensures in
@@ -61,6 +61,6 @@ write-spec =
     bundle-length-requires
     returns-2
     put-bundle-requires
-    cast-t13
+    cast-end
     same-length
     returns-3)

@@ -4,7 +4,7 @@ use mathlib.Core.Path.{sym, _∙_}
 use Rattle.model.proofs.Sums.{first-found}
 use Rattle.basics.proofs.ReadBack.{search-at, search-nowhere}
 use Rattle.writer.specs.RecordLists.{recordCount, wrongRecord, firstWrong}
-use Rattle.writer.proofs.Recording.{records-too-many, record-wrong, last-wrong, records-whole}
+use Rattle.writer.proofs.Recording.{records-too-many, record-wrong, last-wrong, records-written}
 use borrow.Author.Needs.{needs}
 use Rattle.writer.proofs.records.write_records.Statement.{statement}
 use Rattle.writer.proofs.records.write_records.Tie as tie
@@ -50,10 +50,9 @@ same-length c = search needs
 
 returns-4 : tie.Need-returns-4
 returns-4 c =
-    let records = c .before .before .before .before .before .before .before .before .before .before .before .before .args .records .now in
-    let right = search-nowhere (firstWrong records) (sym (c .before .before .before .before .before .before .before .before .first-wrong .ensures) ∙ c .before .before .before .before .before .before .enum-told .given .1) in
-    let w = rw (c .before .before .before .before .messages-in .ensures) at (c .before .before .write .ensures) in
-    records-whole records _ _ (c .before .before .before .before .before .before .before .before .before .if1 .left) right (c .before .before .before .before .before .if2 .left) w
+    let start = c .before .before .before .before .before .before .before .before .before .before .before .before .args in
+    let right = search-nowhere (firstWrong (start .records .now)) (sym (c .before .before .before .before .before .before .before .before .first-wrong .ensures) ∙ c .before .before .before .before .before .before .enum-told .given .1) in
+    records-written (start .page) (start .records .now) _ _ (c .before .before .before .before .before .before .before .before .before .if1 .left) right (c .before .before .before .before .before .if2 .left) (c .before .before .before .before .messages-in .ensures) (c .before .before .write .ensures)
 
 pub write-records-spec : {M : Type 1} → statement M
 write-records-spec =

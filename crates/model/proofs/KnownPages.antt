@@ -1,20 +1,21 @@
--- Document 01, "Known pages": its facts as the rows of one table, and one theorem, computed, that all of them hold of the definitions.
+-- Document 01, "Known pages": its facts as the rows of one table, with document 02's cases beside them, and one theorem, computed, that all of them hold
+-- of the definitions.
 use Prim.Native.Nat.{ℕ}
 use mathlib.Core.Bool.{true, false}
 use mathlib.Core.List.{List, [], _∷_, _++_}
 use lib.Dec.{T}
 use lib.ListN.{take, set, replicate}
-use Rattle.model.specs.Types.{Transfer, Request, Circulated, Decision, Inquiry}
+use Rattle.model.specs.Types.{Transfer, Empty, Full, Request, Circulated, Decision, Inquiry}
 use Rattle.model.specs.Basics.{every}
 use Rattle.model.specs.Records.{accountOf, noAcks, emptyPage}
 use Rattle.model.specs.Transfers.{equal, conflict}
 use Rattle.model.specs.Openings.{openReply, openLedger}
-use Rattle.model.specs.Acks.{hasMost}
+use Rattle.model.specs.Acks.{hasMost, mostAcked}
 use Rattle.model.specs.Settling.{lowestAffordable, apply, settleAtMost, settle}
 use Rattle.model.specs.Calls.{step}
 use Rattle.model.specs.Bundles.{checkBundle}
 use Rattle.model.specs.Writing.{written}
-use Rattle.model.proofs.Rows.{slip, ackBy, pageWith, A, B, C, K, N, P, R, _gives_, everyKind, Row, acksNeeded, opens, runs, proposals, lists, sums, checks, counts, shows, showsOpening, reads, writes, fits, leaves, rowHolds}
+use Rattle.model.proofs.Rows.{slip, ackBy, pageWith, A, B, C, K, N, P, R, _gives_, everyKind, Row, acksNeeded, opens, runs, putsForward, lists, sums, checks, counts, shows, showsOpening, reads, writes, fits, leaves, rowHolds}
 
 -- slips that conflict with one another
 abbrev t : Transfer
@@ -23,8 +24,14 @@ t = slip 0 1 4 1
 abbrev u : Transfer
 u = slip 0 1 5 1
 
+abbrev v : Transfer
+v = slip 0 1 6 1
+
 abbrev w : Transfer
 w = slip 0 1 4 0
+
+abbrev x : Transfer
+x = slip 0 1 5 0
 
 -- The facts marked *, in document 01's order.
 pub marked : List Row
@@ -54,16 +61,34 @@ marked =
     ∷ sums (replicate 7 255) 1_928_985_951
     ∷ []
 
--- Further cases, in document 01's order: the case split 3, 3, 1, where P is free; daybook's whole output; a seat's second ack;
+-- Document 02, request 2: which slip is put forward. The case split 3, 3, 1; the same split, but the lower seats' acks come last; the ack at hand is of
+-- the lowest seat. Then the acks alone, from seat 0 on: a tie of three slips and of four, the lowest seat's slip not being among the most acked; more acks
+-- than a lower seat's slip has; places that are empty; and no acks.
+pub tied : List Row
+tied =
+    runs 8 1 (10 ∷ 3 ∷ [])
+    (ackBy 0 t gives N ∷ ackBy 1 t gives N ∷ ackBy 2 t gives N
+    ∷ ackBy 3 u gives N ∷ ackBy 4 u gives N ∷ ackBy 5 u gives N ∷ ackBy 6 w gives P t ∷ [])
+    (10 ∷ 3 ∷ [])
+    ∷ runs 8 1 (10 ∷ 3 ∷ [])
+    (ackBy 3 t gives N ∷ ackBy 4 t gives N ∷ ackBy 5 t gives N
+    ∷ ackBy 0 u gives N ∷ ackBy 1 u gives N ∷ ackBy 2 u gives N ∷ ackBy 6 w gives P u ∷ [])
+    (10 ∷ 3 ∷ [])
+    ∷ runs 6 1 (10 ∷ 3 ∷ [])
+    (ackBy 3 t gives N ∷ ackBy 4 t gives N ∷ ackBy 1 u gives N ∷ ackBy 2 w gives N ∷ ackBy 0 u gives P u ∷ [])
+    (10 ∷ 3 ∷ [])
+    ∷ putsForward (Full x ∷ Full u ∷ Full w ∷ Full t ∷ Full t ∷ Full w ∷ Full u ∷ []) u
+    ∷ putsForward (Full v ∷ Full x ∷ Full w ∷ Full u ∷ Full t ∷ Full t ∷ Full u ∷ Full x ∷ Full w ∷ []) x
+    ∷ putsForward (Full w ∷ Full w ∷ Full t ∷ Full u ∷ Full t ∷ Full t ∷ []) t
+    ∷ putsForward (Empty ∷ Empty ∷ Full u ∷ Empty ∷ Full t ∷ []) u
+    ∷ putsForward (replicate 16 Empty) (slip 0 0 0 0)
+    ∷ []
+
+-- Further cases, in document 01's order: daybook's whole output; a seat's second ack;
 -- the mark cleared at booking; no slip put forward once one is accepted; 12 before 11; each code, and 5 to 8 under each kind of call.
 pub further : List Row
 further =
-    proposals 8 1 (10 ∷ 3 ∷ [])
-    (ackBy 0 t ∷ ackBy 1 t ∷ ackBy 2 t ∷ ackBy 3 u ∷ ackBy 4 u ∷ ackBy 5 u ∷ [])
-    (ackBy 6 w)
-    (t ∷ u ∷ [])
-    (w ∷ slip 0 2 4 1 ∷ [])
-    ∷ runs 6 1 (10 ∷ 3 ∷ [])
+    runs 6 1 (10 ∷ 3 ∷ [])
     (Circulated t gives A ∷ ackBy 0 t gives N ∷ ackBy 1 t gives N ∷ ackBy 2 t gives N ∷ ackBy 3 t gives N ∷ ackBy 4 t gives K 1
     ∷ Inquiry (accountOf 1) gives B 7 ∷ [])
     (6 ∷ 7 ∷ [])
@@ -202,6 +227,10 @@ writing =
     ∷ []
 
 -- Every row holds of the definitions: the checker computes each.
-pub facts : T (every rowHolds marked) × T (every rowHolds further) × T (every rowHolds format) × T (every rowHolds writing)
-unfolding marked further format writing written noAcks equal conflict hasMost openReply openLedger lowestAffordable apply settleAtMost settle step checkBundle
-facts = (tt, tt, tt, tt)
+pub facts : T (every rowHolds marked)
+    × T (every rowHolds tied)
+    × T (every rowHolds further)
+    × T (every rowHolds format)
+    × T (every rowHolds writing)
+unfolding marked tied further format writing written noAcks equal conflict hasMost mostAcked openReply openLedger lowestAffordable apply settleAtMost settle step checkBundle
+facts = (tt, tt, tt, tt, tt)

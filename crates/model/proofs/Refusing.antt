@@ -8,13 +8,12 @@ use mathlib.Core.Bool.{Bool, true, false, cond}
 use mathlib.Core.List.{List, [], _∷_}
 use mathlib.Core.Option.{Option, none, some}
 use lib.Dec.{leb·zero}
-use Rattle.model.specs.Types.{Account, Transfer, Entry, Ledger, Opening, Refusal, UnknownSeat, OutOfRange, Message, Request, Circulated, Ack, Decision, Inquiry, Note, Refuse, OpenRefused, ListRefused}
+use Rattle.model.specs.Types.{Account, Transfer, Entry, Ledger, Outcome, Opening, Refusal, UnknownSeat, OutOfRange, Message, Request, Circulated, Ack, Decision, Inquiry, Reply, Propose, Note, Refuse, OpenRefused, ListRefused}
 use Rattle.model.specs.Records.{freshLedger, noLedger, withAck, withProposed, entryOf}
-use Rattle.model.specs.Replies.{Choice, exactly, proposes, Outcome, Allows}
 use Rattle.model.specs.Refusals.{Rule, firstRefusal, pastNumber, futureNumber, rulesOf, listRules}
 use Rattle.model.specs.Openings.{openRules, openReplyBy, openReply, openLedgerBy, openLedger}
-use Rattle.model.specs.Acks.{acksFor, acksRecorded, enough, mustPropose}
-use Rattle.model.specs.Calls.{payerOf, replied, replies, waits, tallied, effect, unlessRefused, finished, step, Answers, Lists, ListsUnlessRefused}
+use Rattle.model.specs.Acks.{acksFor, acksRecorded, enough, mustPropose, mostAcked}
+use Rattle.model.specs.Calls.{payerOf, replies, waits, tallied, effect, unlessRefused, finished, step, Lists, ListsUnlessRefused}
 use Rattle.model.proofs.Sums.{impossible}
 use Rattle.model.proofs.Access.{with-entry-read}
 
@@ -51,11 +50,11 @@ pub next-number : (e : Entry) (t : Transfer) → pastNumber e t ≡ false → fu
 next-number e t past future =
     omega (arith, leb-false (t .number) (e .current) past, ltb-false (e .current + 1) (t .number) future)
 
--- no refusal is among the replies
-abbrev NeverRefuses : Choice → Type 0
-NeverRefuses c = (r : Refusal) → Allows c (Refuse r) → ⊥
+-- the reply is no refusal
+abbrev NeverRefuses : Reply → Type 0
+NeverRefuses q = (r : Refusal) → q ≡ Refuse r → ⊥
 
-tallied-never : (l : Ledger) (a : Account) (e : Entry) (t : Transfer) → NeverRefuses (finished l a (tallied l e t) .choice)
+tallied-never : (l : Ledger) (a : Account) (e : Entry) (t : Transfer) → NeverRefuses (finished l a (tallied l e t) .reply)
 tallied-never l a e t =
     go (enough (l .seats) (l .faults) (acksFor t (e .acks))) (mustPropose (l .seats) (l .faults) (acksRecorded (e .acks)) e)
   where
@@ -63,12 +62,12 @@ tallied-never l a e t =
         → NeverRefuses
         (finished l a
         (cond full (waits e t)
-        (cond conflicting (record { due = replied (proposes (e .acks)); entry = withProposed e }) (replies Note e))) .choice)
+        (cond conflicting (replies (Propose (mostAcked (e .acks))) (withProposed e)) (replies Note e))) .reply)
     go true c r h = impossible (cc)
-    go false true r h = impossible (cc (h .1))
+    go false true r h = impossible (cc)
     go false false r h = impossible (cc)
 
-effect-never : (l : Ledger) (a : Account) (e : Entry) (m : Message) → NeverRefuses (finished l a (effect l e m) .choice)
+effect-never : (l : Ledger) (a : Account) (e : Entry) (m : Message) → NeverRefuses (finished l a (effect l e m) .reply)
 effect-never l a e (Request t) r h = impossible (cc)
 effect-never l a e (Circulated t) r h = impossible (cc)
 effect-never l a e (Ack s t) r h = tallied-never l a (withAck e s t) t r h
@@ -83,10 +82,10 @@ abbrev pub effectIn : Ledger → Message → Outcome
 effectIn l m = finished l (payerOf m) (effect l (entryOf l (payerOf m)) m)
 
 abbrev pub refusal : Refusal → Ledger → Outcome
-refusal r l = record { choice = exactly (Refuse r); next = l }
+refusal r l = record { reply = Refuse r; next = l }
 
 -- a reply R names the first rule that holds
-pub refused-by : (l : Ledger) (m : Message) (r : Refusal) → Answers l m (Refuse r) → firstRefusal (rulesIn l m) ≡ some r
+pub refused-by : (l : Ledger) (m : Message) (r : Refusal) → step l m .reply ≡ Refuse r → firstRefusal (rulesIn l m) ≡ some r
 unfolding step
 refused-by l m r h = go (firstRefusal (rulesIn l m)) h
   where
@@ -96,7 +95,7 @@ refused-by l m r h = go (firstRefusal (rulesIn l m)) h
     e : Entry
     e = entryOf l a
 
-    go : (o : Option Refusal) → Allows (finished l a (unlessRefused o e (effect l e m)) .choice) (Refuse r) → o ≡ some r
+    go : (o : Option Refusal) → finished l a (unlessRefused o e (effect l e m)) .reply ≡ Refuse r → o ≡ some r
     go none h = absurd (effect-never l a e m r h)
     go (some q) h = cc
 
@@ -106,7 +105,7 @@ unfolding step
 refuses l m r e = rw e (ap (refusal r) (with-entry-read l (payerOf m)))
 
 -- a refusal changes nothing
-pub refusal-keeps : (l : Ledger) (m : Message) (r : Refusal) → Answers l m (Refuse r) → step l m .next ≡ l
+pub refusal-keeps : (l : Ledger) (m : Message) (r : Refusal) → step l m .reply ≡ Refuse r → step l m .next ≡ l
 refusal-keeps l m r h = rw (refuses l m r (refused-by l m r h))
 
 -- a message that no rule refuses has its effect

@@ -1,18 +1,16 @@
 -- What a fact of the table of known pages is, and when it holds of the definitions.
 use Prim.Native.Nat.{ℕ, _-_}
-use mathlib.Core.Bool.{Bool, true, false, not, _&&_, _||_, Bool·beq}
+use mathlib.Core.Bool.{Bool, true, false, not, _&&_, Bool·beq}
 use mathlib.Core.List.{List, [], _∷_, _++_, map}
 use mathlib.Core.Option.{Option, none, some}
 use lib.Dec.{eqb}
-use lib.ListN.{length, getD, take, replicate}
-use Rattle.model.specs.Types.{Transfer, Slot, Empty, Full, AckSlot, Ledger, Opening, Refusal, Message, Request, Circulated, Ack, Decision, Inquiry, Propose, ListReply, Listed, ListRefused}
-use Rattle.model.specs.Basics.{every}
+use lib.ListN.{length, take, replicate}
+use Rattle.model.specs.Types.{Transfer, Slot, Ledger, Opening, Refusal, Message, Request, Circulated, Ack, Decision, Inquiry, Reply, ListReply, Listed, ListRefused}
 use Rattle.model.specs.Records.{seatOf, accountOf, noLedger}
-use Rattle.model.specs.Transfers.{equal}
-use Rattle.model.specs.Replies.{letterOf, valuesOf, valuesOfTransfer, valuesOfOpen, valuesOfList, valuesOfBundle, valuesOfWrite, Choice, exactly, proposes}
+use Rattle.model.specs.Replies.{letterOf, valuesOf, valuesOfTransfer, valuesOfOpen, valuesOfList, valuesOfBundle, valuesOfWrite}
 use Rattle.model.specs.Refusals.{firstRefusal, listRules}
 use Rattle.model.specs.Openings.{openReply, openLedger}
-use Rattle.model.specs.Acks.{enough, hasMost}
+use Rattle.model.specs.Acks.{enough, mostAcked}
 use Rattle.model.specs.Calls.{step}
 use Rattle.model.specs.Bundles.{bodySum, badCount, checkBundle, pageAt, messageOf, openingOf, Reading, taken, noMore, readNext}
 use Rattle.model.specs.Writing.{written, writeFaults, writeReply, bufferAfter}
@@ -71,8 +69,8 @@ pub data Row : Type 0 where
   opens : Opening → List ℕ → Row
   -- n, f, balances; the messages with their answers; the balances at the end
   runs : ℕ → ℕ → List ℕ → List Asked → List ℕ → Row
-  -- n, f, balances; messages, and one more that is answered P; the slips that P may carry, and some that it may not
-  proposals : ℕ → ℕ → List ℕ → List Message → Message → List Transfer → List Transfer → Row
+  -- each seat's ack, seat by seat from 0, and the slip that is put forward
+  putsForward : List Slot → Transfer → Row
   -- the length of a waiting list's buffer, and the values of its answer where nothing waits
   lists : ℕ → List ℕ → Row
   -- bytes and their sum
@@ -101,32 +99,14 @@ same [] (y ∷ ys) = false
 same (x ∷ xs) [] = false
 same (x ∷ xs) (y ∷ ys) = eqb x y && same xs ys
 
--- the slip in this place, if it is not t, may not be put forward
-abbrev pub onlyMost : List AckSlot → Transfer → Slot → Bool
-onlyMost acks t Empty = true
-onlyMost acks t (Full u) = equal u t || not (hasMost acks u)
-
--- a call must be answered so, and in no other way
-abbrev pub answered : Choice → List ℕ → Bool
-answered (exactly r) said = same (letterOf r ∷ valuesOf r) said
-answered (proposes acks) said =
-    let t = slip (getD said 1 0) (getD said 2 0) (getD said 3 0) (getD said 4 0) in
-    same (letterOf (Propose t) ∷ valuesOf (Propose t)) said && hasMost acks t && every (λ a. onlyMost acks t (a .slot)) acks
+-- a call is answered so
+abbrev pub answered : Reply → List ℕ → Bool
+answered r said = same (letterOf r ∷ valuesOf r) said
 
 -- each message is answered as it is to be, and the balances at the end are these
 abbrev pub allAnswered : Ledger → List Asked → List ℕ → Bool
 allAnswered l [] balances = same (take (length balances) (map (λ e. e .balance) (l .entries))) balances
-allAnswered l (q ∷ qs) balances = answered (step l (q .0) .choice) (q .1) && allAnswered (step l (q .0) .next) qs balances
-
--- the ledger after some messages
-abbrev pub after : Ledger → List Message → Ledger
-after l [] = l
-after l (m ∷ ms) = after (step l m .next) ms
-
--- the call may reply P with this slip
-abbrev pub mayPropose : Choice → Transfer → Bool
-mayPropose (exactly r) t = false
-mayPropose (proposes acks) t = hasMost acks t
+allAnswered l (q ∷ qs) balances = answered (step l (q .0) .reply) (q .1) && allAnswered (step l (q .0) .next) qs balances
 
 -- the waiting list's reply where nothing waits
 abbrev pub listReply : Option Refusal → ListReply
@@ -156,9 +136,7 @@ abbrev pub rowHolds : Row → Bool
 rowHolds (acksNeeded n f c) = enough n f c && not (enough n f (c - 1))
 rowHolds (opens o said) = same (valuesOfOpen (openReply o)) said
 rowHolds (runs n f balances asked final) = allAnswered (openLedger (pageWith n f balances) noLedger) asked final
-rowHolds (proposals n f balances before m may mayNot) =
-    let choice = step (after (openLedger (pageWith n f balances) noLedger) before) m .choice in
-    every (mayPropose choice) may && every (λ t. not (mayPropose choice t)) mayNot
+rowHolds (putsForward places t) = same (valuesOfTransfer (mostAcked (map (λ s. record { slot = s }) places))) (valuesOfTransfer t)
 rowHolds (lists size said) = same (valuesOfList (listReply (firstRefusal (listRules (replicate size 0))))) said
 rowHolds (sums bytes s) = eqb (bodySum bytes) s
 rowHolds (checks bytes said) = same (valuesOfBundle (checkBundle bytes)) said

@@ -3,19 +3,19 @@
 use Prim.Native.Nat.{_+_, _<_}
 use native.Mathlib.Omega.{arith}
 use mathlib.Core.Path.{_≡_, refl}
-use mathlib.Core.Bool.{Bool, true, false, _||_}
+use mathlib.Core.Bool.{Bool, true, false, cond, _||_}
 use mathlib.Core.List.{List}
 use mathlib.Core.Option.{Option, none, some}
 use lib.Dec.{eqb, ltb}
 use borrow.Author.Tests.{leb-false}
 use Rattle.model.specs.Types.{Seat, Account, Transfer, Entry, Ledger, Refusal, Message, Request, Circulated, Ack, Decision, Inquiry, Reply, Circulate, Acknowledge, Accept, Propose, Note, Balance, Refuse}
 use Rattle.model.specs.Records.{entryOf, setEntry, withEntry, withEntries, withAcked, withAck, withProposed, withPending}
-use Rattle.model.specs.Replies.{Allows}
 use Rattle.model.specs.Refusals.{firstRefusal, waitsAlready, ackFrom, outOfRange, unknownAccount}
-use Rattle.model.specs.Acks.{holds, conflicts, acksFor, acksRecorded, enough, mustPropose, hasMost}
+use Rattle.model.specs.Acks.{holds, conflicts, acksFor, acksRecorded, enough, mustPropose, hasMost, mostAcked}
 use Rattle.model.specs.Settling.{Settled, settle}
-use Rattle.model.specs.Calls.{tallied, finished, step, Answers}
-use Rattle.model.proofs.Sums.{neither}
+use Rattle.model.specs.Calls.{replies, waits, tallied, finished, step}
+use Rattle.model.proofs.Sums.{impossible, neither}
+use Rattle.model.proofs.Proposals.{most-acked-most}
 use Rattle.model.proofs.Access.{SameGroup, with-entries, with-entry-read}
 use Rattle.model.proofs.Refusing.{AllFail, none-holds, next-number, rulesIn, effectIn, refuses, not-refused}
 
@@ -93,10 +93,9 @@ pub data Happens (l : Ledger) (m : Message) (r : Reply) (next : Ledger) : Type 0
   told : (a : Account) → m ≡ Inquiry a → r ≡ Balance (entryOf l a .balance) → next ≡ l → Happens l m r next
 
 -- what the tally makes of a recorded ack
-tally-happens : (l : Ledger) (s : Seat) (t : Transfer) (r : Reply) → Eligible l t → Recordable l s t
-    → Allows (finished l (t .account) (tallied l (entryWithAck l s t) t) .choice) r
-    → Happens l (Ack s t) r (finished l (t .account) (tallied l (entryWithAck l s t) t) .next)
-tally-happens l s t r ok new h = go (enough (l .seats) (l .faults) (acksFor t (e .acks))) refl (must e) refl h
+tally-happens : (l : Ledger) (s : Seat) (t : Transfer) → Eligible l t → Recordable l s t
+    → let o = finished l (t .account) (tallied l (entryWithAck l s t) t) in Happens l (Ack s t) (o .reply) (o .next)
+tally-happens l s t ok new = go (enough (l .seats) (l .faults) (acksFor t (e .acks))) refl (must e) refl
   where
     e : Entry
     e = entryWithAck l s t
@@ -106,21 +105,19 @@ tally-happens l s t r ok new h = go (enough (l .seats) (l .faults) (acksFor t (e
 
     go : (full : Bool) → enough (l .seats) (l .faults) (acksFor t (e .acks)) ≡ full
         → (split : Bool) → must e ≡ split
-        → Allows (finished l (t .account) (tallied l e t) .choice) r → Happens l (Ack s t) r (finished l (t .account) (tallied l e t) .next)
-    go true full split must h = accepted-by-acks s t refl (rw full at h) ok new full (rw full)
-    go false full true must h =
-        let free = rw (full, must) at h in
-        proposed s t (free .0) refl (free .1) ok new full must (free .2) (rw (full, must))
-    go false full false must h = noted s t refl (rw (full, must) at h) ok new full (rw (full, must))
+        → Happens l (Ack s t) (finished l (t .account) (tallied l e t) .reply) (finished l (t .account) (tallied l e t) .next)
+    go true full split must = accepted-by-acks s t refl (rw full) ok new full (rw full)
+    go false full true must =
+        proposed s t (mostAcked (e .acks)) refl (rw (full, must)) ok new full must (most-acked-most (e .acks)) (rw (full, must))
+    go false full false must = noted s t refl (rw (full, must)) ok new full (rw (full, must))
 
 -- what a message does that no rule refuses
-effect-happens : (l : Ledger) (m : Message) (r : Reply) → AllFail (rulesIn l m) → Allows (effectIn l m .choice) r
-    → Happens l m r (effectIn l m .next)
-effect-happens l (Request t) r fail h = circulated t refl h (with-entry-read l (t .account))
-effect-happens l (Circulated t) r fail h =
+effect-happens : (l : Ledger) (m : Message) → AllFail (rulesIn l m) → Happens l m (effectIn l m .reply) (effectIn l m .next)
+effect-happens l (Request t) fail = circulated t refl refl (with-entry-read l (t .account))
+effect-happens l (Circulated t) fail =
     let next = next-number (entryOf l (t .account)) t (fail .1 .0) (fail .1 .1 .0) in
-    acknowledged t refl h (eligible l t (fail .0) next (fail .1 .1 .1 .0)) (fail .1 .1 .1 .1 .0) refl
-effect-happens l (Ack s t) r fail h =
+    acknowledged t refl refl (eligible l t (fail .0) next (fail .1 .1 .1 .0)) (fail .1 .1 .1 .1 .0) refl
+effect-happens l (Ack s t) fail =
     let next = next-number (entryOf l (t .account)) t (fail .1 .1 .0) (fail .1 .1 .1 .0) in
     let new : Recordable l s t =
     record {
@@ -128,28 +125,28 @@ effect-happens l (Ack s t) r fail h =
       not-equal = fail .1 .1 .1 .1 .1 .0;
       not-conflicting = fail .1 .1 .1 .1 .1 .1 .0;
     } in
-    tally-happens l s t r (eligible l t (fail .1 .0) next (fail .1 .1 .1 .1 .0)) new h
-effect-happens l (Decision t) r fail h =
+    tally-happens l s t (eligible l t (fail .1 .0) next (fail .1 .1 .1 .1 .0)) new
+effect-happens l (Decision t) fail =
     let next = next-number (entryOf l (t .account)) t (fail .1 .0) (fail .1 .1 .0) in
-    accepted-by-ruling t refl h (eligible l t (fail .0) next (fail .1 .1 .1 .0)) refl
-effect-happens l (Inquiry a) r fail h = told a refl h (with-entry-read l a)
+    accepted-by-ruling t refl refl (eligible l t (fail .0) next (fail .1 .1 .1 .0)) refl
+effect-happens l (Inquiry a) fail = told a refl refl (with-entry-read l a)
 
--- every message that is answered, whatever the ledger
-pub happens : (l : Ledger) (m : Message) (r : Reply) → Answers l m r → Happens l m r (step l m .next)
-happens l m r h = go (firstRefusal (rulesIn l m)) refl
+-- every message, whatever the ledger
+pub happens : (l : Ledger) (m : Message) → Happens l m (step l m .reply) (step l m .next)
+happens l m = go (firstRefusal (rulesIn l m)) refl
   where
-    go : (o : Option Refusal) → firstRefusal (rulesIn l m) ≡ o → Happens l m r (step l m .next)
-    go none e = rw (not-refused l m e) (effect-happens l m r (none-holds (rulesIn l m) e) (rw (not-refused l m e) at h))
-    go (some q) e = rw (refuses l m q e) (refused q (rw (refuses l m q e) at h) refl)
+    go : (o : Option Refusal) → firstRefusal (rulesIn l m) ≡ o → Happens l m (step l m .reply) (step l m .next)
+    go none e = rw (not-refused l m e) (effect-happens l m (none-holds (rulesIn l m) e))
+    go (some q) e = rw (refuses l m q e) (refused q refl refl)
 
 -- no message changes n, f, k or the opening sum
-pub step-group : (l : Ledger) (m : Message) (r : Reply) → Answers l m r → SameGroup (step l m .next) l
-step-group l m r h = go (happens l m r h)
+pub step-group : (l : Ledger) (m : Message) → SameGroup (step l m .next) l
+step-group l m = go (happens l m)
   where
     kept : {next : Ledger} (es : List Entry) → next ≡ withEntries l es → SameGroup next l
     kept es e = rw e (with-entries l es .1)
 
-    go : {next : Ledger} → Happens l m r next → SameGroup next l
+    go : {r : Reply} {next : Ledger} → Happens l m r next → SameGroup next l
     go (refused q a e) = kept (l .entries) e
     go (circulated t a b e) = kept (l .entries) e
     go (acknowledged t a b c d e) = kept _ e
@@ -158,3 +155,32 @@ step-group l m r h = go (happens l m r h)
     go (noted s t a b c d f e) = kept _ e
     go (accepted-by-ruling t a b c e) = kept _ e
     go (told a b c e) = kept (l .entries) e
+
+-- P is answered to an ack, and carries the most acked slip, with that ack recorded.
+abbrev pub CarriesMost : Ledger → Message → Transfer → Type 0
+CarriesMost l m u = (s : Seat) × (t : Transfer) × (m ≡ Ack s t) × (u ≡ mostAcked (entryWithAck l s t .acks))
+
+pub carries-most : (l : Ledger) (m : Message) (u : Transfer) → step l m .reply ≡ Propose u → CarriesMost l m u
+carries-most l m u h = go (firstRefusal (rulesIn l m)) refl
+  where
+    tally : (s : Seat) (t : Transfer) (full split : Bool)
+        → finished l (t .account)
+        (cond full (waits (entryWithAck l s t) t)
+        (cond split (replies (Propose (mostAcked (entryWithAck l s t .acks))) (withProposed (entryWithAck l s t))) (replies Note (entryWithAck l s t)))) .reply
+        ≡ Propose u → CarriesMost l (Ack s t) u
+    tally s t true split h = impossible (cc)
+    tally s t false true h = (s, t, refl, cc)
+    tally s t false false h = impossible (cc)
+
+    taken : (m : Message) → effectIn l m .reply ≡ Propose u → CarriesMost l m u
+    taken (Request t) h = impossible (cc)
+    taken (Circulated t) h = impossible (cc)
+    taken (Ack s t) h =
+        let e = entryWithAck l s t in
+        tally s t (enough (l .seats) (l .faults) (acksFor t (e .acks))) (mustPropose (l .seats) (l .faults) (acksRecorded (e .acks)) e) h
+    taken (Decision t) h = impossible (cc)
+    taken (Inquiry a) h = impossible (cc)
+
+    go : (o : Option Refusal) → firstRefusal (rulesIn l m) ≡ o → CarriesMost l m u
+    go none e = taken m (rw (not-refused l m e) at h)
+    go (some q) e = impossible (let z : Refuse q ≡ Propose u = rw (refuses l m q e) at h in cc)

@@ -1,16 +1,16 @@
 -- Laws of the tally: what the tests for "a slip that has the most acks" and for "two of them conflict" say.
-use Prim.Native.Nat.{ℕ, _≤_, _<_}
+use Prim.Native.Nat.{ℕ, zero, suc, _≤_, _<_}
 use native.Mathlib.Omega.{arith}
 use mathlib.Core.Path.{_≡_, refl, ap}
 use mathlib.Core.Logic.{_⊎_, inl, inr}
 use mathlib.Core.Bool.{Bool, true, false}
 use mathlib.Core.List.{List, [], _∷_}
-use lib.ListN.{length, getD}
+use lib.ListN.{length}
 use borrow.Author.Tests.{leb-true, le-leb}
 use Rattle.model.specs.Types.{Transfer, Slot, Empty, Full, AckSlot}
 use Rattle.model.specs.Basics.{bit, every}
 use Rattle.model.specs.Transfers.{equal, conflict}
-use Rattle.model.specs.Acks.{holds, conflicts, acksFor, conflictsWithAny, twoConflict, noMoreThan, hasMost}
+use Rattle.model.specs.Acks.{ackAt, holds, conflicts, acksFor, conflictsWithAny, twoConflict, noMoreThan, hasMost}
 use Rattle.model.proofs.Sums.{impossible, both, every-all, any-found, any-holds}
 use Rattle.model.proofs.Equality.{equal-sound}
 
@@ -57,9 +57,11 @@ most-complete acks t h = every-all (λ a. noMoreThan (acksFor t acks) acks (a .s
     here Empty = refl
     here (Full u) = le-leb (acksFor u acks) (acksFor t acks) (h u)
 
--- the ack of a place
-abbrev ackAt : List AckSlot → ℕ → Slot
-ackAt acks i = getD acks i (record { slot = Empty }) .slot
+-- a place with an ack is one of the list
+pub inside : (acks : List AckSlot) (i : ℕ) (u : Transfer) → ackAt acks i ≡ Full u → i < length acks
+inside [] i u e = impossible (cc)
+inside (a ∷ rest) zero u e = omega arith
+inside (a ∷ rest) (suc i) u e = omega (arith, inside rest i u e)
 
 -- two recorded acks, and that their slips conflict
 pub record TwoConflict (acks : List AckSlot) : Type 0 where

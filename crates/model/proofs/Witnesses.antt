@@ -1,6 +1,5 @@
--- Nothing here is empty: every message has an answer, every waiting list too, and an opened ledger has the bounds of the laws.
-use Prim.Native.Nat.{ℕ, zero, suc, _+_, _≤_, _<_}
-use native.Mathlib.Decide.{decLe}
+-- Nothing here is empty: every waiting list has an answer, and an opened ledger has the bounds of the laws.
+use Prim.Native.Nat.{ℕ, zero, suc, _+_, _<_}
 use native.Mathlib.Nat.{zero-add}
 use native.Mathlib.Omega.{arith}
 use mathlib.Core.Path.{_≡_, refl, ap}
@@ -9,62 +8,17 @@ use mathlib.Core.List.{List, [], _∷_, _++_, map}
 use mathlib.Core.Option.{Option, none, some}
 use lib.Dec.{eqb, lit<}
 use lib.ListN.{length, drop, List·getD-map}
-use borrow.Author.Tests.{leb-true, le-leb, ltb-false, eq-eqb, ne-eqb}
-use Rattle.model.specs.Types.{Transfer, Slot, Empty, Full, AckSlot, Entry, Ledger, Opening, Refusal, Message, Reply, Propose, ListReply, Listed, ListRefused}
-use Rattle.model.specs.Basics.{bit, sumOf, every, count}
+use borrow.Author.Tests.{ltb-false, eq-eqb, ne-eqb}
+use Rattle.model.specs.Types.{Entry, Ledger, Opening, Refusal, ListReply, Listed, ListRefused}
+use Rattle.model.specs.Basics.{bit, sumOf, count}
 use Rattle.model.specs.Records.{accountOf, freshEntry, entryAt, sumBalances, emptyPage, freshLedger, noLedger}
-use Rattle.model.specs.Replies.{Choice, exactly, proposes, Allows}
 use Rattle.model.specs.Refusals.{firstRefusal, listRules}
 use Rattle.model.specs.Openings.{openRules, openLedgerBy, openLedger}
-use Rattle.model.specs.Acks.{acksFor, noMoreThan, hasMost}
 use Rattle.model.specs.Settling.{isWaiting}
-use Rattle.model.specs.Calls.{step, Answers, WaitingAccounts, ListsUnlessRefused, Lists}
-use Rattle.model.proofs.Sums.{impossible, every-weaken, sum-map}
+use Rattle.model.specs.Calls.{WaitingAccounts, ListsUnlessRefused, Lists}
+use Rattle.model.proofs.Sums.{impossible, sum-map}
 use Rattle.model.proofs.Settles.{Bounded}
 use Rattle.model.proofs.Refusing.{none-holds}
-
--- no slip in these places has more than c of the acks
-abbrev AtMost : ℕ → List AckSlot → List AckSlot → Type 0
-AtMost c acks places = every (λ a. noMoreThan c acks (a .slot)) places ≡ true
-
-at-most-more : (c d : ℕ) → c ≤ d → (acks places : List AckSlot) → AtMost c acks places → AtMost d acks places
-at-most-more c d le acks places =
-    every-weaken (λ a. noMoreThan c acks (a .slot)) (λ a. noMoreThan d acks (a .slot)) places (λ a. here (a .slot))
-  where
-    here : (s : Slot) → noMoreThan c acks s ≡ true → noMoreThan d acks s ≡ true
-    here Empty e = refl
-    here (Full u) e = le-leb (acksFor u acks) d (omega (arith, leb-true (acksFor u acks) c e))
-
--- a slip that has no fewer of the acks than any slip in these places
-best-of : (acks places : List AckSlot) → (t : Transfer) × AtMost (acksFor t acks) acks places
-best-of acks [] = (record { account = accountOf 0; number = 0; value = 0; recipient = accountOf 0 }, refl)
-best-of acks (a ∷ rest) = better (a .slot) (best-of acks rest)
-  where
-    Best : Slot → Type 0
-    Best s = (t : Transfer) × (noMoreThan (acksFor t acks) acks s && every (λ b. noMoreThan (acksFor t acks) acks (b .slot)) rest ≡ true)
-
-    better : (s : Slot) → ((t : Transfer) × AtMost (acksFor t acks) acks rest) → Best s
-    better Empty best = best
-    better (Full u) best = go (decLe (acksFor u acks) (acksFor (best .0) acks))
-      where
-        go : Dec (acksFor u acks ≤ acksFor (best .0) acks) → Best (Full u)
-        go (yes le) = (best .0, rw (le-leb (acksFor u acks) (acksFor (best .0) acks) le) (best .1))
-        go (no gt) =
-            let all = at-most-more (acksFor (best .0) acks) (acksFor u acks) (omega arith) acks rest (best .1) in
-            (u, rw (le-leb (acksFor u acks) (acksFor u acks) (omega arith)) all)
-
--- some slip has the most acks
-pub some-most : (acks : List AckSlot) → (t : Transfer) × (hasMost acks t ≡ true)
-unfolding hasMost
-some-most acks = best-of acks acks
-
--- every message has an answer
-pub some-answer : (l : Ledger) (m : Message) → (r : Reply) × Answers l m r
-some-answer l m = go (step l m .choice)
-  where
-    go : (c : Choice) → (r : Reply) × Allows c r
-    go (exactly r) = (r, refl)
-    go (proposes acks) = let most = some-most acks in (Propose (most .0), (most .0, refl, most .1))
 
 -- the accounts with a waiting slip, lowest first, of these entries, the first of which is account i's
 waitingFrom : ℕ → List Entry → List ℕ

@@ -1,11 +1,19 @@
--- Document 01, "Ack": the running tally of one number, read off the acks that are recorded for it.
+-- Document 01, "Ack": the running tally of one number, read off the acks that are recorded for it; and document 02, request 2: the slip that is put
+-- forward.
 use Prim.Native.Nat.{ℕ, _+_, _*_, _-_}
 use mathlib.Core.Bool.{Bool, true, false, not, _&&_}
 use mathlib.Core.List.{List}
+use mathlib.Core.Option.{Option, none, some}
 use lib.Dec.{leb, ltb}
+use lib.ListN.{length, getD}
 use Rattle.model.specs.Types.{Transfer, Slot, Empty, Full, AckSlot, Entry}
-use Rattle.model.specs.Basics.{count, any, every}
+use Rattle.model.specs.Basics.{count, any, every, firstWhere}
+use Rattle.model.specs.Records.{accountOf}
 use Rattle.model.specs.Transfers.{equal, conflict}
+
+-- a seat's place, by the seat's number; behind the last it is empty
+abbrev pub ackAt : List AckSlot → ℕ → Slot
+ackAt acks s = getD acks s (record { slot = Empty }) .slot
 
 -- the place holds a slip equal to this one
 abbrev pub holds : Transfer → Slot → Bool
@@ -55,3 +63,23 @@ noMoreThan c acks (Full u) = leb (acksFor u acks) c
 -- "a slip that has the most acks": no slip has more
 unfoldable pub hasMost : List AckSlot → Transfer → Bool
 hasMost acks t = every (λ a. noMoreThan (acksFor t acks) acks (a .slot)) acks
+
+-- the place holds a slip that has the most of the acks
+abbrev pub holdsMost : List AckSlot → Slot → Bool
+holdsMost acks Empty = false
+holdsMost acks (Full t) = hasMost acks t
+
+-- the slip in a place; in an empty one, a slip of zeros
+abbrev pub slipIn : Slot → Transfer
+slipIn Empty = record { account = accountOf 0; number = 0; value = 0; recipient = accountOf 0 }
+slipIn (Full t) = t
+
+-- the slip that a seat acked, if there is such a seat
+abbrev pub slipOf : List AckSlot → Option ℕ → Transfer
+slipOf acks none = slipIn Empty
+slipOf acks (some s) = slipIn (ackAt acks s)
+
+-- "Among the slips with the most acks the one put forward is now the first by its lowest acknowledging seat": going through the seats from 0, the slip
+-- of the first whose slip has the most acks
+unfoldable pub mostAcked : List AckSlot → Transfer
+mostAcked acks = slipOf acks (firstWhere (λ s. holdsMost acks (ackAt acks s)) (length acks) 0)

@@ -7,12 +7,11 @@ use mathlib.Core.List.{List, _++_}
 use mathlib.Core.Option.{Option, none, some}
 use lib.Dec.{eqb}
 use lib.ListN.{length, drop}
-use Rattle.model.specs.Types.{Account, Transfer, Entry, Ledger, Refusal, Message, Request, Circulated, Ack, Decision, Inquiry, Reply, Circulate, Acknowledge, Accept, Note, Balance, Refuse, ListReply, Listed, ListRefused}
+use Rattle.model.specs.Types.{Account, Transfer, Entry, Ledger, Outcome, Refusal, Message, Request, Circulated, Ack, Decision, Inquiry, Reply, Circulate, Acknowledge, Accept, Propose, Note, Balance, Refuse, ListReply, Listed, ListRefused}
 use Rattle.model.specs.Basics.{bit, count}
 use Rattle.model.specs.Records.{accountOf, entryOf, setEntry, withEntry, withEntries, withAcked, withAck, withProposed, withPending}
-use Rattle.model.specs.Replies.{Choice, exactly, proposes, Outcome, Allows}
 use Rattle.model.specs.Refusals.{firstRefusal, rulesOf, listRules}
-use Rattle.model.specs.Acks.{acksFor, acksRecorded, enough, mustPropose}
+use Rattle.model.specs.Acks.{acksFor, acksRecorded, enough, mustPropose, mostAcked}
 use Rattle.model.specs.Settling.{isWaiting, Settled, settle}
 
 -- the account that a message is about: who pays, or the account asked for
@@ -25,7 +24,7 @@ payerOf (Inquiry a) = a
 
 -- what is due: a reply; or K, since the slip is accepted, and its count is for settling to tell
 pub data Due : Type 0 where
-  replied : Choice → Due
+  replied : Reply → Due
   accepts : Due
 
 -- What a message comes to at the entry of its account: what is due, and the entry after it.
@@ -35,14 +34,14 @@ pub record Effect : Type 0 where
 
 -- this reply, and this entry after it
 abbrev pub replies : Reply → Entry → Effect
-replies r e = record { due = replied (exactly r); entry = e }
+replies r e = record { due = replied r; entry = e }
 
 -- "its slip is accepted: reply K": "An accepted slip waits"
 abbrev pub waits : Entry → Transfer → Effect
 waits e t = record { due = accepts; entry = withPending e t }
 
 -- "If twice the count of acks equal to this slip exceeds n + 3f, the slip is accepted: reply K. Otherwise, if .. reply P ..
--- Otherwise reply N": what follows from the account's entry in which the ack is recorded
+-- Otherwise reply N": what follows from the account's entry in which the ack is recorded. P carries the most acked slip
 abbrev pub tallied : Ledger → Entry → Transfer → Effect
 tallied l e t =
     cond
@@ -50,7 +49,7 @@ tallied l e t =
     (waits e t)
     (cond
     (mustPropose (l .seats) (l .faults) (acksRecorded (e .acks)) e)
-    (record { due = replied (proposes (e .acks)); entry = withProposed e })
+    (replies (Propose (mostAcked (e .acks))) (withProposed e))
     (replies Note e))
 
 -- What a message does that is not refused.
@@ -77,11 +76,11 @@ turnAt l e m = unlessRefused (firstRefusal (rulesOf l e m)) e (effect l e m)
 
 -- "K carries how many slips this call booked"
 abbrev pub accepted : Ledger → Settled → Outcome
-accepted l s = record { choice = exactly (Accept (s .applied)); next = withEntries l (s .entries) }
+accepted l s = record { reply = Accept (s .applied); next = withEntries l (s .entries) }
 
 -- the entry is stored, which changes nothing where it is as it was; where its slip is accepted, "then settling begins"
 abbrev pub finishedBy : Ledger → Account → Due → Entry → Outcome
-finishedBy l a (replied c) e = record { choice = c; next = withEntry l a e }
+finishedBy l a (replied r) e = record { reply = r; next = withEntry l a e }
 finishedBy l a accepts e = accepted l (settle (setEntry (l .entries) a e))
 
 abbrev pub finished : Ledger → Account → Effect → Outcome
@@ -90,10 +89,6 @@ finished l a x = finishedBy l a (x .due) (x .entry)
 -- The outcome of a message, for every ledger and every message.
 unfoldable pub step : Ledger → Message → Outcome
 step l m = finished l (payerOf m) (turnAt l (entryOf l (payerOf m)) m)
-
--- The replies that a message may get: one, save for P on a tie.
-abbrev pub Answers : Ledger → Message → Reply → Type 0
-Answers l m r = Allows (step l m .choice) r
 
 -- Waiting list: the accounts with a waiting slip, each once. Their order is left free.
 abbrev pub WaitingAccounts : Ledger → List ℕ → Type 0

@@ -4,10 +4,10 @@ use mathlib.Core.Bool.{Bool, false, cond, _||_}
 use mathlib.Core.List.{List, [], _∷_, _++_}
 use mathlib.Core.Option.{Option, none, some}
 use lib.Dec.{leb, ltb, eqb}
-use lib.ListN.{length, getD}
+use lib.ListN.{length}
 use Rattle.model.specs.Types.{Seat, Account, Transfer, Slot, Empty, Full, Entry, Ledger, Message, Request, Circulated, Ack, Decision, Inquiry, Refusal, UnknownSeat, OutOfRange, PastNumber, FutureNumber, AlreadyAccepted, AckRepeated, AckConflicting, InsufficientFunds, AlreadyAcked, ShortBuffer}
 use Rattle.model.specs.Transfers.{sameNumber}
-use Rattle.model.specs.Acks.{holds, conflicts}
+use Rattle.model.specs.Acks.{ackAt, holds, conflicts}
 
 -- a test, and the refusal if it holds
 abbrev pub Rule : Type 0
@@ -47,7 +47,7 @@ waitsAlready (Full p) t = sameNumber p t
 
 -- the ack that is recorded from a seat
 abbrev pub ackFrom : Entry → Seat → Slot
-ackFrom e s = getD (e .acks) (s .0) (record { slot = Empty }) .slot
+ackFrom e s = ackAt (e .acks) (s .0)
 
 -- 11: request or slip with a value above the balance
 abbrev pub aboveBalance : Entry → Transfer → Bool

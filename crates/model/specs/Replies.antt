@@ -1,10 +1,7 @@
--- The documents' letter, number and values of each answer; and which answers a call allows.
+-- The documents' letter, number and values of each answer.
 use Prim.Native.Nat.{ℕ}
-use mathlib.Core.Path.{_≡_}
 use mathlib.Core.List.{List, [], _∷_}
-use mathlib.Core.Bool.{true}
-use Rattle.model.specs.Types.{Transfer, AckSlot, Ledger, Answer, Refusal, BadGroup, BadAccounts, SumTooLarge, UnknownSeat, OutOfRange, PastNumber, FutureNumber, AlreadyAccepted, AckRepeated, AckConflicting, InsufficientFunds, AlreadyAcked, BadHeader, BadContents, BadEnd, BadSum, ShortBuffer, TooManyMessages, NoRoom, Reply, Circulate, Acknowledge, Accept, Propose, Note, Balance, Refuse, OpenReply, Opened, OpenRefused, ListReply, Listed, ListRefused, BundleReply, Sound, BundleRefused, WriteReply, Written, WriteRefused}
-use Rattle.model.specs.Acks.{hasMost}
+use Rattle.model.specs.Types.{Transfer, Refusal, BadGroup, BadAccounts, SumTooLarge, UnknownSeat, OutOfRange, PastNumber, FutureNumber, AlreadyAccepted, AckRepeated, AckConflicting, InsufficientFunds, AlreadyAcked, BadHeader, BadContents, BadEnd, BadSum, ShortBuffer, TooManyMessages, NoRoom, Reply, Circulate, Acknowledge, Accept, Propose, Note, Balance, Refuse, OpenReply, Opened, OpenRefused, ListReply, Listed, ListRefused, BundleReply, Sound, BundleRefused, WriteReply, Written, WriteRefused}
 
 -- the refusal codes
 abbrev pub codeOf : Refusal → ℕ
@@ -72,22 +69,3 @@ valuesOfBundle (BundleRefused r i) = codeOf r ∷ i ∷ []
 abbrev pub valuesOfWrite : WriteReply → List ℕ
 valuesOfWrite (Written size) = 0 ∷ size ∷ []
 valuesOfWrite (WriteRefused r i) = codeOf r ∷ i ∷ []
-
--- What a call may reply: one reply, or P with a slip that has the most of these acks.
-pub data Choice : Type 0 where
-  exactly : Reply → Choice
-  proposes : List AckSlot → Choice
-
--- What a call does: what it may reply, and the ledger after it.
-pub record Outcome : Type 0 where
-  pub choice : Choice
-  pub next : Ledger
-
--- The one answer of a message that is left free: on a tie P carries any of the slips with the most acks.
-abbrev pub Allows : Choice → Reply → Type 0
-Allows (exactly q) r = r ≡ q
-Allows (proposes acks) r = (u : Transfer) × (r ≡ Propose u) × (hasMost acks u ≡ true)
-
--- a reply and a ledger are those of the outcome
-abbrev pub Meets : Outcome → Answer → Type 0
-Meets o r = Allows (o .choice) (r .reply) × (r .ledger ≡ o .next)

@@ -55,7 +55,7 @@ pub record Ledger : Type 0 where
   pub total : ℕ
   pub entries : List Entry
 
--- A message's reply with the ledger after it.
-pub record Answer : Type 0 where
+-- What a call does: its reply, and the ledger after it.
+pub record Outcome : Type 0 where
   pub reply : Reply
-  pub ledger : Ledger
+  pub next : Ledger

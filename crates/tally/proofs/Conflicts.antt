@@ -6,7 +6,7 @@ use mathlib.Core.Path.{_≡_, refl, ap, _∙_}
 use mathlib.Core.Bool.{Bool, true, false, not}
 use mathlib.Core.List.{List, [], _∷_}
 use lib.Dec.{ltb}
-use lib.ListN.{length, getD}
+use lib.ListN.{length}
 use borrow.Author.Tests.{lt-ltb, le-ltb, eq-eqb}
 use Rattle.model.specs.declared.Account.{Account}
 use Rattle.model.specs.declared.Transfer.{Transfer}
@@ -15,27 +15,17 @@ use Rattle.model.specs.declared.Slot.the-variants.{Empty, Full}
 use Rattle.model.specs.Types.{AckSlot}
 use Rattle.model.specs.Basics.{bit, count}
 use Rattle.model.specs.Transfers.{equal, conflict}
-use Rattle.model.specs.Acks.{holds, conflicts, isFull, acksFor, acksRecorded, twoConflict}
+use Rattle.model.specs.Acks.{ackAt, holds, conflicts, isFull, acksFor, acksRecorded, twoConflict}
 use Rattle.model.proofs.Sums.{impossible, some-counted, sum-at-least}
 use Rattle.model.proofs.Equality.{equal-sound}
-use Rattle.model.proofs.Tallies.{TwoConflict, two-conflict-sound, two-conflict-complete}
+use Rattle.model.proofs.Tallies.{inside, TwoConflict, two-conflict-sound, two-conflict-complete}
 
 abbrev none : AckSlot
 none = record { slot = Empty }
 
--- the ack of a place
-abbrev ackAt : List AckSlot → ℕ → Slot
-ackAt acks i = getD acks i none .slot
-
 -- each recorded ack is of the slip's account and number
 abbrev pub AllOf : Transfer → List AckSlot → Type 0
 AllOf t acks = (i : ℕ) (u : Transfer) → ackAt acks i ≡ Full u → (u .account ≡ t .account) × (u .number ≡ t .number)
-
--- a place with an ack is one of the list
-inside : (acks : List AckSlot) (i : ℕ) (u : Transfer) → ackAt acks i ≡ Full u → i < length acks
-inside [] i u e = impossible (cc)
-inside (a ∷ rest) zero u e = omega arith
-inside (a ∷ rest) (suc i) u e = omega (arith, inside rest i u e)
 
 module _ (t : Transfer) where
   -- how many acks conflict with the slip

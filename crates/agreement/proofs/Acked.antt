@@ -9,6 +9,7 @@ use Rattle.agreement.specs.Types.{Seat, Account, Transfer, Full, Entry, 
 use Rattle.agreement.specs.Runs.{Opens, honest, Call, message, waitingList, Event, Run, _▹_, Within, at-end, sooner, throughout, sameSeat, ledgerAt, Obeys, acked, passes}
 use Rattle.agreement.specs.Premises.{implies, ackedBy, genuine}
 use Rattle.agreement.proofs.Places.{before, Order, same-event, earlier, later, order, happened-later, throughout-at, obeys-before, obeys-at}
+use Rattle.agreement.proofs.Proposals.{happens}
 use Rattle.agreement.proofs.Deeds.{acked-is, deed-found}
 use Rattle.model.proofs.Opened.{Group}
 use Rattle.agreement.proofs.Soundness.{opened-entry, group, Sound, no-acks, recorded-read}
@@ -21,7 +22,7 @@ use Rattle.model.specs.Transfers.{equal}
 use Rattle.model.specs.Refusals.{ackFrom}
 use Rattle.model.specs.Calls.{step}
 use Rattle.model.proofs.Sums.{impossible, both}
-use Rattle.model.proofs.Steps.{Eligible, Recordable, entryWithAck, Happens, happens}
+use Rattle.model.proofs.Steps.{Eligible, Recordable, entryWithAck, Happens}
 
 -- the last number of an account that this entry has booked or acked
 abbrev lastNumber : Entry → ℕ

@@ -9,6 +9,7 @@ use Rattle.agreement.specs.Types.{Seat, Account, Transfer, Opening, Ack,
 use Rattle.agreement.specs.Runs.{Opens, FewBad, message, Event, Run, start, _▹_, Within, at-end, sooner, ledgerAt, Obeys, accepted, proposed, ruled, passes}
 use Rattle.agreement.specs.Premises.{ruledOn, ruledOtherwise, likewise, proposals, founded, rightful, Premises}
 use Rattle.agreement.proofs.Places.{before, within-trans, Order, same-event, earlier, later, order, happened-holds, throughout-at, obeys-before, obeys-at}
+use Rattle.agreement.proofs.Proposals.{happens}
 use Rattle.agreement.proofs.Deeds.{Accepts, by-ack, by-ruling, accepted-is, proposed-is, passes-is}
 use Rattle.agreement.proofs.Reachable.{sound}
 use Rattle.agreement.proofs.StepLaws.{answer-accept, answer-propose}
@@ -19,7 +20,6 @@ use Rattle.model.specs.Transfers.{sameNumber, equal, conflict}
 use Rattle.model.proofs.Sums.{impossible, both}
 use Rattle.model.proofs.Equality.{equal-sound, equal-refl, Conflict, conflict-complete}
 use Rattle.model.proofs.Access.{same-account}
-use Rattle.model.proofs.Steps.{happens}
 
 -- the test for account and number
 pub same-number : (t u : Transfer) → t .account ≡ u .account → t .number ≡ u .number → sameNumber t u ≡ true

@@ -11,6 +11,7 @@ use Rattle.agreement.specs.Types.{Seat, Account, Transfer, Slot, Empty, 
 use Rattle.agreement.specs.Runs.{Opens, Call, message, waitingList, Event, Run, _▹_, Within, sameSeat, ledgerAt, Conforms, Obeys, isAccept, accepted, proposed, ruled, passes}
 use Rattle.agreement.specs.Facts.{answeredK, countOf, mustAccept, acceptedBy, taken, ruledFor, Always}
 use Rattle.agreement.proofs.Places.{before, happened-found, happened-holds, obeys-before, obeys-at, ledger-after}
+use Rattle.agreement.proofs.Proposals.{happens}
 use Rattle.agreement.proofs.Deeds.{proposed-is, that-slip, deed-found}
 use Rattle.agreement.proofs.Soundness.{opened-entry, next-waits, group, Sound}
 use Rattle.agreement.proofs.Reachable.{sound, stays, everywhere, past-calls}
@@ -27,7 +28,6 @@ use Rattle.model.specs.Calls.{step}
 use Rattle.model.proofs.Sums.{impossible, both, sum-set-same, sum-same-each}
 use Rattle.model.proofs.Equality.{equal-sound, equal-refl}
 use Rattle.model.proofs.Settles.{none-affordable, settle-done, settle-currents}
-use Rattle.model.proofs.Steps.{happens}
 
 -- tests that hold of the same
 same-test : (a b : Bool) → (a ≡ true → b ≡ true) → (b ≡ true → a ≡ true) → a ≡ b

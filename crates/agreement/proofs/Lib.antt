@@ -1,5 +1,6 @@
 -- Demand 3, proved: `demand3`, in Demand3.antt. The files before it are its steps.
 pub mod Places
+pub mod Proposals
 pub mod Deeds
 pub mod Soundness
 pub mod StepLaws

@@ -6,9 +6,9 @@ use borrow.Author.Tests.{eq-eqb, eqb-true}
 use Prim.Native.Nat.{ℕ}
 use mathlib.Core.List.{List}
 use Rattle.agreement.specs.Types.{Seat, Ledger, Opening, Message, Reply, ListReply}
-use Rattle.agreement.specs.Runs.{Call, message, waitingList, Event, Run, start, _▹_, Within, at-end, sooner, happened, throughout, sameSeat, nextLedger, ledgerAt, Conforms, Obeys}
+use Rattle.agreement.specs.Runs.{Call, message, waitingList, Event, Run, start, _▹_, Within, at-end, sooner, happened, throughout, sameSeat, nextLedger, ledgerAt, MayReply, Conforms, Obeys}
 use Rattle.model.specs.Records.{seatOf, freshLedger}
-use Rattle.model.specs.Calls.{step, Answers}
+use Rattle.model.specs.Calls.{step}
 use Rattle.model.proofs.Sums.{impossible, both}
 
 -- the start is a place
@@ -110,7 +110,7 @@ module _ (o : Opening) (s : Seat) (P : Run → Ledger → Type 0)
     (elsewhere : (r : Run) (e : Event) (l : Ledger) → sameSeat (e .at) s ≡ false → P r l → P (r ▹ e) l)
     (listed : (r : Run) (b a : List ℕ) (q : ListReply) (l : Ledger) → P r l → P (r ▹ record { at = s; call = waitingList b q a }) l)
     (answered : (r : Run) (m : Message) (q : Reply) (l : Ledger)
-    → l ≡ ledgerAt o s r → Obeys o r → Answers l m q → P r l → P (r ▹ record { at = s; call = message m q }) (step l m .next))
+    → l ≡ ledgerAt o s r → Obeys o r → MayReply l m q → P r l → P (r ▹ record { at = s; call = message m q }) (step l m .next))
   where
     at-seat : (r : Run) (c : Call) → Obeys o r → Conforms (ledgerAt o s r) c
         → P r (ledgerAt o s r) → P (r ▹ record { at = s; call = c }) (nextLedger (ledgerAt o s r) c)

@@ -9,12 +9,13 @@ use mathlib.Core.List.{List}
 use Rattle.agreement.specs.Types.{Seat, Ledger, Opening, Message, Reply, ListReply}
 use Rattle.agreement.specs.Runs.{Opens, Call, message, waitingList, Event, Run, start, _▹_, Within, at-end, sooner, sameSeat, ledgerAt, Obeys}
 use Rattle.agreement.proofs.Places.{the-start, nothing-yet, last-or-sooner, seat-self, one-event, ledger-induction}
+use Rattle.agreement.proofs.Proposals.{happens}
 use Rattle.agreement.proofs.Soundness.{group, Sound, opened-sound}
 use Rattle.agreement.proofs.StepLaws.{step-sound}
 use Rattle.model.specs.Records.{freshLedger}
 use Rattle.model.specs.Calls.{step}
 use Rattle.model.proofs.Sums.{impossible}
-use Rattle.model.proofs.Steps.{Happens, happens}
+use Rattle.model.proofs.Steps.{Happens}
 
 -- at every place of a run that obeys
 pub sound : (o : Opening) → Opens o → (s : Seat) (r : Run) → Obeys o r → Sound o (ledgerAt o s r)

@@ -5,6 +5,7 @@ use Rattle.agreement.specs.Types.{Seat, Account, Entry, Ledger, Opening,
 use Rattle.agreement.specs.Runs.{Opens, message, Event, Run, _▹_, Within, ledgerAt, Obeys, accepted}
 use Rattle.agreement.specs.Slates.{Slate, freshSlate, nextSlate, slateAt, join}
 use Rattle.agreement.proofs.Places.{before, obeys-before, obeys-at, seat-self}
+use Rattle.agreement.proofs.Proposals.{happens}
 use Rattle.model.proofs.Opened.{Group}
 use Rattle.agreement.proofs.Soundness.{next-waits, opened-entry, group, Sound, bounded}
 use Rattle.agreement.proofs.Reachable.{run-induction}
@@ -12,7 +13,6 @@ use Rattle.agreement.proofs.StepLaws.{Turn, keeps, accepts, turn, answe
 use Rattle.agreement.proofs.SlateSettles.{Matches, quiet-matches, join-matches, settle-matches}
 use Rattle.model.specs.Records.{freshLedger, setEntry, withPending, withEntry}
 use Rattle.model.specs.Calls.{step}
-use Rattle.model.proofs.Steps.{happens}
 
 opened-matches : (o : Opening) → Matches (freshLedger o .entries) (freshSlate o)
 opened-matches o =

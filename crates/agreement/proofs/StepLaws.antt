@@ -20,7 +20,7 @@ use Rattle.model.specs.Records.{seatOf, withAcked, withProposed, withPending, e
 use Rattle.model.specs.Acks.{holds, conflicts, acksFor, acksRecorded, enough, twoConflict, mustPropose}
 use Rattle.model.specs.Refusals.{outOfRange, waitsAlready, ackFrom}
 use Rattle.model.specs.Settling.{settle}
-use Rattle.model.specs.Calls.{Answers}
+use Rattle.model.specs.Calls.{step}
 use Rattle.model.proofs.Sums.{impossible, some-counted, both}
 use Rattle.model.proofs.Equality.{equal-sound, equal-refl}
 use Rattle.model.proofs.Access.{entry-set-same, set-each, with-entry-same}
@@ -473,7 +473,7 @@ pub data AckRefused (l : Ledger) (s : Seat) (t : Transfer) (q : Refusal) : Type 
   repeated : holds t (ackFrom (entryOf l (t .account)) s) ≡ true → AckRefused l s t q
   conflicting : conflicts t (ackFrom (entryOf l (t .account)) s) ≡ true → AckRefused l s t q
 
-pub ack-refused : (l : Ledger) (s : Seat) (t : Transfer) (q : Refusal) → Answers l (Ack s t) (Refuse q) → AckRefused l s t q
+pub ack-refused : (l : Ledger) (s : Seat) (t : Transfer) (q : Refusal) → step l (Ack s t) .reply ≡ Refuse q → AckRefused l s t q
 ack-refused l s t q h = go (some-holds (rulesIn l (Ack s t)) q (refused-by l (Ack s t) q h))
   where
     go : SomeHolds q (rulesIn l (Ack s t)) → AckRefused l s t q

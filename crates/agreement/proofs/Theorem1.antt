@@ -10,11 +10,12 @@ use mathlib.Core.Option.{some}
 use lib.Dec.{ltb}
 use borrow.Author.Tests.{lt-ltb, ltb-true}
 use Rattle.agreement.specs.Types.{Seat, Transfer, Slot, Empty, Full, Entry, Ledger, Opening, Refusal, Message, Circulated, Ack, Reply, Circulate, Acknowledge, Accept, Propose, Note, Balance, Refuse}
-use Rattle.agreement.specs.Runs.{Opens, countBelow, FewBad, honest, message, Event, Run, _▹_, Within, sameSeat, ledgerAt, Obeys, isRefusal, accepted, proposed, ruled}
+use Rattle.agreement.specs.Runs.{Opens, countBelow, FewBad, honest, message, Event, Run, _▹_, Within, sameSeat, ledgerAt, MayReply, Obeys, isRefusal, accepted, proposed, ruled}
 use Rattle.agreement.specs.Premises.{Premises}
 use Rattle.agreement.specs.Facts.{acceptedBy}
 use Rattle.agreement.specs.Undisputed.{AllAcked, tooEarly, brings, AllReached, Theorem1}
 use Rattle.agreement.proofs.Places.{before, within-trans, happened-found, obeys-before, obeys-at, seat-is, ledger-after}
+use Rattle.agreement.proofs.Proposals.{happens, refused-today}
 use Rattle.agreement.proofs.Deeds.{acked-is, Accepts, by-ack, by-ruling, accepted-is, brings-is, deed-found}
 use Rattle.agreement.proofs.Soundness.{group, Sound, same-range}
 use Rattle.agreement.proofs.StepLaws.{Held, stays-held, now-held, BookedOrWaits, stays-settled, answer-acknowledge, AckRefused, unknown-seat, out-of-range, past-number, future-number, waits-already, repeated, conflicting, ack-refused}
@@ -29,11 +30,11 @@ use Rattle.model.specs.Records.{seatOf, entryOf}
 use Rattle.model.specs.Transfers.{equal}
 use Rattle.model.specs.Acks.{holds, conflicts, acksFor, enough}
 use Rattle.model.specs.Refusals.{outOfRange, waitsAlready, ackFrom}
-use Rattle.model.specs.Calls.{step, Answers}
+use Rattle.model.specs.Calls.{step}
 use Rattle.model.proofs.Sums.{impossible, both}
 use Rattle.model.proofs.Equality.{equal-sound, equal-refl, conflict-sound}
 use Rattle.model.proofs.Refusing.{refusal-keeps}
-use Rattle.model.proofs.Steps.{Happens, happens}
+use Rattle.model.proofs.Steps.{Happens}
 
 -- every number below n is counted
 count-all : (p : ℕ → Bool) (n : ℕ) → ((i : ℕ) → p i ≡ true) → countBelow p n ≡ n
@@ -182,12 +183,12 @@ module _ (o : Opening) (bad : Seat → Bool) (run : Run) (opens : Opens o) (few 
         l : Ledger
         l = ledgerAt o z q
 
-        taken : (y : Reply) → Answers l (Ack s t) y → isRefusal y ≡ false → Arrived s t (entryOf (step l (Ack s t) .next) (t .account))
+        taken : (y : Reply) → MayReply l (Ack s t) y → isRefusal y ≡ false → Arrived s t (entryOf (step l (Ack s t) .next) (t .account))
         taken y h is =
             let ok = sound o opens z q (obeys-before o obeys (before w)) in
             inl (now-held o l (step l (Ack s t) .next) (Ack s t) y (group o opens) ok s t refl is (happens l (Ack s t) y h))
 
-        go : (y : Reply) → r ≡ y → Answers l (Ack s t) y → Arrived s t (entryOf (step l (Ack s t) .next) (t .account))
+        go : (y : Reply) → r ≡ y → MayReply l (Ack s t) y → Arrived s t (entryOf (step l (Ack s t) .next) (t .account))
         go Circulate at h = taken Circulate h refl
         go Acknowledge at h = taken Acknowledge h refl
         go (Accept c) at h = taken (Accept c) h refl
@@ -195,8 +196,8 @@ module _ (o : Opening) (bad : Seat → Bool) (run : Run) (opens : Opens o) (few 
         go Note at h = taken Note h refl
         go (Balance b) at h = taken (Balance b) h refl
         go (Refuse x) at h =
-            rw (refusal-keeps l (Ack s t) x h)
-            (refused-arrived q z s x (before w) fair (rw at at late) (ack-refused l s t x h))
+            let due = refused-today l (Ack s t) x h in
+            rw (refusal-keeps l (Ack s t) x due) (refused-arrived q z s x (before w) fair (rw at at late) (ack-refused l s t x due))
 
     -- and stays so
     stays-arrived : (z s : Seat) {p r : Run} → Obeys o r → Within p r

@@ -6,3 +6,4 @@ pub mod Slates
 pub mod Claims
 pub mod Facts
 pub mod Undisputed
+pub mod Proposals

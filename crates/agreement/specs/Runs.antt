@@ -6,12 +6,13 @@ use mathlib.Core.List.{List}
 use mathlib.Core.Option.{Option, none, some}
 use lib.Dec.{eqb, ltb}
 use lib.ListN.{length}
-use Rattle.agreement.specs.Types.{Seat, Transfer, Ledger, Opening, Message, Request, Circulated, Ack, Decision, Inquiry, Reply, Circulate, Acknowledge, Accept, Propose, Note, Balance, Refuse, Opened, ListReply}
+use Rattle.agreement.specs.Types.{Seat, Transfer, AckSlot, Ledger, Opening, Message, Request, Circulated, Ack, Decision, Inquiry, Reply, Circulate, Acknowledge, Accept, Propose, Note, Balance, Refuse, Opened, ListReply}
 use Rattle.model.specs.Basics.{bit}
-use Rattle.model.specs.Records.{seatOf, freshLedger}
+use Rattle.model.specs.Records.{seatOf, freshLedger, entryOf, withAck}
+use Rattle.model.specs.Acks.{hasMost}
 use Rattle.model.specs.Replies.{letterOf}
 use Rattle.model.specs.Openings.{openReply}
-use Rattle.model.specs.Calls.{step, Answers, Lists}
+use Rattle.model.specs.Calls.{step, Lists}
 
 -- "Take any opening page that is not refused": a page has 32 balances.
 pub record Opens (o : Opening) : Type 0 where
@@ -82,15 +83,53 @@ unfoldable pub ledgerAt : Opening → Seat → Run → Ledger
 ledgerAt o s start = freshLedger o
 ledgerAt o s (r ▹ e) = cond (sameSeat (e .at) s) (nextLedger (ledgerAt o s r) (e .call)) (ledgerAt o s r)
 
--- a call is answered as the definitions allow: any reply that they leave free is allowed
+-- the slip that a reply P carries
+abbrev pub proposal : Reply → Option Transfer
+proposal Circulate = none
+proposal Acknowledge = none
+proposal (Accept c) = none
+proposal (Propose t) = some t
+proposal Note = none
+proposal (Balance b) = none
+proposal (Refuse q) = none
+
+-- the acks of a message's account by which it is answered: with the ack at hand, if it is one
+abbrev pub acksWith : Ledger → Message → List AckSlot
+acksWith l (Request t) = entryOf l (t .account) .acks
+acksWith l (Circulated t) = entryOf l (t .account) .acks
+acksWith l (Ack s t) = withAck (entryOf l (t .account)) s t .acks
+acksWith l (Decision t) = entryOf l (t .account) .acks
+acksWith l (Inquiry a) = entryOf l a .acks
+
+-- What a message may be replied in a run: what the definitions say, save that a P may carry any of the slips with the most acks, since seats take request 2
+-- of document 02, which says which of them, on different days.
+abbrev pub StandsFor : Reply → Option Transfer → List AckSlot → Reply → Type 0
+StandsFor due none acks r = r ≡ due
+StandsFor due (some t) acks r = (u : Transfer) × (r ≡ Propose u) × (hasMost acks u ≡ true)
+
+abbrev pub MayReply : Ledger → Message → Reply → Type 0
+MayReply l m r = StandsFor (step l m .reply) (proposal (step l m .reply)) (acksWith l m) r
+
+-- a call is answered as a run allows: any reply that is left free is allowed
 abbrev pub Conforms : Ledger → Call → Type 0
-Conforms l (message m r) = Answers l m r
+Conforms l (message m r) = MayReply l m r
 Conforms l (waitingList before r after) = Lists l before r after
 
+-- a call is answered by today's definitions
+abbrev pub AnsweredToday : Ledger → Call → Type 0
+AnsweredToday l (message m r) = r ≡ step l m .reply
+AnsweredToday l (waitingList before r after) = Lists l before r after
+
 -- every call is so answered, by the ledger that its seat has there
+abbrev pub EachCall : (Ledger → Call → Type 0) → Opening → Run → Type 0
+EachCall Right o start = Unit {0}
+EachCall Right o (r ▹ e) = EachCall Right o r × Right (ledgerAt o (e .at) r) (e .call)
+
 abbrev pub Obeys : Opening → Run → Type 0
-Obeys o start = Unit {0}
-Obeys o (r ▹ e) = Obeys o r × Conforms (ledgerAt o (e .at) r) (e .call)
+Obeys o r = EachCall Conforms o r
+
+abbrev pub ObeysToday : Opening → Run → Type 0
+ObeysToday o r = EachCall AnsweredToday o r
 
 -- "A call's arguments and reply tell what it did." Whether it was answered A, K, or R
 abbrev pub isAcknowledge : Reply → Bool
@@ -121,15 +160,6 @@ accepted (message (Inquiry a) r) = none
 accepted (waitingList before r after) = none
 
 -- "A reply P puts forward the slip that it carries."
-abbrev pub proposal : Reply → Option Transfer
-proposal Circulate = none
-proposal Acknowledge = none
-proposal (Accept c) = none
-proposal (Propose t) = some t
-proposal Note = none
-proposal (Balance b) = none
-proposal (Refuse q) = none
-
 abbrev pub proposed : Call → Option Transfer
 proposed (message m r) = proposal r
 proposed (waitingList before r after) = none

@@ -18,7 +18,7 @@ use Rattle.model.specs.declared.Reply.{Reply}
 use Rattle.model.specs.declared.Reply.the-variants.{Accept, Refuse, Note, Propose}
 use Rattle.model.specs.Basics.{bit}
 use Rattle.model.specs.Records.{withAck, withPending, withProposed, withEntry}
-use Rattle.model.specs.Acks.{holds, acksFor, acksRecorded, enough, mustPropose, hasMost}
+use Rattle.model.specs.Acks.{holds, acksFor, acksRecorded, enough, mustPropose, mostAcked}
 use Rattle.model.specs.Refusals.{firstRefusal}
 use Rattle.model.specs.Calls.{Due, replied, accepts, Effect, tallied, waits, finishedBy, finished}
 use Rattle.model.proofs.Equality.{equal-refl}
@@ -41,12 +41,12 @@ module _ (ws : List ℕ) (m : Message) (q : Check) (q-is : q ≡ checkOf (firstR
   pub refused : (r : Refusal) → q ≡ Failed r → Turned ws m (Refuse r) ws
   refused r found =
       let step-is = refuses (ledgerIn ws) m r (failed (firstRefusal (rulesIn (ledgerIn ws) m)) r (sym q-is ∙ found)) in
-      record { meets = rw step-is (refl, refl); kept = λ code e. refl }
+      record { reply = rw step-is; ledger = rw step-is; kept = λ code e. refl }
 
   pub served : (r : Reply) (after : List ℕ) → q ≡ Passed → Taken (effectIn (ledgerIn ws) m) r after → Turned ws m r after
   served r after found x =
       let step-is = not-refused (ledgerIn ws) m (passed (firstRefusal (rulesIn (ledgerIn ws) m)) (sym q-is ∙ found)) in
-      record { meets = rw step-is (x .meets); kept = λ code e. absurd (x .not-refused code e) }
+      record { reply = rw step-is (x .reply); ledger = rw step-is (x .ledger); kept = λ code e. absurd (x .not-refused code e) }
 
 -- An entry that is stored is overwritten where a turn is finished.
 finished-again : (l : Ledger) (a : Account) (e : Entry) (x : Effect) → finished (withEntry l a e) a x ≡ finished l a x
@@ -91,7 +91,8 @@ pub settled : (before mid after : List ℕ) (t : Transfer) (n : ℕ)
     → Settles mid after n → Taken (finished (ledgerIn before) (t .account) (waits (entryIn before (t .account)) t)) (Accept n) after
 settled before mid after t n stored x =
     record {
-      meets = (ap Accept (rw stored at (x .count)), rw stored at (x .ledger));
+      reply = ap Accept (rw stored at (x .count));
+      ledger = rw stored at (x .ledger);
       not-refused = λ code e. impossible (cc);
     }
 
@@ -115,13 +116,13 @@ module _
       proposes-is : p ≡ mustPropose (ledgerIn ws .seats) (ledgerIn ws .faults) (acksRecorded (entryIn ws (t .account) .acks)) (entryIn ws (t .account))
       proposes-is = p-is ∙ ap (λ (z : Tally). mustPropose (ledgerIn ws .seats) (ledgerIn ws .faults) (z .recorded) (entryIn ws (t .account))) y-is
 
-      pub tally-proposes : (u : Transfer) (after : List ℕ) → p ≡ true → hasMost (entryIn ws (t .account) .acks) u ≡ true
+      pub tally-proposes : (u : Transfer) (after : List ℕ) → p ≡ true → u ≡ mostAcked (entryIn ws (t .account) .acks)
           → ledgerIn after ≡ withEntry (ledgerIn ws) (t .account) (withProposed (entryIn ws (t .account))) → Decided (Propose u) after
       tally-proposes u after due most marked =
           rw (sym accepts-is ∙ few, sym proposes-is ∙ due)
-          (record { meets = ((u, refl, most), marked); not-refused = λ code e. impossible (cc) })
+          (record { reply = ap Propose most; ledger = marked; not-refused = λ code e. impossible (cc) })
 
       pub tally-notes : p ≡ false → Decided Note ws
       tally-notes not-due =
           rw (sym accepts-is ∙ few, sym proposes-is ∙ not-due)
-          (record { meets = (refl, sym (with-entry-read (ledgerIn ws) (t .account))); not-refused = λ code e. impossible (cc) })
+          (record { reply = refl; ledger = sym (with-entry-read (ledgerIn ws) (t .account)); not-refused = λ code e. impossible (cc) })

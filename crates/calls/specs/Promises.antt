@@ -7,23 +7,21 @@ use Rattle.model.specs.declared.Message.{Message}
 use Rattle.model.specs.declared.Refusal.{Refusal}
 use Rattle.model.specs.declared.Reply.{Reply}
 use Rattle.model.specs.declared.Reply.the-variants.{Refuse}
-use Rattle.model.specs.Replies.{Outcome, Meets}
+use Rattle.model.specs.Types.{Outcome}
 use Rattle.model.specs.Acks.{acksFor}
 use Rattle.model.specs.Calls.{tallied, waits, finished, step}
 use Rattle.layout.specs.Layout.{ledgerIn, entryIn}
 
--- the reply and the ledger that the words are afterwards are those of the outcome
-abbrev pub MeetsIn : Outcome → Reply → List ℕ → Type 0
-MeetsIn o r after = Meets o (record { reply = r; ledger = ledgerIn after })
-
 -- A message: the reply and the ledger after it. "A refusal replies its code and changes nothing": not one of the words.
 pub record Turned (before : List ℕ) (m : Message) (r : Reply) (after : List ℕ) : Type 0 where
-  pub meets : MeetsIn (step (ledgerIn before) m) r after
+  pub reply : r ≡ step (ledgerIn before) m .reply
+  pub ledger : ledgerIn after ≡ step (ledgerIn before) m .next
   pub kept : (code : Refusal) → r ≡ Refuse code → after ≡ before
 
 -- What was taken: it is not refused any more.
 pub record Taken (o : Outcome) (r : Reply) (after : List ℕ) : Type 0 where
-  pub meets : MeetsIn o r after
+  pub reply : r ≡ o .reply
+  pub ledger : ledgerIn after ≡ o .next
   pub not-refused : (code : Refusal) → r ≡ Refuse code → ⊥
 
 -- The slip is of its account's next number, and has a value.

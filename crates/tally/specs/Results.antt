@@ -1,17 +1,16 @@
 -- The running tally of one number, given by the model's definitions.
-use Prim.Native.Nat.{ℕ, _+_, _-_, _≤_, _<_}
+use Prim.Native.Nat.{ℕ, _+_, _-_, _<_}
 use mathlib.Core.Path.{_≡_}
-use mathlib.Core.Bool.{Bool, true, not, _&&_}
+use mathlib.Core.Bool.{Bool, cond, not, _&&_}
 use mathlib.Core.List.{List}
 use lib.Dec.{leb, ltb}
-use Rattle.model.specs.declared.Seat.{Seat}
 use Rattle.model.specs.declared.Account.{Account}
 use Rattle.model.specs.declared.Transfer.{Transfer}
 use Rattle.model.specs.declared.Slot.{Slot}
+use Rattle.model.specs.declared.Slot.the-variants.{Empty, Full}
 use Rattle.model.specs.Types.{AckSlot, Entry}
 use Rattle.model.specs.Basics.{bit}
-use Rattle.model.specs.Acks.{holds, isFull, acksFor, acksRecorded, mustPropose, noMoreThan, hasMost}
-use Rattle.model.specs.Refusals.{ackFrom}
+use Rattle.model.specs.Acks.{holds, isFull, acksFor, acksRecorded, mustPropose}
 use Rattle.layout.specs.Layout.{ledgerIn, entryIn}
 use Rattle.store.specs.Stores.{withNumber}
 use Rattle.tally.specs.declared.Tally.{Tally}
@@ -36,19 +35,8 @@ pub record Decides (ws : List ℕ) (a : Account) (y : Tally) (r : Bool) : Type 0
   pub decided : (t : Transfer) → t .account ≡ a → t .number ≡ entryIn ws a .current + 1 → y ≡ tallyOf t (entryIn ws a .acks) → 0 < y .equal
       → r ≡ mustPropose (ledgerIn ws .seats) (ledgerIn ws .faults) (y .recorded) (entryIn ws a)
 
--- the leader's count is how many acks are equal to its slip
-abbrev pub Leading : List ℕ → Leader → Type 0
-Leading ws x = x .acks ≡ acksFor (atNext (entryIn ws (x .transfer .account)) (x .transfer)) (entryIn ws (x .transfer .account) .acks)
-
--- Of two the one that leads: it is of the same account and number, and has no fewer acks than either.
-pub record Leads (ws : List ℕ) (best : Leader) (s : Seat) (r : Leader) : Type 0 where
-  pub account : r .transfer .account ≡ best .transfer .account
-  pub number : r .transfer .number ≡ best .transfer .number
-  pub leading : Leading ws best → Leading ws r
-  pub first : best .acks ≤ r .acks
-  pub second : noMoreThan (r .acks) (entryIn ws (best .transfer .account) .acks) (ackFrom (entryIn ws (best .transfer .account)) s) ≡ true
-
--- A slip that has the most acks of the account, with the first one's number.
-pub record MostAcked (ws : List ℕ) (first r : Transfer) : Type 0 where
-  pub most : hasMost (entryIn ws (first .account) .acks) (atNext (entryIn ws (first .account)) r) ≡ true
-  pub number : r .number ≡ first .number
+-- Of the leader so far and the slip in a place, if any, the one with more of the acks; on a tie the leader. Slips are told with this number.
+abbrev pub leaderOf : List AckSlot → ℕ → Leader → Slot → Leader
+leaderOf acks number best Empty = best
+leaderOf acks number best (Full u) =
+    cond (ltb (best .acks) (acksFor u acks)) (record { transfer = withNumber u number; acks = acksFor u acks }) best

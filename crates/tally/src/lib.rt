@@ -14,8 +14,11 @@ ghost use mathlib.Core.Path.{_≡_};
 ghost use Prim.Native.Nat.{_+_, _<_};
 ghost use lib.ListN.{length};
 ghost use Rattle.model.specs.Basics.{bit};
+ghost use Rattle.model.specs.Acks.{mostAcked};
+ghost use Rattle.model.specs.Refusals.{ackFrom};
 ghost use Rattle.layout.specs.Layout.{bookWords, entryIn};
-ghost use Rattle.tally.specs.Results.{tallyOf, counted, atNext, Decides, Leads, MostAcked};
+ghost use Rattle.store.specs.Stores.{withNumber};
+ghost use Rattle.tally.specs.Results.{tallyOf, counted, atNext, Decides, leaderOf};
 
 // The running tally of one number, for one transfer.
 pub struct Tally {
@@ -103,14 +106,13 @@ pub struct Leader {
     pub acks: u8,
 }
 
-// Of a transfer and the one that a seat acked for the same number, if any, the one with more acks; on a tie the first.
-fn better(words: &[u32], best: Leader, s: Seat) -> Leader
+// Of the leader and the transfer that a seat acked, if any, the one with more acks; on a tie the leader.
+fn better(words: &[u32], best: Leader, a: Account, number: u32, s: Seat) -> Leader
     requires { ⌜ length (now words) ≡ bookWords ⌝ }
-    requires { ⌜ (best .transfer .account .0 < 32) × (s .0 < 16) ⌝ }
-    ensures { λ r. ⌜ Leads (now (words .entry)) best s r ⌝ }
+    requires { ⌜ (a .0 < 32) × (s .0 < 16) ⌝ }
+    ensures { λ r. ⌜ r ≡ leaderOf (entryIn (now (words .entry)) a .acks) number best (ackFrom (entryIn (now (words .entry)) a) s) ⌝ }
 {
-    let first = best.transfer;
-    let slot = ack_from(words, first.account, s, first.number);
+    let slot = ack_from(words, a, s, number);
     match slot {
         Slot::Empty => best,
         Slot::Full(u) => {
@@ -127,20 +129,25 @@ fn better(words: &[u32], best: Leader, s: Seat) -> Leader
     }
 }
 
-// A transfer that has the most acks: the first of those with the most, or `first` where none has more than it.
-pub fn most_acked(words: &[u32], first: Transfer) -> Transfer
+// The transfer with the most acks, told with this number: going through the seats from 0, the first of those with the most. Where nothing is recorded it
+// is one of zeros.
+pub fn most_acked(words: &[u32], a: Account, number: u32) -> Transfer
     requires { ⌜ length (now words) ≡ bookWords ⌝ }
-    requires { ⌜ first .account .0 < 32 ⌝ }
-    ensures { λ r. ⌜ MostAcked (now (words .entry)) first r ⌝ }
+    requires { ⌜ a .0 < 32 ⌝ }
+    ensures { λ r. ⌜ r ≡ withNumber (mostAcked (entryIn (now (words .entry)) a .acks)) number ⌝ }
 {
-    let own = tally_of(words, first);
     let mut best = Leader {
-        transfer: first,
-        acks: own.equal,
+        transfer: Transfer {
+            account: Account(0),
+            number: number,
+            value: 0,
+            recipient: Account(0),
+        },
+        acks: 0,
     };
     let mut i: u8 = 0;
     while i < 16 {
-        best = better(words, best, Seat(i));
+        best = better(words, best, a, number, Seat(i));
         i += 1;
     }
     best.transfer

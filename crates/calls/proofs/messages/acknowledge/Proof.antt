@@ -38,7 +38,7 @@ returns-2 : tie.Need-returns-2
 returns-2 c =
     let start = c .before .before .before .before .before .before .before .before .before in
     served (start .args .words .now) (Circulated (start .args .t)) _ (c .before .before .before .before .before .before .circulated-check .ensures) _ _ (c .before .before .before .before .enum-told .given .1)
-    (record { meets = (refl, c .before .before .put-acked .ensures); not-refused = λ code e. impossible (cc) })
+    (record { reply = refl; ledger = c .before .before .put-acked .ensures; not-refused = λ code e. impossible (cc) })
 
 pub acknowledge-spec : {M : Type 1} → statement M
 acknowledge-spec =

@@ -64,7 +64,7 @@ returns-2 c =
       decided = λ next among.
           let tally = tally-next (entryIn ws (t .account)) t _ (next .number) (test .before .before .before .before .before .before .tally-of .ensures) in
           tally-proposes ws t _ tally _ fair (test .if1 .left) _ (c .before .before .before .before .before .before .before .must-propose .ensures .decided t refl (next .number) tally (rw tally among))
-          _ _ (c .before .before .before .before .before .before .if2 .taken) (most-next ws t _ (next .number) (c .before .before .before .before .most-acked .ensures)) (c .before .before .put-proposed .ensures);
+          _ _ (c .before .before .before .before .before .before .if2 .taken) (most-next ws t _ (start .pre .1) (next .number) among (c .before .before .before .before .most-acked .ensures)) (c .before .before .put-proposed .ensures);
     }
 
 same-length-3 : tie.Need-same-length-3

@@ -31,7 +31,7 @@ returns-2 : tie.Need-returns-2
 returns-2 c =
     let start = c .before .before .before .before .before in
     served (start .args .words .now) (Inquiry (start .args .a)) Passed (rw (← c .before .before .before .accounts-of .ensures, lt-leb _ _ (c .before .if1 .left))) _ _ refl
-    (record { meets = (ap Balance (c .balance-of .ensures), sym (with-entry-read (ledgerIn (start .args .words .now)) (start .args .a))); not-refused = λ code e. impossible (cc) })
+    (record { reply = ap Balance (c .balance-of .ensures); ledger = sym (with-entry-read (ledgerIn (start .args .words .now)) (start .args .a)); not-refused = λ code e. impossible (cc) })
 
 pub inquire-spec : {M : Type 1} → statement M
 inquire-spec = tie.close (tie.spec accounts-of-requires returns balance-of-requires returns-2)

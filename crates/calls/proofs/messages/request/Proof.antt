@@ -27,7 +27,7 @@ returns-2 : tie.Need-returns-2
 returns-2 c =
     let start = c .before .before .before .before in
     served (start .args .words .now) (Request (start .args .t)) _ (c .before .before .request-check .ensures) _ _ (c .enum-told .given .1)
-    (record { meets = (refl, sym (with-entry-read (ledgerIn (start .args .words .now)) (start .args .t .account))); not-refused = λ code e. impossible (cc) })
+    (record { reply = refl; ledger = sym (with-entry-read (ledgerIn (start .args .words .now)) (start .args .t .account)); not-refused = λ code e. impossible (cc) })
 
 pub request-spec : {M : Type 1} → statement M
 request-spec = tie.close (tie.spec request-check-requires enum-known-r enum-told returns returns-2)

@@ -19,8 +19,9 @@ use Rattle.model.specs.declared.Reply.the-variants.{Accept, Refuse, Note, Propo
 use Rattle.model.specs.Basics.{bit}
 use Rattle.model.specs.Records.{withAck, withPending, withProposed, withEntry}
 use Rattle.model.specs.Acks.{holds, acksFor, acksRecorded, enough, mustPropose, mostAcked}
+use Rattle.model.specs.Replies.{letterOf, valuesOf}
 use Rattle.model.specs.Refusals.{firstRefusal}
-use Rattle.model.specs.Calls.{Due, replied, accepts, Effect, tallied, waits, finishedBy, finished}
+use Rattle.model.specs.Calls.{Due, replied, accepts, Effect, tallied, waits, finishedBy, finished, step}
 use Rattle.model.proofs.Equality.{equal-refl}
 use Rattle.model.proofs.Sums.{impossible, sum-at-least}
 use Rattle.model.proofs.Access.{set-entry-twice, with-entry-read, with-entry-same}
@@ -34,19 +35,25 @@ use Rattle.basics.proofs.ReadBack.{passed, failed}
 use Rattle.settling.specs.Results.{Settles}
 use Rattle.tally.specs.declared.Tally.{Tally}
 use Rattle.tally.specs.Results.{tallyOf}
-use Rattle.calls.specs.Promises.{Turned, Taken}
+use Rattle.calls.specs.Promises.{Answered, Taken}
+
+-- what is replied is told by its letter and its values
+pub answered : (before : List ℕ) (m : Message) (r : Reply) (after : List ℕ) → r ≡ step (ledgerIn before) m .reply → ledgerIn after ≡ step (ledgerIn before) m .next
+    → ((code : Refusal) → r ≡ Refuse code → after ≡ before) → Answered before m r after
+answered before m r after reply ledger kept =
+    record { reply = reply; letter = ap letterOf reply; values = ap valuesOf reply; ledger = ledger; kept = kept }
 
 -- A message whose rules were tried: refused with the words as they were, or served by its effect.
 module _ (ws : List ℕ) (m : Message) (q : Check) (q-is : q ≡ checkOf (firstRefusal (rulesIn (ledgerIn ws) m))) where
-  pub refused : (r : Refusal) → q ≡ Failed r → Turned ws m (Refuse r) ws
+  pub refused : (r : Refusal) → q ≡ Failed r → Answered ws m (Refuse r) ws
   refused r found =
       let step-is = refuses (ledgerIn ws) m r (failed (firstRefusal (rulesIn (ledgerIn ws) m)) r (sym q-is ∙ found)) in
-      record { reply = rw step-is; ledger = rw step-is; kept = λ code e. refl }
+      answered ws m (Refuse r) ws (rw step-is) (rw step-is) (λ code e. refl)
 
-  pub served : (r : Reply) (after : List ℕ) → q ≡ Passed → Taken (effectIn (ledgerIn ws) m) r after → Turned ws m r after
+  pub served : (r : Reply) (after : List ℕ) → q ≡ Passed → Taken (effectIn (ledgerIn ws) m) r after → Answered ws m r after
   served r after found x =
       let step-is = not-refused (ledgerIn ws) m (passed (firstRefusal (rulesIn (ledgerIn ws) m)) (sym q-is ∙ found)) in
-      record { reply = rw step-is (x .reply); ledger = rw step-is (x .ledger); kept = λ code e. absurd (x .not-refused code e) }
+      answered ws m r after (rw step-is (x .reply)) (rw step-is (x .ledger)) (λ code e. absurd (x .not-refused code e))
 
 -- An entry that is stored is overwritten where a turn is finished.
 finished-again : (l : Ledger) (a : Account) (e : Entry) (x : Effect) → finished (withEntry l a e) a x ≡ finished l a x

@@ -9,12 +9,16 @@ use Rattle.model.specs.declared.Reply.{Reply}
 use Rattle.model.specs.declared.Reply.the-variants.{Refuse}
 use Rattle.model.specs.Types.{Outcome}
 use Rattle.model.specs.Acks.{acksFor}
+use Rattle.model.specs.Replies.{letterOf, valuesOf}
 use Rattle.model.specs.Calls.{tallied, waits, finished, step}
 use Rattle.layout.specs.Layout.{ledgerIn, entryIn}
 
--- A message: the reply and the ledger after it. "A refusal replies its code and changes nothing": not one of the words.
-pub record Turned (before : List ℕ) (m : Message) (r : Reply) (after : List ℕ) : Type 0 where
+-- A message: the reply, with its letter and its values, and the ledger after it. "A refusal replies its code and changes nothing": not one of the words.
+-- "Each enum answer has a definition that gives this paper's number and values for each of its cases. The promises use that definition": `letter`, `values`.
+pub record Answered (before : List ℕ) (m : Message) (r : Reply) (after : List ℕ) : Type 0 where
   pub reply : r ≡ step (ledgerIn before) m .reply
+  pub letter : letterOf r ≡ letterOf (step (ledgerIn before) m .reply)
+  pub values : valuesOf r ≡ valuesOf (step (ledgerIn before) m .reply)
   pub ledger : ledgerIn after ≡ step (ledgerIn before) m .next
   pub kept : (code : Refusal) → r ≡ Refuse code → after ≡ before
 

@@ -27,12 +27,12 @@ ghost use Prim.Native.Nat.{_<_};
 ghost use lib.ListN.{length};
 ghost use Rattle.model.specs.declared.Message.the-variants.{Request, Circulated, Ack, Decision, Inquiry};
 ghost use Rattle.layout.specs.Layout.{bookWords};
-ghost use Rattle.calls.specs.Promises.{Turned, Tallied, Accepted};
+ghost use Rattle.calls.specs.Promises.{Answered, Tallied, Accepted};
 
 // A home's new transfer: circulate it.
 pub fn request(words: &[u32], t: Transfer) -> Reply
     requires { ⌜ length (now words) ≡ bookWords ⌝ }
-    ensures { λ r. ⌜ Turned (now (words .entry)) (Request t) r (now (words .entry)) ⌝ }
+    ensures { λ r. ⌜ Answered (now (words .entry)) (Request t) r (now (words .entry)) ⌝ }
 {
     match request_check(words, t) {
         Check::Failed(r) => Reply::Refuse(r),
@@ -43,7 +43,7 @@ pub fn request(words: &[u32], t: Transfer) -> Reply
 // A circulated transfer (document 01: slip): this seat acks it.
 pub fn acknowledge(words: &mut [u32], t: Transfer) -> Reply
     requires { ⌜ length (now words) ≡ bookWords ⌝ }
-    ensures { λ r. ⌜ Turned (now (words .entry)) (Circulated t) r (now (words .exit)) ⌝ }
+    ensures { λ r. ⌜ Answered (now (words .entry)) (Circulated t) r (now (words .exit)) ⌝ }
 {
     match circulated_check(words, t) {
         Check::Failed(r) => Reply::Refuse(r),
@@ -57,7 +57,7 @@ pub fn acknowledge(words: &mut [u32], t: Transfer) -> Reply
 // A seat's ack of a transfer: it is recorded, and the tally decides.
 pub fn record_ack(words: &mut [u32], s: Seat, t: Transfer) -> Reply
     requires { ⌜ length (now words) ≡ bookWords ⌝ }
-    ensures { λ r. ⌜ Turned (now (words .entry)) (Ack s t) r (now (words .exit)) ⌝ }
+    ensures { λ r. ⌜ Answered (now (words .entry)) (Ack s t) r (now (words .exit)) ⌝ }
 {
     match ack_check(words, s, t) {
         Check::Failed(r) => Reply::Refuse(r),
@@ -71,7 +71,7 @@ pub fn record_ack(words: &mut [u32], s: Seat, t: Transfer) -> Reply
 // The council's decision (document 01: ruling): its transfer is accepted.
 pub fn decide(words: &mut [u32], t: Transfer) -> Reply
     requires { ⌜ length (now words) ≡ bookWords ⌝ }
-    ensures { λ r. ⌜ Turned (now (words .entry)) (Decision t) r (now (words .exit)) ⌝ }
+    ensures { λ r. ⌜ Answered (now (words .entry)) (Decision t) r (now (words .exit)) ⌝ }
 {
     match transfer_check(words, t) {
         Check::Failed(r) => Reply::Refuse(r),
@@ -82,7 +82,7 @@ pub fn decide(words: &mut [u32], t: Transfer) -> Reply
 // A balance question.
 pub fn inquire(words: &[u32], a: Account) -> Reply
     requires { ⌜ length (now words) ≡ bookWords ⌝ }
-    ensures { λ r. ⌜ Turned (now (words .entry)) (Inquiry a) r (now (words .entry)) ⌝ }
+    ensures { λ r. ⌜ Answered (now (words .entry)) (Inquiry a) r (now (words .entry)) ⌝ }
 {
     if accounts_of(words) <= a.0 {
         return Reply::Refuse(Refusal::OutOfRange);

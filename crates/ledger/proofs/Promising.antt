@@ -7,8 +7,6 @@ use lib.ListN.{length}
 use Rattle.model.specs.Types.{Ledger}
 use Rattle.model.specs.declared.Opening.{Opening}
 use Rattle.model.specs.declared.Refusal.{Refusal}
-use Rattle.model.specs.declared.Message.{Message}
-use Rattle.model.specs.declared.Reply.{Reply}
 use Rattle.model.specs.declared.OpenReply.{OpenReply}
 use Rattle.model.specs.declared.ListReply.{ListReply}
 use Rattle.model.specs.Refusals.{firstRefusal, listRules}
@@ -18,11 +16,7 @@ use Rattle.model.specs.Settling.{waiting}
 use Rattle.model.specs.Calls.{ListsUnlessRefused, Lists}
 use Rattle.model.proofs.Listing.{list-count}
 use Rattle.opening.specs.Promises.{Opens}
-use Rattle.calls.specs.Promises.{Turned}
-use Rattle.ledger.specs.Promises.{Answered, codeIfAny, OpenedAs, listValues, ListedAs}
-
-pub answered : (before : List ℕ) (m : Message) (r : Reply) (after : List ℕ) → Turned before m r after → Answered before m r after
-answered before m r after h = record { turned = h; told = (r, h .meets .0, refl, refl) }
+use Rattle.ledger.specs.Promises.{codeIfAny, OpenedAs, listValues, ListedAs}
 
 pub opened : (before : List ℕ) (page : Opening) (r : OpenReply) (after : List ℕ) → Opens before page r after → OpenedAs before page r after
 unfolding openReply

@@ -1,5 +1,5 @@
--- What the public functions promise, by document 01's definitions in the model, of the ledger that the words are: for every content of the words and
--- every argument the reply, the ledger after it and each lent buffer. "A refusal replies its code and changes nothing": not one of the words.
+-- What opening and the waiting list promise, by document 01's definitions in the model, of the ledger that the words are: for every content of the words
+-- and every argument the reply, the ledger after it and each lent buffer. What a message promises is `Answered`, in crate calls.
 -- "Each enum answer has a definition that gives this paper's number and values for each of its cases. The promises use that
 -- definition": the fields `told`.
 use Prim.Native.Nat.{ℕ}
@@ -9,27 +9,14 @@ use mathlib.Core.Option.{Option, none, some}
 use Rattle.model.specs.Types.{Ledger}
 use Rattle.model.specs.declared.Opening.{Opening}
 use Rattle.model.specs.declared.Refusal.{Refusal}
-use Rattle.model.specs.declared.Message.{Message}
-use Rattle.model.specs.declared.Reply.{Reply}
 use Rattle.model.specs.declared.OpenReply.{OpenReply}
 use Rattle.model.specs.declared.ListReply.{ListReply}
 use Rattle.model.specs.Refusals.{firstRefusal, listRules}
-use Rattle.model.specs.Replies.{codeOf, letterOf, valuesOf, valuesOfOpen, valuesOfList, Choice, Allows}
+use Rattle.model.specs.Replies.{codeOf, valuesOfOpen, valuesOfList}
 use Rattle.model.specs.Openings.{openRules}
 use Rattle.model.specs.Settling.{waiting}
-use Rattle.model.specs.Calls.{step, Lists}
-use Rattle.layout.specs.Layout.{ledgerIn}
-use Rattle.calls.specs.Promises.{Turned}
+use Rattle.model.specs.Calls.{Lists}
 use Rattle.opening.specs.Promises.{Opens}
-
--- the letter and the values of a reply that is allowed
-abbrev pub Tells : Choice → ℕ → List ℕ → Type 0
-Tells o letter values = (q : Reply) × Allows o q × (letter ≡ letterOf q) × (values ≡ valuesOf q)
-
--- A message: the reply, one that document 01 allows, and the ledger after it.
-pub record Answered (before : List ℕ) (m : Message) (r : Reply) (after : List ℕ) : Type 0 where
-  pub turned : Turned before m r after
-  pub told : Tells (step (ledgerIn before) m .choice) (letterOf r) (valuesOf r)
 
 -- the code of a refusal, 0 where there is none
 abbrev pub codeIfAny : Option Refusal → ℕ

@@ -5,5 +5,4 @@ pub mod Closing
 pub mod Telling
 pub mod Listing
 pub mod Fronts
-pub mod OneText
 pub mod WholeOutput

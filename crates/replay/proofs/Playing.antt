@@ -1,5 +1,5 @@
--- What the loop over the entries knows at each turn: the lines that are written, followed by any text of the entries that are left, are
--- a text of all of them.
+-- What the loop over the entries knows at each turn: the lines that are written, followed by those of the entries that are left, are the lines of all of
+-- them.
 use Prim.Native.Nat.{ℕ, suc, _+_, _*_, _-_, _≤_, _<_}
 use native.Mathlib.Numerals.{add-one}
 use native.Mathlib.Omega.{arith}
@@ -7,37 +7,32 @@ use mathlib.Core.Path.{_≡_, refl, subst}
 use mathlib.Core.List.{List, [], _++_, append-assoc}
 use mathlib.Core.Option.{Option, none, some}
 use lib.ListN.{length}
-use Rattle.model.specs.Types.{Ledger, Answer}
+use Rattle.model.specs.Types.{Ledger}
 use Rattle.model.specs.declared.Message.{Message}
-use Rattle.model.specs.Replies.{Meets}
+use Rattle.model.specs.declared.Reply.{Reply}
 use Rattle.model.specs.Calls.{step}
 use Rattle.model.specs.Bundles.{entryCount, Page, pageAt, messageOf}
 use Rattle.basics.specs.Outputs.{Writes}
 use Rattle.basics.proofs.Writing.{nothing, then, within}
 use Rattle.text.specs.Lines.{decimal, replyLine}
 use Rattle.text.proofs.Decimals.{three-digits}
-use Rattle.replay.specs.Text.{EntryText, ledgerAfter, ledgerFrom, closing, LinesFrom}
+use Rattle.replay.specs.Text.{entryLine, ledgerAfter, ledgerFrom, linesFrom}
 use Rattle.layout.specs.Layout.{ledgerIn}
 use Rattle.replay.specs.Promises.{PlayedAll}
 
 -- One entry: what it adds to the text is written at a place of the buffer, and the ledger is the one after it.
 pub record PlayedEntry (i : ℕ) (l : Ledger) (asked : Option Message) (before : List ℕ) (at : ℕ) (after : List ℕ) (filled : ℕ) (next : Ledger) : Type 0 where
-  pub line : List ℕ
-  pub right : EntryText i l asked line
-  pub writes : Writes before at line (length (decimal i) + 33) after filled
+  pub writes : Writes before at (entryLine i l asked) (length (decimal i) + 33) after filled
   pub ledger-after : next ≡ ledgerAfter l asked
 
 -- what one entry does: nothing without a message; else the line of the reply and the ledger that the call leaves
 module _ {i : ℕ} {l : Ledger} {asked : Option Message} {before : List ℕ} {at : ℕ} where
   pub entry-none : asked ≡ none → PlayedEntry i l asked before at before at l
-  entry-none e = rw e (record { line = []; right = refl; writes = nothing; ledger-after = refl })
+  entry-none e = rw e (record { writes = nothing; ledger-after = refl })
 
-  pub entry-some : {m : Message} (a : Answer) {after : List ℕ} {filled : ℕ} → asked ≡ some m → Meets (step l m) a
-      → Writes before at (replyLine i (a .reply)) (length (decimal i) + 33) after filled
-      → PlayedEntry i l asked before at after filled (a .ledger)
-  entry-some a e meets w =
-      rw e
-      (record { line = replyLine i (a .reply); right = (a .reply, meets .0, refl); writes = w; ledger-after = meets .1 })
+  pub entry-some : {m : Message} {r : Reply} {next : Ledger} {after : List ℕ} {filled : ℕ} → asked ≡ some m → r ≡ step l m .reply → next ≡ step l m .next
+      → Writes before at (replyLine i r) (length (decimal i) + 33) after filled → PlayedEntry i l asked before at after filled next
+  entry-some e reply ledger w = rw e (record { writes = rw reply at w; ledger-after = ledger })
 
 module _ (bytes : List ℕ) (l : Ledger) (before : List ℕ) where
   -- the entries from 1 to i - 1 are played
@@ -45,8 +40,7 @@ module _ (bytes : List ℕ) (l : Ledger) (before : List ℕ) where
     pub lines : List ℕ
     pub from-one : 1 ≤ i
     pub few : i ≤ 1_000
-    pub goes-on : (rest : List ℕ) → LinesFrom bytes (entryCount bytes - i) i so-far rest
-        → LinesFrom bytes (entryCount bytes - 1) 1 l (lines ++ rest)
+    pub goes-on : lines ++ linesFrom bytes (entryCount bytes - i) i so-far ≡ linesFrom bytes (entryCount bytes - 1) 1 l
     pub left : ledgerFrom bytes (entryCount bytes - i) i so-far ≡ ledgerFrom bytes (entryCount bytes - 1) 1 l
     pub writes : Writes before 0 lines (36 * (i - 1)) after filled
 
@@ -56,7 +50,7 @@ module _ (bytes : List ℕ) (l : Ledger) (before : List ℕ) where
         lines = [];
         from-one = omega arith;
         few = omega arith;
-        goes-on = λ rest h. h;
+        goes-on = refl;
         left = refl;
         writes = nothing;
       }
@@ -68,10 +62,12 @@ module _ (bytes : List ℕ) (l : Ledger) (before : List ℕ) where
         → PlayedTo next next-ledger after filled
     played-more {after} {filled} {next-ledger} page {next} taken few played =
         record {
-          lines = p .lines ++ e .line;
+          lines = p .lines ++ line;
           from-one = omega (arith, taken .2);
           few = omega (arith, taken .0, taken .2);
-          goes-on = more;
+          goes-on =
+              rw (taken .2, add-one i, e .ledger-after, append-assoc (p .lines) line (linesFrom bytes (entryCount bytes - suc i) (suc i) after-it))
+              (rw one at (p .goes-on));
           left = rw (taken .2, add-one i, e .ledger-after) (rw one at (p .left));
           writes =
               within
@@ -85,12 +81,11 @@ module _ (bytes : List ℕ) (l : Ledger) (before : List ℕ) where
         one : entryCount bytes - i ≡ suc (entryCount bytes - suc i)
         one = let inside = taken .0 in omega arith
 
-        more : (rest : List ℕ) → LinesFrom bytes (entryCount bytes - next) next next-ledger rest
-            → LinesFrom bytes (entryCount bytes - 1) 1 l ((p .lines ++ e .line) ++ rest)
-        more rest h =
-            let left = rw (taken .2, add-one i, e .ledger-after) at h in
-            rw (append-assoc (p .lines) (e .line) rest)
-            (p .goes-on (e .line ++ rest) (rw one (e .line, rest, e .right, left, refl)))
+        line : List ℕ
+        line = entryLine i so-far (messageOf (pageAt bytes i))
+
+        after-it : Ledger
+        after-it = ledgerAfter so-far (messageOf (pageAt bytes i))
 
 -- after the last entry: the words so far are the ledger that is left
 pub played-all : (bytes words before : List ℕ) {i : ℕ} {left after : List ℕ} {filled : ℕ} → PlayedTo bytes (ledgerIn words) before i (ledgerIn left) after filled
@@ -100,6 +95,6 @@ played-all bytes words before {i} {left} p over =
     record {
       lines = p .lines;
       ledger = rw none-left at (p .left);
-      right = p .goes-on (closing (ledgerIn left)) (rw none-left refl);
+      right = rw none-left at (p .goes-on);
       writes = within (omega (arith, p .few)) (p .writes);
     }

@@ -1,8 +1,7 @@
--- Document 01's whole output of `daybook`, and the texts of some other bundles: the definitions give these texts and no others.
+-- Document 01's whole output of `daybook`, and the texts of some other bundles, computed from their bytes.
 use Prim.Native.Nat.{ℕ}
 use mathlib.Core.Path.{_≡_, refl}
 use mathlib.Core.List.{List, [], _∷_, _++_}
-use mathlib.Core.Option.{some}
 use lib.ListN.{set, replicate}
 use Rattle.model.specs.Records.{noAcks}
 use Rattle.model.specs.Transfers.{equal, conflict}
@@ -13,8 +12,7 @@ use Rattle.model.specs.Calls.{step}
 use Rattle.model.specs.Bundles.{checkBundle}
 use Rattle.text.specs.Lines.{decimal}
 use Rattle.text.proofs.Facts.{bytesOf}
-use Rattle.replay.specs.Text.{TextOf}
-use Rattle.replay.proofs.OneText.{fixedText, Only, one-text}
+use Rattle.replay.specs.Text.{textOf}
 
 -- the body of an opening page with n 6, f 1 and two balances below 256
 abbrev opening : ℕ → ℕ → List ℕ
@@ -63,14 +61,10 @@ pub zeros : List ℕ
 zeros = (1 ∷ 0 ∷ 0 ∷ 0 ∷ 10 ∷ 0 ∷ 0 ∷ 0 ∷ 0 ∷ 0 ∷ []) ++ replicate 131 0
 
 -- Each bundle's text, computed: the whole output; refused messages; a refused opening; a changed byte of the first case's slip; no bytes.
-pub facts : (fixedText case ≡ some nineLines)
-    × (fixedText funds ≡ some (bytesOf "1 R 5\n2 R 11\n3 A\n= 0 10 0\n= 1 5 0\n"))
-    × (fixedText zeros ≡ some (bytesOf "F 1 0\n"))
-    × (fixedText (set case 200 1) ≡ some (bytesOf "F 16 1\n"))
-    × (fixedText [] ≡ some (bytesOf "F 13 0\n"))
+pub facts : (textOf case ≡ nineLines)
+    × (textOf funds ≡ bytesOf "1 R 5\n2 R 11\n3 A\n= 0 10 0\n= 1 5 0\n")
+    × (textOf zeros ≡ bytesOf "F 1 0\n")
+    × (textOf (set case 200 1) ≡ bytesOf "F 16 1\n")
+    × (textOf [] ≡ bytesOf "F 13 0\n")
 unfolding case funds zeros decimal noAcks equal conflict hasMost openReply lowestAffordable apply settleAtMost settle step checkBundle
 facts = (refl, refl, refl, refl, refl)
-
--- document 01's nine lines are the text of its case, and nothing else is
-pub whole-output : Only (TextOf case) nineLines
-whole-output = one-text case (facts .0)

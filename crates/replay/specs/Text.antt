@@ -1,13 +1,10 @@
--- Document 01, "The program `daybook`": the whole text that it writes for a bundle, as a list of bytes. It is a relation, since the slip
--- that P carries on a tie is left free; everything else in it is fixed.
+-- Document 01, "The program `daybook`": the whole text that it writes for a bundle, as a list of bytes.
 use Prim.Native.Nat.{ℕ, zero, suc, _-_}
-use mathlib.Core.Path.{_≡_}
 use mathlib.Core.List.{List, [], _∷_, _++_}
 use mathlib.Core.Option.{Option, none, some}
 use Rattle.model.specs.Types.{Entry, Ledger}
 use Rattle.model.specs.declared.Message.{Message}
 use Rattle.model.specs.declared.Opening.{Opening}
-use Rattle.model.specs.declared.Reply.{Reply}
 use Rattle.model.specs.declared.OpenReply.{OpenReply}
 use Rattle.model.specs.declared.OpenReply.the-variants.{Opened, OpenRefused}
 use Rattle.model.specs.declared.BundleReply.{BundleReply}
@@ -15,16 +12,16 @@ use Rattle.model.specs.declared.BundleReply.the-variants.{Sound, BundleRefused}
 use Rattle.model.specs.Records.{accountOf, entryOf, freshLedger}
 use Rattle.model.specs.Replies.{codeOf}
 use Rattle.model.specs.Openings.{openReply}
-use Rattle.model.specs.Calls.{step, Answers}
+use Rattle.model.specs.Calls.{step}
 use Rattle.model.specs.Bundles.{pageAt, messageOf, openingOf, checkBundle}
 use Rattle.layout.specs.Layout.{tableFrom}
 use Rattle.text.specs.Lines.{refusalLine, replyLine, accountLine}
 
 -- "one line per entry from 1: entry, reply letter, and what it carries". A page with no message, which no sound bundle has behind
 -- page 0, adds nothing.
-abbrev pub EntryText : ℕ → Ledger → Option Message → List ℕ → Type 0
-EntryText i l none text = text ≡ []
-EntryText i l (some m) text = (r : Reply) × Answers l m r × (text ≡ replyLine i r)
+abbrev pub entryLine : ℕ → Ledger → Option Message → List ℕ
+entryLine i l none = []
+entryLine i l (some m) = replyLine i (step l m .reply)
 
 -- the ledger after the entry
 abbrev pub ledgerAfter : Ledger → Option Message → Ledger
@@ -57,13 +54,11 @@ abbrev pub closing : Ledger → List ℕ
 closing l = rowLines 0 (rowsOf l)
 
 -- the lines of the `left` entries from i on, then the closing lines
-abbrev pub LinesFrom : List ℕ → ℕ → ℕ → Ledger → List ℕ → Type 0
-LinesFrom bytes zero i l text = text ≡ closing l
-LinesFrom bytes (suc left) i l text =
-    (line rest : List ℕ)
-    × EntryText i l (messageOf (pageAt bytes i)) line
-    × LinesFrom bytes left (suc i) (ledgerAfter l (messageOf (pageAt bytes i))) rest
-    × (text ≡ line ++ rest)
+abbrev pub linesFrom : List ℕ → ℕ → ℕ → Ledger → List ℕ
+linesFrom bytes zero i l = closing l
+linesFrom bytes (suc left) i l =
+    let asked = messageOf (pageAt bytes i) in
+    entryLine i l asked ++ linesFrom bytes left (suc i) (ledgerAfter l asked)
 
 -- "page 0 is the opening page"
 abbrev pub openingPage : List ℕ → Opening
@@ -74,15 +69,15 @@ abbrev pub opened : List ℕ → OpenReply
 opened bytes = openReply (openingPage bytes)
 
 -- the text of an opening's answer. "`F code entry` for a bundle or opening that is refused (entry 0 for codes 1, 2, 3 ..)"
-abbrev pub OpenedText : List ℕ → ℕ → OpenReply → List ℕ → Type 0
-OpenedText bytes m (OpenRefused r) text = text ≡ refusalLine (codeOf r) 0
-OpenedText bytes m Opened text = LinesFrom bytes (m - 1) 1 (freshLedger (openingPage bytes)) text
+abbrev pub openedText : List ℕ → ℕ → OpenReply → List ℕ
+openedText bytes m (OpenRefused r) = refusalLine (codeOf r) 0
+openedText bytes m Opened = linesFrom bytes (m - 1) 1 (freshLedger (openingPage bytes))
 
 -- the text of the check's answer: nothing is opened before the whole bundle is checked
-abbrev pub CheckedText : List ℕ → BundleReply → List ℕ → Type 0
-CheckedText bytes (BundleRefused r i) text = text ≡ refusalLine (codeOf r) i
-CheckedText bytes (Sound m) text = OpenedText bytes m (opened bytes) text
+abbrev pub checkedText : List ℕ → BundleReply → List ℕ
+checkedText bytes (BundleRefused r i) = refusalLine (codeOf r) i
+checkedText bytes (Sound m) = openedText bytes m (opened bytes)
 
 -- what `daybook` writes for these bytes
-abbrev pub TextOf : List ℕ → List ℕ → Type 0
-TextOf bytes text = CheckedText bytes (checkBundle bytes) text
+abbrev pub textOf : List ℕ → List ℕ
+textOf bytes = checkedText bytes (checkBundle bytes)

@@ -30,9 +30,9 @@ ghost use Rattle.model.specs.Bundles.{entryCount};
 ghost use Rattle.basics.specs.Outputs.{Writes};
 ghost use Rattle.layout.specs.Layout.{bookWords, ledgerIn};
 ghost use Rattle.opening.specs.Promises.{Opens};
-ghost use Rattle.replay.specs.Text.{closing, LinesFrom, openingPage, CheckedText, TextOf};
+ghost use Rattle.replay.specs.Text.{closing, linesFrom, openingPage, checkedText, textOf};
 ghost use Rattle.replay.specs.Lists.{ListedFrom, SoundList, ListOf};
-ghost use Rattle.replay.specs.Promises.{closingMost, Replayed, InputText, Wrote, PlayedAll};
+ghost use Rattle.replay.specs.Promises.{closingMost, Replayed, ReplayedInput, Wrote, PlayedAll};
 
 // The longest text: 999 lines of a proposed transfer, 36 bytes each, and 32 lines of an account, 27 bytes each: 36,828 bytes.
 pub const TEXT_SIZE: usize = 36 * 999 + 27 * 32;
@@ -86,7 +86,7 @@ fn put_closing(words: &[u32], out: &mut [u8], at: usize) -> usize
 // The text of a bundle whose opening page opened this book.
 fn replay_opened(bytes: &[u8], words: &mut [u32; BOOK_WORDS], out: &mut [u8]) -> usize
     requires { ⌜ entryCount (now bytes) ≤ 1_000 ⌝ }
-    ensures { λ r. ⌜ Wrote (LinesFrom (now (bytes .entry)) (entryCount (now (bytes .entry)) - 1) 1 (ledgerIn (now (words .entry)))) (now (out .entry)) (now (out .exit)) r ⌝ }
+    ensures { λ r. ⌜ Wrote (linesFrom (now (bytes .entry)) (entryCount (now (bytes .entry)) - 1) 1 (ledgerIn (now (words .entry)))) (now (out .entry)) (now (out .exit)) r ⌝ }
 {
     let filled = play(bytes, words, out);
     put_closing(words, out, filled)
@@ -104,7 +104,7 @@ fn open_bundle(bytes: &[u8], words: &mut [u32; BOOK_WORDS]) -> OpenReply
 // The text of a bundle that is sound.
 fn replay_sound(bytes: &[u8], out: &mut [u8]) -> usize
     requires { ⌜ (1 ≤ entryCount (now bytes)) × (entryCount (now bytes) ≤ 1_000) ⌝ }
-    ensures { λ r. ⌜ Wrote (CheckedText (now (bytes .entry)) (Sound (entryCount (now (bytes .entry))))) (now (out .entry)) (now (out .exit)) r ⌝ }
+    ensures { λ r. ⌜ Wrote (checkedText (now (bytes .entry)) (Sound (entryCount (now (bytes .entry))))) (now (out .entry)) (now (out .exit)) r ⌝ }
 {
     let mut words = [0u32; BOOK_WORDS];
     let reply = open_bundle(bytes, &mut words);
@@ -116,7 +116,7 @@ fn replay_sound(bytes: &[u8], out: &mut [u8]) -> usize
 
 // The text that `daybook` writes for these bytes, at the buffer's front; its length is replied.
 pub fn replay(bytes: &[u8], out: &mut [u8; TEXT_SIZE]) -> usize
-    ensures { λ r. ⌜ Replayed (TextOf (now (bytes .entry))) (now (out .entry)) (now (out .exit)) r ⌝ }
+    ensures { λ r. ⌜ Replayed (textOf (now (bytes .entry))) (now (out .entry)) (now (out .exit)) r ⌝ }
 {
     match check(bytes) {
         BundleReply::Sound(_) => replay_sound(bytes, out),
@@ -127,7 +127,7 @@ pub fn replay(bytes: &[u8], out: &mut [u8; TEXT_SIZE]) -> usize
 // The text for an input of which the buffer holds as many first bytes as it has room for, or the whole if it is shorter. A count above the buffer's
 // size counts as that size.
 pub fn replay_input(input: &[u8; INPUT_SIZE], read: usize, out: &mut [u8; TEXT_SIZE]) -> usize
-    ensures { λ r. ⌜ Replayed (InputText (now (input .entry)) read) (now (out .entry)) (now (out .exit)) r ⌝ }
+    ensures { λ r. ⌜ ReplayedInput (now (input .entry)) read (now (out .entry)) (now (out .exit)) r ⌝ }
 {
     let bytes: &[u8] = input;
     let given = if read < bytes.len() {

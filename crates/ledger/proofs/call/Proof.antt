@@ -1,5 +1,4 @@
 -- Each kind of message by its own function.
-use Rattle.ledger.proofs.Promising.{answered}
 use borrow.Author.Needs.{needs}
 use Rattle.ledger.proofs.call.Statement.{statement}
 use Rattle.ledger.proofs.call.Tie as tie
@@ -35,19 +34,19 @@ inquire-requires : tie.Need-inquire-requires
 inquire-requires c κs = search needs
 
 returns : tie.Need-returns
-returns c = rw (c .before .before .before .before .m .given .1) (answered _ _ _ _ (c .request .ensures))
+returns c = rw (c .before .before .before .before .m .given .1) (c .request .ensures)
 
 returns-2 : tie.Need-returns-2
-returns-2 c = rw (c .before .before .before .m2 .given .1) (answered _ _ _ _ (c .acknowledge .ensures))
+returns-2 c = rw (c .before .before .before .m2 .given .1) (c .acknowledge .ensures)
 
 returns-3 : tie.Need-returns-3
-returns-3 c = rw (c .before .before .before .m3 .given .1) (answered _ _ _ _ (c .record-ack .ensures))
+returns-3 c = rw (c .before .before .before .m3 .given .1) (c .record-ack .ensures)
 
 returns-4 : tie.Need-returns-4
-returns-4 c = rw (c .before .before .before .m4 .given .1) (answered _ _ _ _ (c .decide .ensures))
+returns-4 c = rw (c .before .before .before .m4 .given .1) (c .decide .ensures)
 
 returns-5 : tie.Need-returns-5
-returns-5 c = rw (c .before .before .before .before .m5 .given .1) (answered _ _ _ _ (c .inquire .ensures))
+returns-5 c = rw (c .before .before .before .before .m5 .given .1) (c .inquire .ensures)
 
 pub call-spec : {M : Type 1} → statement M
 call-spec =

@@ -60,7 +60,7 @@ loop-again : tie.Need-loop-again Inv-loop μ-loop
 loop-again c =
     let page = took _ (c .before .before .before .before .before .before .before .before .before .before .before .before .before .before .loop .cursor .next) (c .before .before .before .before .before .before .before .before .before .before .before .before .before .read-page .ensures) (c .before .before .before .before .before .before .before .before .before .before .before .c .given .1) in
     played-more _ _ _ (c .before .before .before .before .before .before .before .before .before .before .before .before .before .before .loop .inv) _ page (c .before .before .before .before .before .before .before .before .before .before .before .before .before .before .before .before .before .pre)
-    (entry-some _ (sym (c .before .before .before .before .before .before .before .before .before .message-of .ensures) ∙ ap asks (c .before .before .before .before .before .before .before .m .given .1)) (c .before .before .before .before .call .ensures .turned .meets) (c .before .before .put-reply .ensures))
+    (entry-some (sym (c .before .before .before .before .before .before .before .before .before .message-of .ensures) ∙ ap asks (c .before .before .before .before .before .before .before .m .given .1)) (c .before .before .before .before .call .ensures .reply) (c .before .before .before .before .call .ensures .ledger) (c .before .before .put-reply .ensures))
 
 enum-told-2 : tie.Need-enum-told-2 Inv-loop μ-loop
 enum-told-2 c = search needs

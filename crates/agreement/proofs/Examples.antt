@@ -11,7 +11,7 @@ use lib.Dec.{eqb, lit≤}
 use lib.ListN.{drop, replicate}
 use borrow.Author.Tests.{ne-eqb}
 use Rattle.agreement.specs.Types.{Seat, Transfer, Entry, Opening, Message, Request, Circulated, Ack, Decision, Inquiry, Reply, Circulate, Acknowledge, Accept, Propose, Note, Balance, Refuse}
-use Rattle.agreement.specs.Runs.{Opens, countBelow, FewBad, message, waitingList, Event, Run, start, _▹_, happened, throughout, atHonest, sameSeat, ledgerAt, Obeys, acked, accepted, proposed, ruled, passes}
+use Rattle.agreement.specs.Runs.{Opens, countBelow, FewBad, message, waitingList, Event, Run, start, _▹_, happened, throughout, atHonest, sameSeat, ledgerAt, Obeys, ObeysToday, acked, accepted, proposed, ruled, passes}
 use Rattle.agreement.specs.Premises.{Premises, genuine, rightful, proposals, someSlip}
 use Rattle.agreement.specs.Slates.{Slate, lowest, leaveAtMost, leaveAll, slateAt}
 use Rattle.agreement.specs.Claims.{Claim}
@@ -22,10 +22,11 @@ use Rattle.model.specs.Basics.{bit, count, every}
 use Rattle.model.specs.Records.{seatOf, accountOf, entryAt, noAcks}
 use Rattle.model.specs.Transfers.{equal, conflict}
 use Rattle.model.specs.Openings.{openReply}
-use Rattle.model.specs.Acks.{hasMost}
+use Rattle.model.specs.Acks.{hasMost, mostAcked}
 use Rattle.model.specs.Settling.{isWaiting, lowestAffordable, apply, settleAtMost, settle}
 use Rattle.model.specs.Calls.{step}
 use Rattle.agreement.proofs.Places.{happened-found}
+use Rattle.agreement.proofs.Proposals.{today-obeys}
 use Rattle.agreement.proofs.Deeds.{that-slip}
 use Rattle.model.proofs.Rows.{slip, pageWith}
 use Rattle.model.proofs.Sums.{impossible, both}
@@ -148,16 +149,16 @@ only-one [] first second rest (suc (suc a)) = impossible (cc)
 only-one (x ∷ []) first second rest (suc (suc a)) = impossible (cc)
 only-one (x ∷ y ∷ es) first second rest (suc (suc a)) = rw (ne-eqb (suc (suc a)) 1 (omega arith), none-waits es rest a)
 
-pub witness-obeys : Obeys page witness
-unfolding ledgerAt noAcks equal conflict hasMost lowestAffordable apply settleAtMost settle step
-witness-obeys =
+pub witness-today : ObeysToday page witness
+unfolding ledgerAt noAcks equal conflict hasMost mostAcked lowestAffordable apply settleAtMost settle step
+witness-today =
     tt
     then refl
     then refl then refl then refl then refl then refl
     then refl
     then refl then refl then refl then refl then refl
     then refl
-    then refl then refl then refl then refl then (t, refl, refl)
+    then refl then refl then refl then refl then refl
     then refl
     then refl then refl then refl then refl
     then refl then refl then refl then refl
@@ -165,6 +166,9 @@ witness-obeys =
     then (refl, refl)
     then (1 ∷ [], only-one (ledgerAt page (seatOf 4) waits .entries) refl refl refl, refl, refl)
     then refl
+
+pub witness-obeys : Obeys page witness
+witness-obeys = today-obeys page witness witness-today
 
 -- The witness is a run as demand 3 means it, and keeps the premises.
 pub witness-keeps : Opens page × FewBad page bad × (atHonest page bad witness ≡ true) × Obeys page witness × Premises page bad witness

@@ -18,4 +18,5 @@ pub mod Reasons
 pub mod Always
 pub mod Theorem1
 pub mod Examples
+pub mod Ties
 pub mod FactsTried

@@ -6,7 +6,7 @@ use borrow.Author.Tests.{eq-eqb, eqb-true}
 use Prim.Native.Nat.{ℕ}
 use mathlib.Core.List.{List}
 use Rattle.agreement.specs.Types.{Seat, Ledger, Opening, Message, Reply, ListReply}
-use Rattle.agreement.specs.Runs.{Call, message, waitingList, Event, Run, start, _▹_, Within, at-end, sooner, happened, throughout, sameSeat, nextLedger, ledgerAt, MayReply, Conforms, Obeys}
+use Rattle.agreement.specs.Runs.{Call, message, waitingList, Event, Run, start, _▹_, Within, at-end, sooner, happened, throughout, sameSeat, nextLedger, ledgerAt, MayReply, Conforms, EachCall, Obeys}
 use Rattle.model.specs.Records.{seatOf, freshLedger}
 use Rattle.model.specs.Calls.{step}
 use Rattle.model.proofs.Sums.{impossible, both}
@@ -84,10 +84,13 @@ pub throughout-at : (test : Run → Event → Bool) {p r : Run} {e : Event} → 
 throughout-at test {p} {e = e} h at-end = both (throughout test p) (test p e) h .1
 throughout-at test h (sooner {r = r} {e = d} w) = throughout-at test (both (throughout test r) (test r d) h .0) w
 
--- a run that obeys does so at each place
+-- a run whose calls are so answered is such a run at each place
+pub calls-before : (Right : Ledger → Call → Type 0) (o : Opening) {p r : Run} → EachCall Right o r → Within p r → EachCall Right o p
+calls-before Right o ok at-end = ok
+calls-before Right o ok (sooner w) = calls-before Right o (ok .0) w
+
 pub obeys-before : (o : Opening) {p r : Run} → Obeys o r → Within p r → Obeys o p
-obeys-before o ok at-end = ok
-obeys-before o ok (sooner w) = obeys-before o (ok .0) w
+obeys-before o ok w = calls-before Conforms o ok w
 
 pub obeys-at : (o : Opening) {p r : Run} {e : Event} → Obeys o r → Within (p ▹ e) r → Conforms (ledgerAt o (e .at) p) (e .call)
 obeys-at o ok w = obeys-before o ok w .1

@@ -4,12 +4,13 @@ use native.Mathlib.Omega.{arith}
 use mathlib.Core.Path.{_≡_, refl, sym}
 use mathlib.Core.List.{List, [], _∷_, _++_, append-assoc}
 use mathlib.Core.Option.{some}
+use Rattle.model.specs.Calls.{step}
 use Rattle.model.specs.Bundles.{pageAt, messageOf}
 use Rattle.agreement.specs.Types.{Seat, Opening, Message}
-use Rattle.agreement.specs.Runs.{Run, _▹_, Within, at-end, ledgerAt, Obeys}
-use Rattle.agreement.proofs.Places.{before, obeys-before, ledger-after}
+use Rattle.agreement.specs.Runs.{Run, _▹_, Within, at-end, ledgerAt, AnsweredToday, ObeysToday}
+use Rattle.agreement.proofs.Places.{before, calls-before, ledger-after}
 use Rattle.text.specs.Lines.{replyLine}
-use Rattle.replay.specs.Text.{EntryText, ledgerFrom, closing, LinesFrom}
+use Rattle.replay.specs.Text.{ledgerFrom, closing, linesFrom}
 use Rattle.conformance.specs.Texts.{Exchange, eventOf, runFrom, AskedFrom, replyLines}
 
 -- the first of these lines, and what stands behind it
@@ -36,50 +37,31 @@ module _ (bytes : List ℕ) (o : Opening) (s : Seat) where
   abbrev textFrom : ℕ → Run → List Exchange → List ℕ
   textFrom i run xs = replyLines i xs ++ closing (ledgerAt o s (runFrom s run xs))
 
-  -- a run that goes on with the `left` entries from i on, and is told by this text
-  abbrev GoesOn : ℕ → ℕ → Run → List ℕ → Type 0
-  GoesOn left i run text = (xs : List Exchange) × AskedFrom bytes left i xs × Obeys o (runFrom s run xs) × (text ≡ textFrom i run xs)
+  -- a run that goes on with the `left` entries from i on
+  abbrev GoesOn : ℕ → ℕ → Run → Type 0
+  GoesOn left i run = (xs : List Exchange) × AskedFrom bytes left i xs × ObeysToday o (runFrom s run xs)
 
-  -- with one entry more before them
-  one-more : (left i : ℕ) (run : Run) (x : Exchange) (rest : List ℕ) → messageOf (pageAt bytes i) ≡ some (x .asked)
-      → GoesOn left (suc i) (run ▹ eventOf s x) rest → GoesOn (suc left) i run (replyLine i (x .reply) ++ rest)
-  one-more left i run x rest asks (xs, asked, obeys, is) =
-      let ends = closing (ledgerAt o s (runFrom s (run ▹ eventOf s x) xs)) in
-      (x ∷ xs, (asks, asked), obeys, rw is (sym (first-line i x xs ends)))
-
-  -- from lines of these entries to such a run, if each entry asks
-  pub goes-on : (left i : ℕ) (run : Run) (text : List ℕ)
-      → ((j : ℕ) → i ≤ j → j < i + left → (m : Message) × (messageOf (pageAt bytes j) ≡ some m))
-      → Obeys o run → LinesFrom bytes left i (ledgerAt o s run) text → GoesOn left i run text
-  goes-on zero i run text asks obeys h = ([], tt, obeys, h)
-  goes-on (suc left) i run text asks obeys (line, rest, first, later, is) =
+  -- there is one, if each entry asks
+  pub goes-on : (left i : ℕ) (run : Run)
+      → ((j : ℕ) → i ≤ j → j < i + left → (m : Message) × (messageOf (pageAt bytes j) ≡ some m)) → ObeysToday o run → GoesOn left i run
+  goes-on zero i run asks obeys = ([], tt, obeys)
+  goes-on (suc left) i run asks obeys =
       let this = asks i (omega arith) (omega arith) in
-      let told : EntryText i (ledgerAt o s run) (some (this .0)) line = rw (this .1) at first in
-      let x : Exchange = record { asked = this .0; reply = told .0 } in
-      let left-ledger = ledger-after o s run (eventOf s x) (x .asked) (x .reply) refl refl in
-      let more : LinesFrom bytes left (suc i) (ledgerAt o s (run ▹ eventOf s x)) rest = rw left-ledger (rw (this .1) at later) in
-      rw (is, told .2)
-      (one-more left i run x rest (this .1)
-      (goes-on left (suc i) (run ▹ eventOf s x) rest (λ j from to. asks j (omega arith) (omega arith)) (obeys, told .1) more))
+      let x : Exchange = record { asked = this .0; reply = step (ledgerAt o s run) (this .0) .reply } in
+      let rest = goes-on left (suc i) (run ▹ eventOf s x) (λ j from to. asks j (omega arith) (omega arith)) (obeys, refl) in
+      (x ∷ rest .0, (this .1, rest .1), rest .2)
 
-  -- and back
-  pub told-lines : (left i : ℕ) (run : Run) (xs : List Exchange) → AskedFrom bytes left i xs → Obeys o (runFrom s run xs)
-      → LinesFrom bytes left i (ledgerAt o s run) (textFrom i run xs)
+  -- and the lines of these entries are its text
+  pub told-lines : (left i : ℕ) (run : Run) (xs : List Exchange) → AskedFrom bytes left i xs → ObeysToday o (runFrom s run xs)
+      → linesFrom bytes left i (ledgerAt o s run) ≡ textFrom i run xs
   told-lines zero i run [] asked obeys = refl
   told-lines zero i run (x ∷ xs) asked obeys = absurd asked
   told-lines (suc left) i run [] asked obeys = absurd asked
   told-lines (suc left) i run (x ∷ xs) asked obeys =
       let left-ledger = ledger-after o s run (eventOf s x) (x .asked) (x .reply) refl refl in
-      let answers = obeys-before o obeys (from-within s (run ▹ eventOf s x) xs) .1 in
-      let rest = textFrom (suc i) (run ▹ eventOf s x) xs in
+      let reply = calls-before AnsweredToday o obeys (from-within s (run ▹ eventOf s x) xs) .1 in
       let ends = closing (ledgerAt o s (runFrom s (run ▹ eventOf s x) xs)) in
-      rw (asked .0) (
-        replyLine i (x .reply),
-        rest,
-        (x .reply, answers, refl),
-        rw left-ledger at (told-lines left (suc i) (run ▹ eventOf s x) xs (asked .1) obeys),
-        first-line i x xs ends,
-      )
+      rw (asked .0, ← reply, ← left-ledger, told-lines left (suc i) (run ▹ eventOf s x) xs (asked .1) obeys) (sym (first-line i x xs ends))
 
   -- the run's last ledger is the one that these entries leave
   pub ledger-left : (left i : ℕ) (run : Run) (xs : List Exchange) → AskedFrom bytes left i xs

@@ -9,12 +9,13 @@ use Rattle.model.specs.Records.{freshLedger}
 use Rattle.model.specs.Bundles.{entryCount, pageAt, messageOf, checkBundle}
 use Rattle.agreement.specs.Types.{Message}
 use Rattle.agreement.specs.Runs.{Opens, start, ledgerAt}
+use Rattle.agreement.proofs.Proposals.{today-obeys}
 use Rattle.agreement.proofs.Always.{always}
 use Rattle.ledger.specs.Promises.{ListedAs}
 use Rattle.bundle.proofs.Asking.{all-ask}
-use Rattle.replay.specs.Text.{ledgerFrom, LinesFrom, openingPage}
+use Rattle.replay.specs.Text.{ledgerFrom, openingPage}
 use Rattle.replay.proofs.Sound.{sound-count}
-use Rattle.conformance.specs.Texts.{runOf, EveryText, EveryRun, EveryList}
+use Rattle.conformance.specs.Texts.{runOf, RunOfBundle, EveryText, EveryRun, EveryList}
 use Rattle.conformance.proofs.EntryRuns.{goes-on, told-lines, ledger-left}
 use Rattle.conformance.proofs.ClosingRows.{accounted}
 
@@ -24,27 +25,27 @@ each-asks : (bytes : List ℕ) (m : ℕ) → checkBundle bytes ≡ Sound m
 each-asks bytes m right zero from to = absurd (omega arith)
 each-asks bytes m right (suc j) from to = all-ask bytes m right j (omega (arith, sound-count bytes m right .1))
 
-pub every-text : EveryText
-unfolding ledgerAt
-every-text bytes text m s right opens h =
-    let page = openingPage bytes in
-    let page-opens : Opens (openingPage bytes) = record { full-page = refl; not-refused = opens } in
-    let lines : LinesFrom bytes (m - 1) 1 (freshLedger (openingPage bytes)) text = rw (right, opens) at h in
-    let found = goes-on bytes page s (entryCount bytes - 1) 1 start text (each-asks bytes m right) tt (rw (sound-count bytes m right .0) at lines) in
-    let xs = found .0 in
-    record {
-      exchanges = xs;
-      run = record { asked = found .1; obeys = found .2 };
-      lines = found .3;
-      facts = always page (runOf s xs) page-opens (found .2);
-      accounted = accounted page page-opens s xs (found .2);
-    }
-
 pub every-run : EveryRun
 unfolding ledgerAt
 every-run bytes m s xs right opens run =
     rw (right, opens, sound-count bytes m right .0)
     (told-lines bytes (openingPage bytes) s (entryCount bytes - 1) 1 start xs (run .asked) (run .obeys))
+
+pub every-text : EveryText
+every-text bytes m s right opens =
+    let page = openingPage bytes in
+    let page-opens : Opens (openingPage bytes) = record { full-page = refl; not-refused = opens } in
+    let found = goes-on bytes page s (entryCount bytes - 1) 1 start (each-asks bytes m right) tt in
+    let xs = found .0 in
+    let run : RunOfBundle bytes s (found .0) = record { asked = found .1; obeys = found .2 } in
+    let obeys = today-obeys page (runOf s xs) (found .2) in
+    record {
+      exchanges = xs;
+      run = run;
+      lines = every-run bytes m s xs right opens run;
+      facts = always page (runOf s xs) page-opens obeys;
+      accounted = accounted page page-opens s xs obeys;
+    }
 
 pub every-list : EveryList
 unfolding ledgerAt

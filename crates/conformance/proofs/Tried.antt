@@ -1,7 +1,7 @@
 -- The links, tried. The run that demand 3 is tried on is made by a group at work. Document 01's whole output is the text of a run, which
 -- is written out here, and of every run of that bundle.
 use Prim.Native.Nat.{ℕ}
-use mathlib.Core.Path.{_≡_, refl}
+use mathlib.Core.Path.{_≡_, refl, sym, _∙_}
 use mathlib.Core.List.{List, [], _∷_, _++_}
 use lib.Dec.{lit<}
 use lib.ListN.{getD}
@@ -15,14 +15,15 @@ use Rattle.model.specs.Settling.{lowestAffordable, apply, settleAtMost, settle}
 use Rattle.model.specs.Calls.{step}
 use Rattle.model.specs.Bundles.{checkBundle}
 use Rattle.agreement.specs.Types.{Seat, Message, Circulated, Ack, Decision, Inquiry, Reply, Acknowledge, Note, Accept, Balance, Opened}
-use Rattle.agreement.specs.Runs.{start, _▹_, ledgerAt, Obeys}
+use Rattle.agreement.specs.Runs.{start, _▹_, ledgerAt, ObeysToday}
 use Rattle.agreement.specs.Slates.{leaveAtMost, leaveAll, slateAt}
 use Rattle.agreement.specs.Facts.{countOf}
-use Rattle.agreement.proofs.Examples.{page, t, asked, acks, ack, _then_, witness, witness-obeys, witness-keeps}
+use Rattle.agreement.proofs.Proposals.{today-obeys}
+use Rattle.agreement.proofs.Examples.{page, t, asked, acks, ack, _then_, witness, witness-today, witness-keeps}
 use Rattle.agreement.proofs.FactsTried.{_is_}
 use Rattle.text.specs.Lines.{decimal}
 use Rattle.replay.specs.Text.{Row, rowLines, openingPage, opened}
-use Rattle.replay.proofs.WholeOutput.{case, nineLines, whole-output}
+use Rattle.replay.proofs.WholeOutput.{case, nineLines, texts}
 use Rattle.conformance.specs.Operations.{Works}
 use Rattle.conformance.specs.Texts.{Exchange, runOf, RunOfBundle, replyLines, lastRows, textOfRun, noRow, Accounted, TellsReader}
 use Rattle.conformance.proofs.Operations.{obeys-works}
@@ -31,7 +32,7 @@ use Rattle.conformance.proofs.Texts.{every-text, every-run}
 
 -- a group at work makes the run that demand 3 is tried on
 pub witness-works : (held : Seat → List ℕ) × Works page held witness
-witness-works = obeys-works page witness (witness-keeps .0) witness-obeys
+witness-works = obeys-works page witness (witness-keeps .0) witness-today
 
 -- "slip (0, 1, 4, 1), acks of it from seats 0 to 4, question 1", with the replies of the nine lines
 infixl 70 _gets_
@@ -81,11 +82,11 @@ whole-sound = (refl, refl)
 
 -- so its text tells what every text does
 pub whole-tells : (s : Seat) → TellsReader case nineLines s
-whole-tells s = every-text case nineLines 8 s (whole-sound .0) (whole-sound .1) (whole-output .right)
+whole-tells s = rw (texts .0) at (every-text case 8 s (whole-sound .0) (whole-sound .1))
 
 -- and every run of it has this text
 pub only-text : (s : Seat) (xs : List Exchange) → RunOfBundle case s xs → textOfRun case s xs ≡ nineLines
-only-text s xs run = whole-output .alone (textOfRun case s xs) (every-run case 8 s xs (whole-sound .0) (whole-sound .1) run)
+only-text s xs run = sym (every-run case 8 s xs (whole-sound .0) (whole-sound .1) run) ∙ texts .0
 
 -- A balance is asked for before and after a booking: this run obeys, and has these rows, so that its replies and rows account for one another.
 abbrev askedTwice : List Exchange
@@ -95,12 +96,12 @@ askedTwice =
     ∷ Inquiry (accountOf 0) gets Balance 6
     ∷ []
 
-pub twice-obeys : Obeys page (runOf (seatOf 0) askedTwice) × (lastRows page (seatOf 0) askedTwice ≡ rows)
+pub twice-obeys : ObeysToday page (runOf (seatOf 0) askedTwice) × (lastRows page (seatOf 0) askedTwice ≡ rows)
 unfolding ledgerAt noAcks equal conflict hasMost lowestAffordable apply settleAtMost settle step
 twice-obeys = (tt then refl then refl then refl, refl)
 
 pub twice-accounted : Accounted page (seatOf 0) askedTwice rows
-twice-accounted = rw (twice-obeys .1) at (accounted page (witness-keeps .0) (seatOf 0) askedTwice (twice-obeys .0))
+twice-accounted = rw (twice-obeys .1) at (accounted page (witness-keeps .0) (seatOf 0) askedTwice (today-obeys page (runOf (seatOf 0) askedTwice) (twice-obeys .0)))
 
 -- What that says: two rows; the opening sum 13; one slip booked; the row of account 0; and its balance, each time as it was.
 pub accounted-says : Accounted page (seatOf 0) askedTwice rows

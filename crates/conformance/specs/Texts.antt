@@ -8,11 +8,11 @@ use Rattle.model.specs.declared.BundleReply.the-variants.{Sound}
 use Rattle.model.specs.Bundles.{entryCount, pageAt, messageOf, checkBundle}
 use Rattle.model.specs.Basics.{sumOf}
 use Rattle.agreement.specs.Types.{Seat, Account, Opening, Message, Inquiry, Reply, Balance, Opened, ListReply}
-use Rattle.agreement.specs.Runs.{message, waitingList, Event, Run, start, _▹_, ledgerAt, Obeys}
+use Rattle.agreement.specs.Runs.{message, waitingList, Event, Run, start, _▹_, ledgerAt, ObeysToday}
 use Rattle.agreement.specs.Slates.{slateAt}
 use Rattle.agreement.specs.Facts.{countOf, Facts}
 use Rattle.text.specs.Lines.{replyLine}
-use Rattle.replay.specs.Text.{Row, rowLines, rowsOf, openingPage, opened, TextOf}
+use Rattle.replay.specs.Text.{Row, rowLines, rowsOf, openingPage, opened, textOf}
 use Rattle.replay.specs.Lists.{ListOf}
 
 -- a message with its reply, and the call that it is at a seat
@@ -38,10 +38,10 @@ AskedFrom bytes zero i (x ∷ xs) = ⊥
 AskedFrom bytes (suc left) i [] = ⊥
 AskedFrom bytes (suc left) i (x ∷ xs) = (messageOf (pageAt bytes i) ≡ some (x .asked)) × AskedFrom bytes left (suc i) xs
 
--- A run of a bundle at seat s: each entry from 1 is one of its calls, and no other is; and it obeys the definitions.
+-- A run of a bundle at seat s: each entry from 1 is one of its calls, and no other is; and it obeys today's definitions.
 pub record RunOfBundle (bytes : List ℕ) (s : Seat) (xs : List Exchange) : Type 0 where
   pub asked : AskedFrom bytes (entryCount bytes - 1) 1 xs
-  pub obeys : Obeys (openingPage bytes) (runOf s xs)
+  pub obeys : ObeysToday (openingPage bytes) (runOf s xs)
 
 -- the lines of these replies, the first of which is entry i's
 abbrev pub replyLines : ℕ → List Exchange → List ℕ
@@ -91,21 +91,19 @@ pub record TellsReader (bytes text : List ℕ) (s : Seat) : Type 0 where
   pub facts : Facts (openingPage bytes) (runOf s exchanges)
   pub accounted : Accounted (openingPage bytes) s exchanges (lastRows (openingPage bytes) s exchanges)
 
--- Every text of a bundle that is sound and opens tells this, whichever seat is taken for the one that it is of.
+-- The text of each bundle that is sound and opens tells this, whichever seat is taken for the one that it is of.
 abbrev pub EveryText : Type 0
-EveryText =
-    (bytes text : List ℕ) (m : ℕ) (s : Seat)
-    → checkBundle bytes ≡ Sound m → opened bytes ≡ Opened → TextOf bytes text → TellsReader bytes text s
+EveryText = (bytes : List ℕ) (m : ℕ) (s : Seat) → checkBundle bytes ≡ Sound m → opened bytes ≡ Opened → TellsReader bytes (textOf bytes) s
 
 -- And every run of such a bundle has its text.
 abbrev pub EveryRun : Type 0
 EveryRun =
     (bytes : List ℕ) (m : ℕ) (s : Seat) (xs : List Exchange)
-    → checkBundle bytes ≡ Sound m → opened bytes ≡ Opened → RunOfBundle bytes s xs → TextOf bytes (textOfRun bytes s xs)
+    → checkBundle bytes ≡ Sound m → opened bytes ≡ Opened → RunOfBundle bytes s xs → textOf bytes ≡ textOfRun bytes s xs
 
 -- The waiting list that a host asks for behind the last entry is one more call of such a run.
 abbrev pub EveryList : Type 0
 EveryList =
     (bytes : List ℕ) (m : ℕ) (s : Seat) (xs : List Exchange) (before : List ℕ) (reply : ListReply) (after : List ℕ)
     → checkBundle bytes ≡ Sound m → opened bytes ≡ Opened → RunOfBundle bytes s xs → ListOf bytes before reply after
-    → Obeys (openingPage bytes) (runOf s xs ▹ record { at = s; call = waitingList before reply after })
+    → ObeysToday (openingPage bytes) (runOf s xs ▹ record { at = s; call = waitingList before reply after })

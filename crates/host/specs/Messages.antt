@@ -11,8 +11,10 @@ use Rattle.model.specs.Refusals.{firstRefusal}
 use Rattle.model.specs.Replies.{letterOf, valuesOf}
 use Rattle.model.specs.Bundles.{openingOf, messageOf}
 use Rattle.model.specs.Openings.{openRules, openLedger}
+use Rattle.model.specs.Calls.{step}
 use Rattle.layout.specs.Layout.{ledgerIn}
-use Rattle.ledger.specs.Promises.{Answered, codeIfAny}
+use Rattle.calls.specs.Promises.{Answered}
+use Rattle.ledger.specs.Promises.{codeIfAny}
 
 -- An opening from a page's bytes: the code, 0 where there is none, and the ledger after it. "A refusal .. changes nothing": not one of the words.
 pub record ToldOpening (before page : List ℕ) (r : ℕ) (after : List ℕ) : Type 0 where
@@ -31,7 +33,9 @@ replyWords r = take 5 (letterOf r ∷ valuesOf r ++ noReply)
 -- what a message replies and leaves; where there is none, no reply, and every word as it was
 abbrev pub Told : Option Message → List ℕ → List ℕ → List ℕ → Type 0
 Told none before after replied = (after ≡ before) × (replied ≡ noReply)
-Told (some m) before after replied = (r : Reply) × Answered before m r after × (replied ≡ replyWords r)
+Told (some m) before after replied =
+    let reply = step (ledgerIn before) m .reply in
+    Answered before m reply after × (replied ≡ replyWords reply)
 
 -- One message, of a kind, a seat and a body as a bundle has them: the words after it, and those of the reply.
 pub record ToldCall (before : List ℕ) (kind seat : ℕ) (body after replied : List ℕ) : Type 0 where

@@ -26,7 +26,7 @@ ghost use Rattle.model.specs.Bundles.{bodySum};
 ghost use Rattle.layout.specs.Layout.{ledgerIn};
 ghost use Rattle.ledger.specs.Promises.{ListedAs};
 ghost use Rattle.replay.specs.Lists.{ListOf};
-ghost use Rattle.replay.specs.Text.{TextOf};
+ghost use Rattle.replay.specs.Text.{textOf};
 ghost use Rattle.replay.specs.Promises.{Replayed};
 ghost use Rattle.host.specs.Messages.{replyWords, ToldOpening, ToldCall};
 ghost use Rattle.host.specs.Quorums.{Fewest};
@@ -132,7 +132,7 @@ pub extern "C" fn ledger_is_enough(seats: u8, faults: u8, acks: u8) -> bool
 // The text that `daybook` writes for these bytes, at the front of a buffer of 36,828 bytes, which every text fits; its length is returned.
 #[no_mangle]
 pub extern "C" fn daybook_text(bytes: &[u8], text: &mut [u8; TEXT_SIZE]) -> usize
-    ensures { λ r. ⌜ Replayed (TextOf (now (bytes .entry))) (now (text .entry)) (now (text .exit)) r ⌝ }
+    ensures { λ r. ⌜ Replayed (textOf (now (bytes .entry))) (now (text .entry)) (now (text .exit)) r ⌝ }
 {
     replay(bytes, text)
 }

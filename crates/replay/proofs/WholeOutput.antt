@@ -61,10 +61,10 @@ pub zeros : List ℕ
 zeros = (1 ∷ 0 ∷ 0 ∷ 0 ∷ 10 ∷ 0 ∷ 0 ∷ 0 ∷ 0 ∷ 0 ∷ []) ++ replicate 131 0
 
 -- Each bundle's text, computed: the whole output; refused messages; a refused opening; a changed byte of the first case's slip; no bytes.
-pub facts : (textOf case ≡ nineLines)
+pub texts : (textOf case ≡ nineLines)
     × (textOf funds ≡ bytesOf "1 R 5\n2 R 11\n3 A\n= 0 10 0\n= 1 5 0\n")
     × (textOf zeros ≡ bytesOf "F 1 0\n")
     × (textOf (set case 200 1) ≡ bytesOf "F 16 1\n")
     × (textOf [] ≡ bytesOf "F 13 0\n")
 unfolding case funds zeros decimal noAcks equal conflict hasMost openReply lowestAffordable apply settleAtMost settle step checkBundle
-facts = (refl, refl, refl, refl, refl)
+texts = (refl, refl, refl, refl, refl)

@@ -16,10 +16,10 @@ replay-input-requires : tie.Need-replay-input-requires
 replay-input-requires c κs = search needs
 
 array-share-prefix-text : tie.Need-array-share-prefix-text
-array-share-prefix-text c = inside (c .replay-input .ensures)
+array-share-prefix-text c = inside (c .replay-input .ensures .replayed)
 
 slice-aggregate-write-all : tie.Need-slice-aggregate-write-all
-slice-aggregate-write-all c = sym (length-take-le _ _ (inside (c .before .replay-input .ensures)))
+slice-aggregate-write-all c = sym (length-take-le _ _ (inside (c .before .replay-input .ensures .replayed)))
 
 write-all-requires : tie.Need-write-all-requires
 write-all-requires c κs = search needs

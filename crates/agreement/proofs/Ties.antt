@@ -1,0 +1,105 @@
+-- Document 02, request 2, tried: the split 3, 3, 1 at two seats, the acks in two orders.
+use Prim.Native.Nat.{_<_}
+use native.Mathlib.Omega.{arith}
+use mathlib.Core.Path.{_≡_, refl, ap, sym, _∙_}
+use mathlib.Core.Bool.{true, false}
+use mathlib.Core.List.{List, [], _∷_, map}
+use lib.Dec.{lit<}
+use lib.ListN.{replicate}
+use Rattle.agreement.specs.Types.{Transfer, Empty, Full, AckSlot, Ledger, Opening, Message, Ack, Propose, Note}
+use Rattle.agreement.specs.Runs.{Run, start, _▹_, ledgerAt, acksWith, Obeys, ObeysToday}
+use Rattle.agreement.specs.Proposals.{SameAcks}
+use Rattle.agreement.proofs.Proposals.{put-forward-alike}
+use Rattle.agreement.proofs.Examples.{page, t, u, ack, _then_}
+use Rattle.model.specs.Records.{seatOf, noAcks}
+use Rattle.model.specs.Transfers.{equal, conflict}
+use Rattle.model.specs.Acks.{ackAt, hasMost, mostAcked}
+use Rattle.model.specs.Settling.{lowestAffordable, apply, settleAtMost, settle}
+use Rattle.model.specs.Calls.{step}
+use Rattle.model.proofs.Rows.{slip, pageWith}
+use Rattle.model.proofs.Sums.{impossible}
+
+-- n 8, f 1: 7 recorded acks that conflict put forward
+abbrev eight : Opening
+eight = pageWith 8 1 (10 ∷ 3 ∷ [])
+
+-- a slip that conflicts with t and u
+abbrev w : Transfer
+w = slip 0 1 4 0
+
+-- Acks of t from seats 0 to 2 and of u from seats 3 to 5 reach seat 1, those of t first, and seat 2, those of u first. Then w's ack from seat 6 does.
+abbrev tFirst : Run
+tFirst = start ▹ ack 1 0 t Note ▹ ack 1 1 t Note ▹ ack 1 2 t Note ▹ ack 1 3 u Note ▹ ack 1 4 u Note ▹ ack 1 5 u Note
+
+abbrev uFirst : Run → Run
+uFirst run = run ▹ ack 2 3 u Note ▹ ack 2 4 u Note ▹ ack 2 5 u Note ▹ ack 2 0 t Note ▹ ack 2 1 t Note ▹ ack 2 2 t Note
+
+abbrev tied : Transfer → Run
+tied v = uFirst (tFirst ▹ ack 1 6 w (Propose t)) ▹ ack 2 6 w (Propose v)
+
+-- today both put t forward, whose lowest seat is 0
+pub tied-today : ObeysToday eight (tied t)
+unfolding ledgerAt noAcks equal conflict hasMost mostAcked lowestAffordable apply settleAtMost settle step
+tied-today =
+    tt
+    then refl then refl then refl then refl then refl then refl then refl
+    then refl then refl then refl then refl then refl then refl then refl
+
+-- The ledgers of the two seats before w's ack.
+abbrev one : Ledger
+one = ledgerAt eight (seatOf 1) tFirst
+
+abbrev other : Ledger
+other = ledgerAt eight (seatOf 2) (uFirst start)
+
+abbrev last : Message
+last = Ack (seatOf 6) w
+
+abbrev recorded : List AckSlot
+recorded = map (λ p. record { slot = p }) (Full t ∷ Full t ∷ Full t ∷ Full u ∷ Full u ∷ Full u ∷ Full w ∷ replicate 9 Empty)
+
+-- a P carries one slip
+not-one : (a b : Transfer) → Propose a ≡ Propose b → b .value < a .value → ⊥
+not-one a b same less = let slips : a ≡ b = cc in absurd (omega (arith, ap (λ (v : Transfer). v .value) slips))
+
+-- w has not the most of these acks
+not-most : (x : Transfer) → Propose w ≡ Propose x → hasMost recorded x ≡ true → ⊥
+unfolding equal conflict hasMost
+not-most x is most = let same : w ≡ x = cc in let z : false ≡ true = rw (← same) at most in impossible (cc)
+
+-- a run may also hold a seat that puts u forward, which no seat does today; but none that puts w forward
+pub tied-in-a-run : Obeys eight (tied u) × (ObeysToday eight (tied u) → ⊥) × (Obeys eight (tied w) → ⊥)
+unfolding ledgerAt noAcks equal conflict hasMost mostAcked lowestAffordable apply settleAtMost settle step
+tied-in-a-run = (
+  tt
+      then refl then refl then refl then refl then refl then refl then (t, refl, refl)
+      then refl then refl then refl then refl then refl then refl then (u, refl, refl),
+  λ today. let z : Propose u ≡ Propose t = today .1 in not-one u t z (lit< tt),
+  λ obeys. not-most (obeys .1 .0) (obeys .1 .1) (obeys .1 .2),
+)
+
+-- both are answered P, and with that ack they have the same acks: what is said of two such calls is said of these
+pub same-acks-tried : (step one last .reply ≡ Propose t) × (step other last .reply ≡ Propose t) × SameAcks one last other last
+unfolding ledgerAt noAcks equal conflict hasMost mostAcked lowestAffordable apply settleAtMost settle step
+same-acks-tried =
+    let first : acksWith one last ≡ recorded = refl in
+    let second : acksWith other last ≡ recorded = refl in
+    (refl, refl, λ s. ap (λ (acks : List AckSlot). ackAt acks (s .0)) (first ∙ sym second))
+
+-- Where the acks differ, so may the slips: at one seat three acks of t and two of u, at another the other way round.
+abbrev moreT : Ledger
+moreT = ledgerAt page (seatOf 1) (start ▹ ack 1 0 t Note ▹ ack 1 1 t Note ▹ ack 1 2 t Note ▹ ack 1 3 u Note)
+
+abbrev moreU : Ledger
+moreU = ledgerAt page (seatOf 2) (start ▹ ack 2 3 u Note ▹ ack 2 4 u Note ▹ ack 2 2 u Note ▹ ack 2 0 t Note)
+
+pub same-acks-needed :
+    (step moreT (Ack (seatOf 4) u) .reply ≡ Propose t)
+    × (step moreU (Ack (seatOf 1) t) .reply ≡ Propose u)
+    × (SameAcks moreT (Ack (seatOf 4) u) moreU (Ack (seatOf 1) t) → ⊥)
+unfolding ledgerAt noAcks equal conflict hasMost mostAcked lowestAffordable apply settleAtMost settle step
+same-acks-needed = (
+  refl,
+  refl,
+  λ same. not-one u t (ap Propose (sym (put-forward-alike moreT moreU (Ack (seatOf 4) u) (Ack (seatOf 1) t) t u refl refl same))) (lit< tt),
+)

@@ -101,7 +101,7 @@ fn by_tally(words: &mut [u32], t: Transfer) -> Reply
         return accept(words, t);
     }
     if must_propose(words, t.account, y) {
-        let most = most_acked(words, t.account, t.number);
+        let most = most_acked(words, t);
         put_proposed(words, t.account);
         return Reply::Propose(most);
     }

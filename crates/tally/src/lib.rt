@@ -106,13 +106,13 @@ pub struct Leader {
     pub acks: u8,
 }
 
-// Of the leader and the transfer that a seat acked, if any, the one with more acks; on a tie the leader.
-fn better(words: &[u32], best: Leader, a: Account, number: u32, s: Seat) -> Leader
+// Of the leader and the transfer that a seat acked for the number of t, if any, the one with more acks; on a tie the leader.
+fn better(words: &[u32], best: Leader, t: Transfer, s: Seat) -> Leader
     requires { ⌜ length (now words) ≡ bookWords ⌝ }
-    requires { ⌜ (a .0 < 32) × (s .0 < 16) ⌝ }
-    ensures { λ r. ⌜ r ≡ leaderOf (entryIn (now (words .entry)) a .acks) number best (ackFrom (entryIn (now (words .entry)) a) s) ⌝ }
+    requires { ⌜ (t .account .0 < 32) × (s .0 < 16) ⌝ }
+    ensures { λ r. ⌜ r ≡ leaderOf (entryIn (now (words .entry)) (t .account) .acks) (t .number) best (ackFrom (entryIn (now (words .entry)) (t .account)) s) ⌝ }
 {
-    let slot = ack_from(words, a, s, number);
+    let slot = ack_from(words, t.account, s, t.number);
     match slot {
         Slot::Empty => best,
         Slot::Full(u) => {
@@ -129,17 +129,17 @@ fn better(words: &[u32], best: Leader, a: Account, number: u32, s: Seat) -> Lead
     }
 }
 
-// The transfer with the most acks, told with this number: going through the seats from 0, the first of those with the most. Where nothing is recorded it
-// is one of zeros.
-pub fn most_acked(words: &[u32], a: Account, number: u32) -> Transfer
+// The most acked transfer of those that are recorded for the number of t: going through the seats from 0, the first of those with the most acks. Where
+// nothing is recorded its account, value and recipient are 0.
+pub fn most_acked(words: &[u32], t: Transfer) -> Transfer
     requires { ⌜ length (now words) ≡ bookWords ⌝ }
-    requires { ⌜ a .0 < 32 ⌝ }
-    ensures { λ r. ⌜ r ≡ withNumber (mostAcked (entryIn (now (words .entry)) a .acks)) number ⌝ }
+    requires { ⌜ t .account .0 < 32 ⌝ }
+    ensures { λ r. ⌜ r ≡ withNumber (mostAcked (entryIn (now (words .entry)) (t .account) .acks)) (t .number) ⌝ }
 {
     let mut best = Leader {
         transfer: Transfer {
             account: Account(0),
-            number: number,
+            number: t.number,
             value: 0,
             recipient: Account(0),
         },
@@ -147,7 +147,7 @@ pub fn most_acked(words: &[u32], a: Account, number: u32) -> Transfer
     };
     let mut i: u8 = 0;
     while i < 16 {
-        best = better(words, best, a, number, Seat(i));
+        best = better(words, best, t, Seat(i));
         i += 1;
     }
     best.transfer

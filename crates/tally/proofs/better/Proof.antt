@@ -1,6 +1,7 @@
 -- The ack that was read, told with the number, is the seat's ack, and its tally is that ack's count: so the test compares the two.
 use Prim.Native.Nat.{ℕ, _+_, _≤_, _<_}
-use mathlib.Core.Path.{_≡_, refl, ap, sym, _∙_}
+use native.Mathlib.Omega.{arith}
+use mathlib.Core.Path.{_≡_, refl, ap, _∙_}
 use mathlib.Core.List.{List}
 use borrow.Author.Needs.{needs}
 use borrow.Author.Tests.{lt-ltb, le-ltb}
@@ -93,22 +94,22 @@ enum-known-slot c = search needs
 tally-of-requires : tie.Need-tally-of-requires
 tally-of-requires c κs =
     let start = c .before .before .before .before .before in
-    (start .pre .0, rw (account (start .args .words .now) (start .args .best) (start .args .a) (start .args .number) (start .args .s) _ (start .pre .1 .0) (c .before .before .before .ack-from .ensures) _ (c .before .slot .given .1)) (start .pre .1 .0))
+    (start .pre .0, rw (account (start .args .words .now) (start .args .best) (start .args .t .account) (start .args .t .number) (start .args .s) _ (start .pre .1 .0) (c .before .before .before .ack-from .ensures) _ (c .before .slot .given .1)) (start .pre .1 .0))
 
 returns : tie.Need-returns
 returns c =
     let start = c .before .before .before .before in
-    empty (start .args .words .now) (start .args .best) (start .args .a) (start .args .number) (start .args .s) _ (start .pre .1 .0) (c .before .before .ack-from .ensures) (c .enum-told .given .1)
+    empty (start .args .words .now) (start .args .best) (start .args .t .account) (start .args .t .number) (start .args .s) _ (start .pre .1 .0) (c .before .before .ack-from .ensures) (c .enum-told .given .1)
 
 returns-2 : tie.Need-returns-2
 returns-2 c =
     let start = c .before .before .before .before .before .before .before .before .before in
-    taken (start .args .words .now) (start .args .best) (start .args .a) (start .args .number) (start .args .s) _ (start .pre .1 .0) (c .before .before .before .before .before .before .before .ack-from .ensures) _ (c .before .before .before .before .before .slot .given .1) _ (c .before .before .before .tally-of .ensures) (c .if1 .taken)
+    taken (start .args .words .now) (start .args .best) (start .args .t .account) (start .args .t .number) (start .args .s) _ (start .pre .1 .0) (c .before .before .before .before .before .before .before .ack-from .ensures) _ (c .before .before .before .before .before .slot .given .1) _ (c .before .before .before .tally-of .ensures) (omega (arith, c .if1 .taken))
 
 returns-3 : tie.Need-returns-3
 returns-3 c =
     let start = c .before .before .before .before .before .before .before .before .before in
-    kept (start .args .words .now) (start .args .best) (start .args .a) (start .args .number) (start .args .s) _ (start .pre .1 .0) (c .before .before .before .before .before .before .before .ack-from .ensures) _ (c .before .before .before .before .before .slot .given .1) _ (c .before .before .before .tally-of .ensures) (c .if1 .left)
+    kept (start .args .words .now) (start .args .best) (start .args .t .account) (start .args .t .number) (start .args .s) _ (start .pre .1 .0) (c .before .before .before .before .before .before .before .ack-from .ensures) _ (c .before .before .before .before .before .slot .given .1) _ (c .before .before .before .tally-of .ensures) (omega (arith, c .if1 .left))
 
 pub better-spec : {M : Type 1} → statement M
 better-spec = tie.close (tie.spec ack-from-requires enum-told enum-known-slot tally-of-requires returns returns-2 returns-3)

@@ -1,5 +1,5 @@
 -- The invariant: the leader is that of the seats before `i`.
-use Prim.Native.Nat.{ℕ, _-_, _≤_}
+use Prim.Native.Nat.{_-_, _≤_}
 use native.Mathlib.Omega.{arith}
 use borrow.Author.Needs.{needs}
 use Rattle.layout.specs.Layout.{entryIn}
@@ -9,10 +9,10 @@ use Rattle.tally.proofs.most_acked.Statement.{statement}
 use Rattle.tally.proofs.most_acked.Tie as tie
 
 abbrev Inv-loop : tie.InvT-loop
-Inv-loop words a number best₀ i₀ best i = (i ≤ 16) × Led (entryIn words a .acks) number i best
+Inv-loop words t best₀ i₀ best i = (i ≤ 16) × Led (entryIn words (t .account) .acks) (t .number) i best
 
 abbrev μ-loop : tie.MeasureT-loop
-μ-loop words a number best₀ i₀ best i = 16 - i
+μ-loop words t best₀ i₀ best i = 16 - i
 
 loop-holds : tie.Need-loop-holds Inv-loop μ-loop
 loop-holds c = (omega arith, led-none _ _)
@@ -35,7 +35,7 @@ returns : tie.Need-returns Inv-loop μ-loop
 returns c =
     let loop = c .before .before .loop in
     let start = c .before .before .before .before in
-    led-all (entryIn (start .args .words .now) (start .args .a) .acks) (start .args .number) (omega (arith, acks-length (start .args .words .now) (start .args .a) (start .pre .1))) (loop .inv .1)
+    led-all (entryIn (start .args .words .now) (start .args .t .account) .acks) (start .args .t .number) (omega (arith, acks-length (start .args .words .now) (start .args .t .account) (start .pre .1))) (loop .inv .1)
 
 pub most-acked-spec : {M : Type 1} → statement M
 most-acked-spec = tie.close (tie.spec Inv-loop μ-loop loop-holds better-requires add-i loop-less loop-again returns)

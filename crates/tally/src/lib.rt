@@ -136,13 +136,14 @@ pub fn most_acked(words: &[u32], t: Transfer) -> Transfer
     requires { ⌜ t .account .0 < 32 ⌝ }
     ensures { λ r. ⌜ r ≡ withNumber (mostAcked (entryIn (now (words .entry)) (t .account) .acks)) (t .number) ⌝ }
 {
+    let none = Transfer {
+        account: Account(0),
+        number: t.number,
+        value: 0,
+        recipient: Account(0),
+    };
     let mut best = Leader {
-        transfer: Transfer {
-            account: Account(0),
-            number: t.number,
-            value: 0,
-            recipient: Account(0),
-        },
+        transfer: none,
         acks: 0,
     };
     let mut i: u8 = 0;

@@ -1,5 +1,5 @@
-// Plays document 01's known pages on the compiled ledger and writes each reply as a line: the letter, then the values in two digits.
-// What it must write is the file `stdout` beside src/, taken from document 01.
+// Plays document 01's known pages, and request 2's, on the compiled ledger and writes each reply as a line: the letter, then the values in two digits.
+// What it must write is the file `stdout` beside src/, taken from the documents.
 use basics::codes::code_of;
 use basics::codes::letter_of;
 use layout::BOOK_WORDS;
@@ -139,6 +139,29 @@ fn split_four_one() {
     ack(&mut book, 5, t);
 }
 
+// "n 8, f 1, seven acks split 3, 3, 1", twice: by request 2 of document 02 P carries the slip of seats 0 to 2, be their acks the first or not.
+fn split_three_three() {
+    let t = transfer(0, 1, 4, 1);
+    let u = transfer(0, 1, 5, 1);
+    let mut book = [0u32; BOOK_WORDS];
+    opening(&mut book, 8, 1, 10, 3);
+    let mut other = book;
+    ack(&mut book, 0, t);
+    ack(&mut book, 1, t);
+    ack(&mut book, 2, t);
+    ack(&mut book, 3, u);
+    ack(&mut book, 4, u);
+    ack(&mut book, 5, u);
+    ack(&mut book, 6, transfer(0, 1, 4, 0));
+    ack(&mut other, 3, t);
+    ack(&mut other, 4, t);
+    ack(&mut other, 5, t);
+    ack(&mut other, 0, u);
+    ack(&mut other, 1, u);
+    ack(&mut other, 2, u);
+    ack(&mut other, 6, transfer(0, 1, 4, 0));
+}
+
 // "Balances 10 and 5, just opened: a first slip from account 0 of 10 gives A; one of 11 in its place gives 11; one of 16 gives 5."
 fn funds() {
     let mut book = [0u32; BOOK_WORDS];
@@ -181,6 +204,7 @@ fn main() {
     openings();
     split_three_two();
     split_four_one();
+    split_three_three();
     funds();
     rulings();
     whole_case();

@@ -120,7 +120,7 @@ abbrev pub AnsweredToday : Ledger → Call → Type 0
 AnsweredToday l (message m r) = r ≡ step l m .reply
 AnsweredToday l (waitingList before r after) = Lists l before r after
 
--- every call is so answered, by the ledger that its seat has there
+-- every call is answered in this way, by the ledger that its seat has there
 abbrev pub EachCall : (Ledger → Call → Type 0) → Opening → Run → Type 0
 EachCall Right o start = Unit {0}
 EachCall Right o (r ▹ e) = EachCall Right o r × Right (ledgerAt o (e .at) r) (e .call)

@@ -38,7 +38,7 @@ use Rattle.tally.specs.Results.{tallyOf}
 use Rattle.calls.specs.Promises.{Answered, Taken}
 
 -- what is replied is told by its letter and its values
-pub answered : (before : List ℕ) (m : Message) (r : Reply) (after : List ℕ) → r ≡ step (ledgerIn before) m .reply → ledgerIn after ≡ step (ledgerIn before) m .next
+answered : (before : List ℕ) (m : Message) (r : Reply) (after : List ℕ) → r ≡ step (ledgerIn before) m .reply → ledgerIn after ≡ step (ledgerIn before) m .next
     → ((code : Refusal) → r ≡ Refuse code → after ≡ before) → Answered before m r after
 answered before m r after reply ledger kept =
     record { reply = reply; letter = ap letterOf reply; values = ap valuesOf reply; ledger = ledger; kept = kept }

@@ -10,12 +10,12 @@ use Rattle.agreement.proofs.Places.{seat-is, seat-self}
 use Rattle.agreement.proofs.Proposals.{today-obeys}
 use Rattle.agreement.proofs.Demand3.{demand3}
 use Rattle.agreement.proofs.Always.{always}
+use Rattle.model.specs.Replies.{letterOf, valuesOf}
 use Rattle.model.specs.Calls.{step}
 use Rattle.model.proofs.Sums.{impossible}
 use Rattle.model.proofs.Refusing.{refusal-keeps}
 use Rattle.model.proofs.Opened.{opened-fresh}
 use Rattle.layout.specs.Layout.{bookWords, ledgerIn}
-use Rattle.calls.proofs.Taking.{answered}
 use Rattle.ledger.proofs.Promising.{opened, listed}
 use Rattle.conformance.specs.Operations.{Operated, OperatedToday, Called, Works, WorksObeys, ObeysWorks, WorksDemand3, WorksFacts}
 use Rattle.layout.specs.Words.{wordsOf}
@@ -59,8 +59,13 @@ works-obeys o held (run ▹ e) (before, works, call) =
 today-operated : (l : Ledger) (c : Call) → ledgerIn (wordsOf l) ≡ l → ledgerIn (wordsOf (nextLedger l c)) ≡ nextLedger l c
     → AnsweredToday l c → Operated (wordsOf l) c (wordsOf (nextLedger l c))
 today-operated l (message m r) before after ok =
-    answered (wordsOf l) m r (wordsOf (step l m .next)) (rw before ok) (rw before after)
-    (λ code is. ap wordsOf (refusal-keeps l m code (sym ok ∙ is)))
+    record {
+      reply = rw before ok;
+      letter = rw before (ap letterOf ok);
+      values = rw before (ap valuesOf ok);
+      ledger = rw before after;
+      kept = λ code is. ap wordsOf (refusal-keeps l m code (sym ok ∙ is));
+    }
 today-operated l (waitingList buffer r left) before after ok = (rw before (listed l buffer r left ok), refl)
 
 pub obeys-works : ObeysWorks

@@ -11,8 +11,7 @@ use Rattle.agreement.specs.Premises.{Premises}
 use Rattle.agreement.specs.Claims.{Claim}
 use Rattle.agreement.specs.Facts.{Facts}
 use Rattle.layout.specs.Layout.{bookWords, ledgerIn}
-use Rattle.calls.specs.Promises.{Answered}
-use Rattle.ledger.specs.Promises.{OpenedAs, ListedAs}
+use Rattle.ledger.specs.Promises.{Answered, OpenedAs, ListedAs}
 
 -- A call as an operation makes it that keeps its contract: the words that it is lent, with what it was asked and replied, and the words after it.
 -- The waiting list is lent the words to read: they stay.

@@ -13,8 +13,7 @@ use Rattle.model.specs.Bundles.{openingOf, messageOf}
 use Rattle.model.specs.Openings.{openRules, openLedger}
 use Rattle.model.specs.Calls.{step}
 use Rattle.layout.specs.Layout.{ledgerIn}
-use Rattle.calls.specs.Promises.{Answered}
-use Rattle.ledger.specs.Promises.{codeIfAny}
+use Rattle.ledger.specs.Promises.{Answered, codeIfAny}
 
 -- An opening from a page's bytes: the code, 0 where there is none, and the ledger after it. "A refusal .. changes nothing": not one of the words.
 pub record ToldOpening (before page : List ℕ) (r : ℕ) (after : List ℕ) : Type 0 where

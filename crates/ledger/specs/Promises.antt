@@ -1,5 +1,5 @@
 -- What opening and the waiting list promise, by document 01's definitions in the model, of the ledger that the words are: for every content of the words
--- and every argument the reply, the ledger after it and each lent buffer. What a message promises is `Answered`, in crate calls.
+-- and every argument the reply, the ledger after it and each lent buffer. What a message promises is `Answered`, of crate calls.
 -- "Each enum answer has a definition that gives this paper's number and values for each of its cases. The promises use that
 -- definition": the fields `told`.
 use Prim.Native.Nat.{ℕ}
@@ -17,6 +17,7 @@ use Rattle.model.specs.Openings.{openRules}
 use Rattle.model.specs.Settling.{waiting}
 use Rattle.model.specs.Calls.{Lists}
 use Rattle.opening.specs.Promises.{Opens}
+pub use Rattle.calls.specs.Promises.{Answered}
 
 -- the code of a refusal, 0 where there is none
 abbrev pub codeIfAny : Option Refusal → ℕ

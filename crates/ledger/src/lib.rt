@@ -15,8 +15,7 @@ use model::Transfer;
 use opening::open_page;
 ghost use Rattle.model.specs.declared.Message.the-variants.{Request, Circulated, Ack, Decision, Inquiry};
 ghost use Rattle.layout.specs.Layout.{ledgerIn};
-ghost use Rattle.calls.specs.Promises.{Answered};
-ghost use Rattle.ledger.specs.Promises.{OpenedAs, ListedAs};
+ghost use Rattle.ledger.specs.Promises.{Answered, OpenedAs, ListedAs};
 
 // The opening: the words are the page's ledger, whatever they were; or it is refused, and they are as they were.
 pub fn open(words: &mut [u32; BOOK_WORDS], page: Opening) -> OpenReply

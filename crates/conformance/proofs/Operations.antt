@@ -11,7 +11,6 @@ use Rattle.agreement.proofs.Proposals.{today-obeys}
 use Rattle.agreement.proofs.Demand3.{demand3}
 use Rattle.agreement.proofs.Always.{always}
 use Rattle.model.specs.Replies.{letterOf, valuesOf}
-use Rattle.model.specs.Calls.{step}
 use Rattle.model.proofs.Sums.{impossible}
 use Rattle.model.proofs.Refusing.{refusal-keeps}
 use Rattle.model.proofs.Opened.{opened-fresh}

@@ -1,5 +1,5 @@
 //! Ledgers that live: messages made beside a book of the second program, so that most are not refused, and so that
-//! quorums, conflicts, put-forwards, waits and chains are frequent.
+//! quorums, conflicts, put-forwards, ties, waits and chains are frequent.
 
 use crate::dice::Dice;
 use crate::openings;
@@ -95,7 +95,8 @@ impl<'a> Life<'a> {
     /// A few messages that belong together, at least one.
     fn scene(&mut self) {
         match self.dice.below(16) {
-            0..=5 => self.vote(),
+            0..=4 => self.vote(),
+            5 => self.tie(),
             6 | 7 => self.pay(),
             8 => self.rule(),
             9 | 10 => self.wait(),
@@ -129,6 +130,12 @@ impl<'a> Life<'a> {
 
     fn current(&self, account: u8) -> u32 {
         self.book.current(usize::from(account))
+    }
+
+    /// Whether an ack is recorded for the account's next number.
+    fn has_acks(&self, account: u8) -> bool {
+        let account = self.book.account(usize::from(account));
+        account.acks.iter().any(Option::is_some)
     }
 
     /// What an account that waits lacks; 0 if none of its slips waits.
@@ -195,10 +202,29 @@ impl<'a> Life<'a> {
         }
     }
 
-    /// All seats in any order, or some of them.
-    fn seats(&mut self) -> Vec<u8> {
+    /// This slip and others with its account and number, each once: so many, or fewer where few can be had.
+    fn rivals(&mut self, slip: Slip, most: usize) -> Vec<Slip> {
+        let mut slips = vec![slip];
+        for _ in 0..4 * most {
+            let model = *self.dice.pick(&slips);
+            let rival = self.rival(model);
+            if slips.len() < most && !slips.contains(&rival) {
+                slips.push(rival);
+            }
+        }
+        slips
+    }
+
+    /// All seats in any order.
+    fn all_seats(&mut self) -> Vec<u8> {
         let mut seats: Vec<u8> = (0..self.page.n).collect();
         self.dice.shuffle(&mut seats);
+        seats
+    }
+
+    /// All seats in any order, or some of them.
+    fn seats(&mut self) -> Vec<u8> {
+        let mut seats = self.all_seats();
         if self.dice.once_in(3) {
             let some = 1 + self.dice.place(seats.len());
             seats.truncate(some);
@@ -245,6 +271,31 @@ impl<'a> Life<'a> {
         }
         if self.dice.once_in(3) {
             let slip = *self.dice.pick(slips);
+            self.say(Message::Ruling(slip));
+        }
+    }
+
+    /// The n - f acks at which a slip is put forward, at a number that has none: two, three or four slips get equally
+    /// many, and one more slip what is left over. Then perhaps the council rules.
+    fn tie(&mut self) {
+        let mut accounts = self.accounts_that_do_not_wait();
+        accounts.retain(|account| !self.has_acks(*account));
+        if accounts.is_empty() {
+            return self.rule();
+        }
+        let account = *self.dice.pick(&accounts);
+        let (first, most) = (self.slip(account), 3 + self.dice.place(3));
+        let slips = self.rivals(first, most);
+        let last = slips.len() - 1;
+        let acks = usize::from(self.page.n - self.page.f);
+        let share = acks / last.clamp(1, acks);
+        let mut acked: Vec<Slip> = (0..acks).map(|ack| slips[last.min(ack / share)]).collect();
+        self.dice.shuffle(&mut acked);
+        for (seat, slip) in self.all_seats().into_iter().zip(acked) {
+            self.say(Message::Ack { seat, slip });
+        }
+        if self.dice.once_in(2) {
+            let slip = *self.dice.pick(&slips);
             self.say(Message::Ruling(slip));
         }
     }

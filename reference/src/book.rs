@@ -80,7 +80,7 @@ pub enum Reply {
     Ack,
     /// K: the slip is accepted, and this call booked so many slips
     Accepted { booked: u32 },
-    /// P: one slip that has the most acks; `Book::most_acked` lists every slip that P may carry
+    /// P: the slip with the most acks, or of several such the first by its lowest acknowledging seat
     PutForward { slip: Slip },
     /// N: the ack is recorded, and that is all
     Noted,
@@ -128,18 +128,12 @@ impl Account {
         self.acks.iter().flatten().filter(|acked| *acked == slip).count()
     }
 
-    /// The first slip that has the most acks, and how many it has.
-    fn most_acked(&self) -> Option<(Slip, usize)> {
-        let mut best = None;
-        let mut most = 0;
-        for slip in self.acks.iter().flatten() {
-            let count = self.acks_for(slip);
-            if count > most {
-                most = count;
-                best = Some((*slip, count));
-            }
-        }
-        best
+    /// Among the slips with the most acks the first by its lowest acknowledging seat. The list of acks begins with seat
+    /// 0, in whatever order they came.
+    fn most_acked(&self) -> Option<Slip> {
+        let acked = || self.acks.iter().flatten();
+        let most = acked().map(|slip| self.acks_for(slip)).max()?;
+        acked().find(|slip| self.acks_for(slip) == most).copied()
     }
 }
 
@@ -223,19 +217,6 @@ impl Book {
         self.accounts[account].current
     }
 
-    /// Every slip that has the most recorded acks for the next number of an account below k, each once.
-    pub fn most_acked(&self, account: usize) -> Vec<Slip> {
-        let account = &self.accounts[account];
-        let most = account.most_acked().map_or(0, |(_, count)| count);
-        let mut slips = Vec::new();
-        for slip in account.acks.iter().flatten() {
-            if account.acks_for(slip) == most && !slips.contains(slip) {
-                slips.push(*slip);
-            }
-        }
-        slips
-    }
-
     fn request(&self, slip: Slip) -> Result<Reply, u8> {
         let account = self.check_slip(&slip)?;
         self.check_funds(account, &slip)?;
@@ -274,8 +255,8 @@ impl Book {
             return Ok(Reply::Noted);
         }
         account.put_forward = true;
-        let most_acked = account.most_acked().map_or(slip, |(most_acked, _)| most_acked);
-        Ok(Reply::PutForward { slip: most_acked })
+        let slip = account.most_acked().expect("this ack is recorded");
+        Ok(Reply::PutForward { slip })
     }
 
     fn ruling(&mut self, slip: Slip) -> Result<Reply, u8> {

@@ -2,7 +2,7 @@
 
 use crate::book::{Book, OpeningPage};
 use crate::bundle::{self, Entry, Fault, Wrong, BODY_LENGTHS, MOST_ENTRIES, OPENING};
-use crate::daybook::{self, Printed};
+use crate::daybook;
 use crate::written::KIND_WORDS;
 
 /// An entry with what can be said of it.
@@ -28,7 +28,7 @@ pub fn shown(bytes: &[u8]) -> String {
         text += "  entry  kind      seat  start         sum  body\n";
     }
     let printed = daybook::printed(bytes);
-    let mut replies = printed.text.lines().filter(|line| !line.starts_with('F'));
+    let mut replies = printed.lines().filter(|line| !line.starts_with('F'));
     let width = rows.iter().skip(1).map(|row| row.body.len()).max().unwrap_or(0);
     // 13 and 15 are no single entry's fault
     let decides = fault
@@ -38,7 +38,7 @@ pub fn shown(bytes: &[u8]) -> String {
         let reply = if row.number == 0 { None } else { replies.next() };
         let behind = match &row.wrong {
             Some((code, what)) => format!("<- {code}: {what}"),
-            None => reply.map_or(String::new(), |reply| arrow(reply, &printed, row.number)),
+            None => reply.map_or(String::new(), arrow),
         };
         text += &line(row, decides == Some(row.number), width, &behind);
     }
@@ -174,11 +174,10 @@ fn wrong_opening(page: &OpeningPage, code: u8) -> String {
     }
 }
 
-/// The reply from its line, and whether document 01 leaves it free.
-fn arrow(reply: &str, printed: &Printed, number: usize) -> String {
-    let reply = reply.split_once(' ').map_or(reply, |(_, reply)| reply);
-    let free = printed.free.iter().any(|free| free.entry == number);
-    format!("-> {reply}{}", if free { " (free)" } else { "" })
+/// The reply from its line.
+fn arrow(line: &str) -> String {
+    let reply = line.split_once(' ').map_or(line, |(_, reply)| reply);
+    format!("-> {reply}")
 }
 
 /// A row's line; the entry whose fault decides is marked in front.

@@ -1,11 +1,11 @@
-//! Document 01's known pages, and its rules one by one.
+//! Document 01's known pages, its rules one by one, and what document 02 says of ties.
 
 mod common;
 
 use common::Chance;
 use reference::book::{Book, Message, OpeningPage, Reply, Slip};
 use reference::bundle::{self, Fault};
-use reference::daybook::{self, Free};
+use reference::daybook;
 
 const T: Slip = Slip {
     account: 0,
@@ -15,6 +15,8 @@ const T: Slip = Slip {
 };
 const U: Slip = Slip { value: 5, ..T };
 const V: Slip = Slip { value: 6, ..T };
+const W: Slip = Slip { recipient: 0, ..T };
+const X: Slip = Slip { value: 7, ..T };
 
 fn open(n: u8, f: u8, given: &[u32]) -> Book {
     Book::open(&OpeningPage::of(n, f, given)).expect("the page is not refused")
@@ -123,6 +125,80 @@ fn not_this_seats_own_slip_is_put_forward_but_the_most_acked() {
     assert_eq!(acked(&mut book, &[T, U, U, T, U])[4], Reply::PutForward { slip: U });
 }
 
+/// A group's n and f, who acks what in the order in which it comes, and the slip that the last ack puts forward.
+type Split = (u8, u8, &'static [(Slip, &'static [u8])], Slip);
+
+/// The first is document 01's.
+const SPLITS: &[Split] = &[
+    (8, 1, &[(T, &[0, 1, 2]), (U, &[3, 4, 5]), (V, &[6])], T),
+    // the slip of the lower seats comes last
+    (8, 1, &[(T, &[3, 4, 5]), (U, &[0, 1, 2]), (V, &[6])], U),
+    // of a slip's seats neither the highest decides nor the one that came first
+    (8, 1, &[(T, &[7, 5, 0]), (U, &[1, 2, 3]), (V, &[6])], T),
+    // the lowest seat is that of the ack at hand
+    (8, 1, &[(U, &[1, 2, 3]), (V, &[6]), (T, &[7, 5, 0])], T),
+    // two slips
+    (2, 0, &[(T, &[0]), (U, &[1])], T),
+    (2, 0, &[(T, &[1]), (U, &[0])], U),
+    (4, 0, &[(T, &[0]), (U, &[1, 2]), (T, &[3])], T),
+    // three
+    (3, 0, &[(T, &[1]), (U, &[2]), (V, &[0])], V),
+    (3, 0, &[(V, &[2]), (U, &[0]), (T, &[1])], U),
+    (11, 2, &[(T, &[8, 9, 10]), (U, &[5, 2, 7]), (V, &[4, 3, 6])], U),
+    // four
+    (4, 0, &[(T, &[3]), (U, &[1]), (V, &[0]), (W, &[2])], V),
+    (9, 1, &[(T, &[2, 8]), (U, &[3, 7]), (V, &[4, 6]), (W, &[5, 1])], W),
+    (
+        16,
+        3,
+        &[
+            (T, &[15, 9, 4]),
+            (U, &[3, 14, 5]),
+            (V, &[7, 6, 8]),
+            (W, &[12, 2, 13]),
+            (X, &[0]),
+        ],
+        W,
+    ),
+    // a lower seat's slip has fewer acks, beside a tie and beside none
+    (8, 1, &[(V, &[0]), (T, &[4, 5, 6]), (U, &[1, 2, 3])], U),
+    (8, 1, &[(T, &[0, 1, 2]), (U, &[3, 4, 5, 6])], U),
+    (8, 1, &[(U, &[7, 6, 5]), (V, &[0]), (T, &[1, 2]), (V, &[3])], U),
+];
+
+#[test]
+fn splits_and_ties() {
+    for (n, f, split, put_forward) in SPLITS {
+        let mut acks = Vec::new();
+        for (slip, seats) in *split {
+            acks.extend(seats.iter().map(|seat| ack(*seat, *slip)));
+        }
+        let mut book = open(*n, *f, &[10, 3]);
+        let mut due = vec![Reply::Noted; acks.len() - 1];
+        due.push(Reply::PutForward { slip: *put_forward });
+        let replies: Vec<Reply> = acks.iter().map(|ack| book.call(ack)).collect();
+        assert_eq!(replies, due, "n {n}, f {f}: {split:?}");
+    }
+}
+
+/// However the same acks come, the same slip is put forward.
+#[test]
+fn the_order_of_acks_does_not_matter() {
+    let mut acks: Vec<Message> = (0..)
+        .zip([V, T, U, U, T, T, U])
+        .map(|(seat, slip)| ack(seat, slip))
+        .collect();
+    let mut chance = Chance(9);
+    for _ in 0..500 {
+        let (one, other) = (chance.below(7) as usize, chance.below(7) as usize);
+        acks.swap(one, other);
+        let mut book = open(8, 1, &[10, 3]);
+        let last = acks.iter().map(|ack| book.call(ack)).last();
+        assert_eq!(last, Some(Reply::PutForward { slip: T }), "{acks:?}");
+    }
+}
+
+/// Document 01's tie as text: one text is right, and of another the line is named.
 #[test]
 fn tie() {
     let messages: Vec<_> = (0..)
@@ -130,21 +206,13 @@ fn tie() {
         .map(|(seat, slip)| ack(seat, slip))
         .collect();
     let bytes = bundle::write(&OpeningPage::of(8, 1, &[10, 3]), &messages);
-    let printed = daybook::printed(&bytes);
-    assert_eq!(
-        printed.free,
-        [Free {
-            entry: 7,
-            slips: vec![T, U]
-        }]
-    );
     let text = |value| format!("1 N\n2 N\n3 N\n4 N\n5 N\n6 N\n7 P 0 1 {value} 1\n= 0 10 0\n= 1 3 0\n");
-    // the text carries the first of the list
-    assert_eq!(printed.text, text(4));
+    assert_eq!(daybook::printed(&bytes), text(4));
     assert_eq!(daybook::compare(&bytes, text(4).as_bytes()), Ok(()));
-    assert_eq!(daybook::compare(&bytes, text(5).as_bytes()), Ok(()));
-    let third = daybook::compare(&bytes, text(6).as_bytes()).expect_err("the third slip has fewer acks");
-    assert!(third.contains("line 7"), "{third}");
+    for value in [5, 6] {
+        let due = format!("line 7 has to be \"7 P 0 1 4 1\\n\" and is \"7 P 0 1 {value} 1\\n\"");
+        assert_eq!(daybook::compare(&bytes, text(value).as_bytes()), Err(due));
+    }
 }
 
 #[test]
@@ -199,16 +267,21 @@ fn whole_output() {
     messages.push(Message::Question { account: 1 });
     let bytes = bundle::write(&OpeningPage::of(6, 1, &[10, 3]), &messages);
     let due = "1 A\n2 N\n3 N\n4 N\n5 N\n6 K 1\n7 B 7\n= 0 6 1\n= 1 7 0\n";
-    assert_eq!(daybook::printed(&bytes).text, due);
+    assert_eq!(daybook::printed(&bytes), due);
     assert_eq!(daybook::compare(&bytes, due.as_bytes()), Ok(()));
-    for wrong in [
-        &due[..due.len() - 1],
-        &due[4..],
-        "",
-        &format!("{due}\n"),
-        &due.replace("K 1", "K 2"),
+    for (line, wrong) in [
+        (9, &due[..due.len() - 1]),
+        (1, &due[4..]),
+        (1, ""),
+        (3, &due[..9]),
+        (10, &format!("{due}\n")),
+        (6, &due.replace("K 1", "K 2")),
     ] {
-        assert!(daybook::compare(&bytes, wrong.as_bytes()).is_err(), "{wrong:?}");
+        let what = daybook::compare(&bytes, wrong.as_bytes()).expect_err("another text");
+        assert!(
+            what.starts_with(&format!("line {line} has to be ")),
+            "{wrong:?}: {what}"
+        );
     }
 }
 
@@ -336,7 +409,7 @@ fn faults_of_bundles() {
         };
         assert_eq!(bundle::check(&bytes), Err(fault), "{changes:?}, {length} bytes");
         assert_eq!(bundle::read(&bytes), Err(fault));
-        assert_eq!(daybook::printed(&bytes).text, format!("F {code} {entry}\n"));
+        assert_eq!(daybook::printed(&bytes), format!("F {code} {entry}\n"));
     }
 }
 
@@ -345,7 +418,7 @@ fn the_longest_bundle() {
     let bytes = bundle::write(&OpeningPage::of(1, 0, &[1]), &[Message::Request(slip(0, 1, 1, 0)); 999]);
     assert_eq!(bytes.len(), bundle::LONGEST);
     assert_eq!(bundle::check(&bytes), Ok(bundle::MOST_ENTRIES));
-    assert!(daybook::printed(&bytes).text.ends_with("\n999 C\n= 0 1 0\n"));
+    assert!(daybook::printed(&bytes).ends_with("\n999 C\n= 0 1 0\n"));
 }
 
 #[test]
@@ -367,6 +440,6 @@ fn refused_openings_print_their_code() {
         (OpeningPage::of(6, 1, &[u32::MAX, 1]), 3),
     ] {
         let bytes = bundle::write(&page, &[Message::Question { account: 0 }]);
-        assert_eq!(daybook::printed(&bytes).text, format!("F {code} 0\n"));
+        assert_eq!(daybook::printed(&bytes), format!("F {code} 0\n"));
     }
 }

@@ -6,6 +6,7 @@ use crate::dice::Dice;
 use crate::held::same_words;
 use crate::ledgers::with_slip;
 use crate::lent::{told, Lent, Sent, BLOCK, GROUP, NOTHING, REPLY, WORDS};
+use crate::ties::{self, Ack};
 use crate::trial::caught;
 use crate::waiting;
 use reference::book::{Account, Book, Message, Reply, Slip};
@@ -61,14 +62,11 @@ pub fn try_messages(checks: &mut Checks, seed: u64) {
             checks.same(&format!("content {index} of seed {seed}"), met.map(drop), Ok(()));
         }
     }
+    let letters = ["C", "A", "K", "N", "B"].iter().chain(&ties::SIZES);
     let codes = (4..=12).map(|code| format!("R {code}"));
-    for row in ["C", "A", "K", "P", "N", "B"]
-        .map(str::to_string)
-        .into_iter()
-        .chain(codes)
-    {
+    for row in letters.map(|row| row.to_string()).chain(codes) {
         let times: u64 = seen.get(&row).copied().unwrap_or(0);
-        println!("{row:20} {times:>9}");
+        println!("{row:22} {times:>9}");
         checks.that(&format!("never seen: {row}"), times > 0);
     }
 }
@@ -85,7 +83,8 @@ fn refused_by_none(dice: &mut Dice) -> Result<(), String> {
     same_words(&Lent::default(), &lent)
 }
 
-/// One message, or what is no message, and the waiting list after it: the reply's letter, and a refusal's code.
+/// One message, or what is no message, and the waiting list after it: the reply's letter, and a refusal's code, or
+/// the row of a P.
 fn meet(dice: &mut Dice, lent: &mut Lent) -> Result<String, String> {
     let before = lent.clone();
     if dice.once_in(20) {
@@ -101,11 +100,11 @@ fn meet(dice: &mut Dice, lent: &mut Lent) -> Result<String, String> {
     let length = waiting::length(dice);
     let wanted = if length < 32 { Err(17) } else { Ok(lent.that_wait()) };
     waiting::answered(length, |list| lent.waiting(list), wanted).map(drop)?;
-    let letter = reply[0] as u8 as char;
-    Ok(if letter == 'R' {
-        format!("R {}", reply[1])
-    } else {
-        letter.to_string()
+    Ok(match reply[0] as u8 as char {
+        'R' => format!("R {}", reply[1]),
+        // behind P stands the account
+        'P' => ties::size(&recorded(&lent.account(reply[1] as usize))).to_string(),
+        letter => letter.to_string(),
     })
 }
 
@@ -204,51 +203,55 @@ fn refusal(lent: &Lent, message: &Message) -> Option<u8> {
 /// Whether this reply is right, and the words after it.
 fn judge(before: &Lent, message: &Message, reply: [u32; REPLY], after: &Lent) -> Result<(), String> {
     if let Some(code) = refusal(before, message) {
-        wanted(reply, &[Reply::Refused(code)])?;
+        wanted(reply, &Reply::Refused(code))?;
         return same_words(before, after);
     }
     let mut accounts: Vec<Account> = (0..32).map(|account| before.account(account)).collect();
-    let replies = match *message {
-        Message::Question { account } => vec![Reply::Balance(accounts[usize::from(account)].balance)],
-        Message::Request(_) => vec![Reply::Circulate],
+    let due = match *message {
+        Message::Question { account } => Reply::Balance(accounts[usize::from(account)].balance),
+        Message::Request(_) => Reply::Circulate,
         Message::Slip(slip) => {
             accounts[usize::from(slip.account)].acked = true;
-            vec![Reply::Ack]
+            Reply::Ack
         }
         Message::Ack { seat, slip } => {
             let held = &mut accounts[usize::from(slip.account)];
             held.acks[usize::from(seat)] = Some(slip);
-            tallied(before, held, slip).unwrap_or_else(|| vec![accepted(&mut accounts, slip)])
+            tallied(before, held, slip).unwrap_or_else(|| accepted(&mut accounts, slip))
         }
-        Message::Ruling(slip) => vec![accepted(&mut accounts, slip)],
+        Message::Ruling(slip) => accepted(&mut accounts, slip),
     };
-    wanted(reply, &replies)?;
+    wanted(reply, &due)?;
     stored(before, &accounts, after)
 }
 
-fn wanted(reply: [u32; REPLY], replies: &[Reply]) -> Result<(), String> {
-    if replies.iter().any(|due| reply == told(due)) {
+fn wanted(reply: [u32; REPLY], due: &Reply) -> Result<(), String> {
+    if reply == told(due) {
         return Ok(());
     }
-    Err(format!("the reply has to be one of {replies:?}"))
+    Err(format!("the reply has to be {due:?}"))
 }
 
-/// The replies that an ack may get once it is recorded, unless its slip is accepted; P leaves its mark.
-fn tallied(before: &Lent, held: &mut Account, slip: Slip) -> Option<Vec<Reply>> {
+/// The acks that are recorded for an account's next number, by their seats.
+fn recorded(held: &Account) -> Vec<Ack> {
+    let acks = (0..).zip(&held.acks);
+    acks.filter_map(|(seat, slip)| Some((seat, (*slip)?))).collect()
+}
+
+/// The reply to an ack once it is recorded, unless its slip is accepted; P leaves its mark.
+fn tallied(before: &Lent, held: &mut Account, slip: Slip) -> Option<Reply> {
     let [n, f, _] = group(before).map(|number| number as usize);
-    let recorded: Vec<Slip> = held.acks.iter().flatten().copied().collect();
-    let acks_for = |slip: &Slip| recorded.iter().filter(|acked| *acked == slip).count();
-    if 2 * acks_for(&slip) > n + 3 * f {
+    let recorded = recorded(held);
+    let equal = recorded.iter().filter(|(_, acked)| *acked == slip).count();
+    if 2 * equal > n + 3 * f {
         return None;
     }
-    let conflict = recorded.iter().any(|acked| *acked != slip);
-    if recorded.len() + f < n || !conflict || held.put_forward {
-        return Some(vec![Reply::Noted]);
+    if recorded.len() + f < n || recorded.len() == equal || held.put_forward {
+        return Some(Reply::Noted);
     }
     held.put_forward = true;
-    let most = recorded.iter().map(acks_for).max();
-    let best = recorded.iter().filter(|slip| Some(acks_for(slip)) == most);
-    Some(best.map(|slip| Reply::PutForward { slip: *slip }).collect())
+    let slip = ties::tied(&recorded)[0];
+    Some(Reply::PutForward { slip })
 }
 
 /// The slip waits at its account; then, while some waiting slip's value is at most its payer's balance, the one with the

@@ -8,6 +8,7 @@ use crate::ledgers;
 use crate::lent::{told, Lent, Sent, NOTHING};
 use crate::openings;
 use crate::tallies::{Tallies, NO_MESSAGE, SETTLED_LATER};
+use crate::ties::Arrivals;
 use crate::trial::caught;
 use crate::waiting;
 use reference::book::{Book, Message, OpeningPage, Reply};
@@ -67,6 +68,7 @@ struct Held {
     page: OpeningPage,
     lent: Lent,
     book: Book,
+    arrivals: Arrivals,
     most_waiting: usize,
 }
 
@@ -82,6 +84,7 @@ impl Held {
             page: page.clone(),
             lent,
             book,
+            arrivals: Arrivals::default(),
             most_waiting: 0,
         })
     }
@@ -100,12 +103,16 @@ impl Held {
         let before = self.lent.clone();
         let reply = self.lent.call(&sent);
         let due = self.book.call(message);
-        let free = self.allowed(&due, reply)?;
+        if reply != told(&due) {
+            return Err(format!("the reply is {reply:?} and not {due}"));
+        }
         if let Reply::Refused(_) = due {
             same_words(&before, &self.lent)?;
         }
         self.lent.holds(&self.page, &self.book)?;
-        tallies.reply(column, kind, &due.to_string().split(' ').collect::<Vec<_>>(), free);
+        let words = due.to_string();
+        let words: Vec<&str> = words.split(' ').collect();
+        tallies.reply(column, kind, &words, &self.arrivals.rows(message, &words));
         if let Reply::Accepted { booked: 1.. } = due {
             let waiting = self.lent.that_wait();
             if before.that_wait().iter().any(|account| !waiting.contains(account)) {
@@ -127,22 +134,6 @@ impl Held {
             return Err(format!("{sent:?} is no message, and the reply is {reply:?}"));
         }
         same_words(&before, &self.lent)
-    }
-
-    /// Whether this reply was the one that is due, or a P that is as good; says whether P was free.
-    fn allowed(&self, due: &Reply, reply: [u32; 5]) -> Result<bool, String> {
-        let slips = match due {
-            Reply::PutForward { slip } => self.book.most_acked(usize::from(slip.account)),
-            _ => Vec::new(),
-        };
-        if reply == told(due)
-            || slips
-                .iter()
-                .any(|slip| reply == told(&Reply::PutForward { slip: *slip }))
-        {
-            return Ok(slips.len() > 1);
-        }
-        Err(format!("the reply is {reply:?} and not {due}"))
     }
 
     /// What became of the book, for people.

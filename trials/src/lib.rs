@@ -14,6 +14,7 @@ pub mod lent;
 pub mod openings;
 pub mod records;
 pub mod tallies;
+pub mod ties;
 pub mod trial;
 pub mod waiting;
 pub mod wild;

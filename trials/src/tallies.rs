@@ -2,8 +2,9 @@
 //! printed.
 
 use crate::checks::Checks;
+use crate::ties::{self, Arrivals};
 use crate::waiting::Answer;
-use reference::daybook::printed;
+use reference::bundle;
 use std::collections::BTreeMap;
 
 /// The classes of random bundles, each a column of the table.
@@ -22,10 +23,11 @@ const KINDS: [(&str, &[&str]); 5] = [
 ];
 
 /// The other rows of every table.
-const ROWS: [&[&str]; 5] = [
+const ROWS: [&[&str]; 6] = [
     &["A", "C", "K", "P", "N", "B", "R"],
     &["K 0", "K 1", "K 2", "K 3 to 31", "K 32"],
-    &["P free on a tie", "P not free"],
+    &ties::SIZES,
+    &ties::ORDERS,
     &["R 4", "R 5", "R 6", "R 7", "R 8", "R 9", "R 10", "R 11", "R 12"],
     &["none waits", "one waits", "more wait", "waiting list 17"],
 ];
@@ -128,21 +130,19 @@ impl Tallies {
     /// Counts the lines of the text that `daybook` printed for these bytes.
     pub fn text(&mut self, class: usize, bytes: &[u8], text: &[u8]) {
         let text = String::from_utf8_lossy(text);
-        // The text does not say whether a P was free: that is asked of the second program.
-        let free = if text.contains(" P ") {
-            printed(bytes).free
-        } else {
-            Vec::new()
-        };
+        let messages = bundle::read(bytes).map_or(Vec::new(), |(_, messages)| messages);
+        let mut arrivals = Arrivals::default();
         for line in text.lines() {
             let words: Vec<&str> = line.split(' ').collect();
             match words[..] {
                 ["F", code, entry] => self.refusal(class, code, entry),
                 ["=", ..] => {}
                 [entry, ref reply @ ..] => {
-                    let entry = entry.parse().unwrap_or(0);
+                    let entry: usize = entry.parse().unwrap_or(0);
                     let kind = bytes.get(2 + 8 * entry).copied().unwrap_or(0);
-                    self.reply(class, kind, reply, free.iter().any(|line| line.entry == entry));
+                    let message = messages.get(entry.wrapping_sub(1));
+                    let ties = message.map_or(Vec::new(), |message| arrivals.rows(message, reply));
+                    self.reply(class, kind, reply, &ties);
                 }
                 [] => {}
             }
@@ -158,13 +158,13 @@ impl Tallies {
         }
     }
 
-    /// The reply to a message of this kind: letter and values, and whether document 01 allows others.
-    pub fn reply(&mut self, class: usize, kind: u8, reply: &[&str], free: bool) {
+    /// The reply to a message of this kind: letter and values, and the rows of a P by its acks.
+    pub fn reply(&mut self, class: usize, kind: u8, reply: &[&str], ties: &[&str]) {
         self.add(class, reply.first().unwrap_or(&"no letter"));
+        ties.iter().for_each(|row| self.add(class, row));
         match reply {
             ["K", count @ ("0" | "1" | "2" | "32")] => self.add(class, &format!("K {count}")),
             ["K", ..] => self.add(class, "K 3 to 31"),
-            ["P", ..] => self.add(class, if free { "P free on a tie" } else { "P not free" }),
             ["R", code] => self.add(class, &format!("R {code}")),
             _ => {}
         }
@@ -193,7 +193,7 @@ impl Tallies {
     pub fn table(&self, checks: &mut Checks) {
         let line = |row: &str, all: &str, counts: Vec<String>| {
             let counts: Vec<String> = counts.iter().map(|count| format!("{count:>11}")).collect();
-            println!("{row:20} {all:>9} {}", counts.join(" "));
+            println!("{row:33} {all:>9} {}", counts.join(" "));
         };
         line("", "all", self.columns.iter().map(|name| name.to_string()).collect());
         let none = vec![0; self.columns.len()];

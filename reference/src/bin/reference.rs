@@ -1,4 +1,4 @@
-//! Prints what `daybook` must print for a bundle, and says on standard error which lines are free.
+//! Prints what `daybook` must print for a bundle.
 //!
 //! Usage: `reference [FILE]`; standard input is read if no file is named.
 
@@ -18,12 +18,5 @@ fn main() -> ExitCode {
         Ok(bytes) => bytes,
         Err(error) => return streams::complain(1, &format!("{}: {error}", streams::name(file))),
     };
-    let printed = daybook::printed(&bytes);
-    for free in &printed.free {
-        // the text carries the first of them
-        let others: Vec<String> = free.slips[1..].iter().map(|slip| slip.to_string()).collect();
-        let line = format!("line {} is free: P may also carry {}", free.entry, others.join(" or "));
-        streams::complain(0, &line);
-    }
-    streams::output(printed.text.as_bytes())
+    streams::output(daybook::printed(&bytes).as_bytes())
 }

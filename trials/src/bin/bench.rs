@@ -61,8 +61,7 @@ fn chain(index: usize) -> Message {
 }
 
 /// As often as sixteen seats can come to P: thirteen acks for two slips, seven and six, which are twelve N and P; then a
-/// ruling for the one with the most acks, K 1, so that the next number may begin. The accounts take turns. (At P the second
-/// program also lists every slip that P may carry, for its free lines: a quarter of the instructions that it takes here.)
+/// ruling for the one with the most acks, K 1, so that the next number may begin. The accounts take turns.
 fn conflict(index: usize) -> Message {
     let (round, step) = (index / 14, index % 14);
     let slip = Slip {
@@ -204,7 +203,7 @@ fn measure(load: &Load, programs: &[String; 2], replay: &mut Replay) -> Result<V
             above.push(format!("{}, {messages} messages: {ratio:.2}", load.name));
         }
         let (ours, our_bytes) = best(&mut || replay.text(&bundle).len());
-        let (theirs, their_bytes) = best(&mut || reference::daybook::printed(&bundle).text.len());
+        let (theirs, their_bytes) = best(&mut || reference::daybook::printed(&bundle).len());
         if our_bytes != their_bytes {
             return Err(format!("{}: the two texts differ in length", load.name));
         }

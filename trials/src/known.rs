@@ -43,7 +43,7 @@ pub fn facts(checks: &mut Checks, dice: &mut Dice) {
     checks.same("the sum of no bytes", daybook::sum(&[]), 0);
 }
 
-/// Every example: its text is one that stands beside it, and one that the second program allows.
+/// Every example: its text is the one that stands beside it, and the second program's.
 pub fn examples(checks: &mut Checks, folder: &str, program: Option<&str>) {
     let bundles = bundles(Path::new(folder));
     checks.that("there are more than 20 examples", bundles.len() > 20);
@@ -52,12 +52,10 @@ pub fn examples(checks: &mut Checks, folder: &str, program: Option<&str>) {
         let bytes = std::fs::read(&path).expect("a bundle that can be read");
         let (text, outcome) = trial::text_tried(&bytes, program);
         trial::count(checks, &name, &bytes, outcome);
-        let mut beside = ["txt", "or.txt"]
-            .iter()
-            .filter_map(|e| std::fs::read(path.with_extension(e)).ok());
+        let beside = std::fs::read(path.with_extension("txt")).ok();
         checks.that(
-            &format!("{name}: its text is one that stands beside it"),
-            beside.any(|wanted| wanted == text),
+            &format!("{name}: its text is the one that stands beside it"),
+            beside == Some(text),
         );
     }
 }

@@ -1,4 +1,4 @@
-//! Runs of whole groups with bad seats, checked against demand 3.
+//! Runs of whole groups with bad seats, checked against demand 3 and request 2 of document 02.
 //!
 //!     groups [--program PATH] [--seed N] [--runs N] [--only INDEX]
 //!

@@ -39,6 +39,7 @@ impl Breach {
         }
         all.push(Breach::TwoPages);
         all.extend([Lie::BalanceOneMore, Lie::AcceptedAsNoted, Lie::AcceptedTwice].map(Breach::Told));
+        all.extend([Lie::LastOfTied, Lie::TiedAtHand].map(Breach::Told));
         all
     }
 
@@ -53,6 +54,8 @@ impl Breach {
             Breach::Told(Lie::BalanceOneMore) => "a text with a balance one more",
             Breach::Told(Lie::AcceptedAsNoted) => "a text with an N in the place of a K",
             Breach::Told(Lie::AcceptedTwice) => "a text with two K at one number",
+            Breach::Told(Lie::LastOfTied) => "a text with P for the last of the tied slips",
+            Breach::Told(Lie::TiedAtHand) => "a text with P for the tied slip at hand",
         };
         name.to_string()
     }
@@ -91,8 +94,7 @@ pub struct Found {
     pub how: String,
 }
 
-/// Looks for a run that breaks this premise and no other and in which a check of demand 3 fails. Err says why there
-/// is none.
+/// Looks for a run that breaks this premise and no other and in which a check fails. Err says why there is none.
 pub fn search(breach: Breach, most: u64, dice: &mut Dice) -> Result<Found, String> {
     for runs in 1..=most {
         if let Some(how) = attempt(breach, dice)? {

@@ -1,5 +1,6 @@
 //! What the runs met, counted: a row that stays 0 shows that the runs prove too little.
 
+use super::alike;
 use super::demand3::currents_of;
 use super::printed::Reply;
 use super::record::{Call, Event};
@@ -8,13 +9,18 @@ use reference::book::Message;
 use std::collections::HashMap;
 
 /// The first rows; behind them stand those of each code, n and f.
-const FIRST_ROWS: [&str; 20] = [
+const FIRST_ROWS: [&str; 25] = [
     "calls",
     "places looked at",
     "runs looked at after each call",
     "runs with bad seats",
     "conflicts made",
     "P printed",
+    "P printed on a tie",
+    "P on the acks of an earlier P",
+    "P on the acks of an earlier P, tied",
+    "P on the acks of an earlier P, tied, with another ack at hand",
+    "P on the acks of an earlier P, tied, in a run with bad seats",
     "rulings for the only slip put forward",
     "rulings for one of several put forward",
     "rulings for one that nobody put forward",
@@ -90,6 +96,7 @@ impl Coverage {
                 Event::Look { .. } => self.add("places looked at", 1),
             }
         }
+        self.count_put_forwards(world);
         self.count_meetings(world);
         self.count_ends(world);
     }
@@ -113,6 +120,33 @@ impl Coverage {
                 },
                 1,
             );
+        }
+    }
+
+    /// Counts each P on a tie, and each that is held to an earlier one on the same acks.
+    fn count_put_forwards(&mut self, world: &World) {
+        let all = alike::put_forwards(&world.record);
+        let bad = world.plan.bad.contains(&true);
+        for one in &all {
+            self.add("P printed on a tie", one.is_tied() as u64);
+        }
+        for [earlier, later] in alike::pairs(&all) {
+            let tied = later.is_tied();
+            let other_order = earlier.acks.last() != later.acks.last();
+            for (row, met) in [
+                ("P on the acks of an earlier P", true),
+                ("P on the acks of an earlier P, tied", tied),
+                (
+                    "P on the acks of an earlier P, tied, with another ack at hand",
+                    tied && other_order,
+                ),
+                (
+                    "P on the acks of an earlier P, tied, in a run with bad seats",
+                    tied && bad,
+                ),
+            ] {
+                self.add(row, met as u64);
+            }
         }
     }
 

@@ -1,5 +1,6 @@
-//! Demand 3 on a recorded run: agreement, the slate, and equal counts.
+//! Demand 3 on a recorded run: agreement, the slate, and equal counts; and beside it that P are alike.
 
+use super::alike;
 use super::printed::{Closing, Reply};
 use super::record::{key_of, Call, Event, Key, Record};
 use super::slate::Slate;
@@ -13,6 +14,8 @@ pub enum Check {
     Agreement,
     Slate,
     EqualCounts,
+    /// Not of demand 3, but of document 02.
+    Alike,
 }
 
 pub struct Failure {
@@ -20,13 +23,14 @@ pub struct Failure {
     pub what: String,
 }
 
-/// Every failure in the order of the run; none if the run is as demand 3 says.
+/// Every failure in the order of the run; none if the run is as demand 3 and `alike` say.
 pub fn failures(record: &Record) -> Vec<Failure> {
     let of = |check, faults: Vec<String>| faults.into_iter().map(move |what| Failure { check, what });
     let mut all: Vec<Failure> = of(Check::Text, record.faults.clone()).collect();
     all.extend(of(Check::Agreement, agreement(record)));
     all.extend(of(Check::Slate, slates(record)));
     all.extend(of(Check::EqualCounts, equal_counts(record)));
+    all.extend(of(Check::Alike, alike::faults(record)));
     all
 }
 

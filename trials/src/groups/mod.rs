@@ -1,6 +1,7 @@
 //! Whole groups of seats, some of them bad: each honest seat is the real `daybook`, and demand 3 is checked on what it
-//! prints.
+//! prints, and that tied slips are put forward alike.
 
+pub mod alike;
 pub mod breach;
 pub mod council;
 pub mod coverage;

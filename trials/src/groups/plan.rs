@@ -1,6 +1,7 @@
 //! What a run is made of: the group, its opening page, its bad seats, and how much happens.
 
 use super::breach::Breach;
+use super::lies::Lie;
 use crate::dice::Dice;
 use reference::book::OpeningPage;
 
@@ -61,6 +62,8 @@ impl Plan {
             Breach::BadSeats { n, f, bad } => (n, f, bad),
             // Without conflicting acks nothing is put forward, which keeps an early ruling early.
             Breach::EarlyRuling => (6, 1, 0),
+            // All acks are needed, so that seats put forward on equal ones, and halves are tied.
+            Breach::Told(Lie::LastOfTied | Lie::TiedAtHand) => *dice.pick(&[(2, 0, 0), (4, 0, 0), (6, 0, 0)]),
             _ => *dice.pick(&[(6, 1, 1), (8, 1, 1), (11, 2, 2)]),
         };
         let mut pages = vec![page(n, f, dice.within(1, 3), dice); n];

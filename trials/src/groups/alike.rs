@@ -1,0 +1,71 @@
+//! Request 2 of document 02 on a recorded run: what two seats, or one, put forward on equal acks is equal.
+
+use super::printed::Reply;
+use super::record::Record;
+use crate::ties::{self, Ack, Arrivals};
+use reference::book::{Message, Slip};
+use std::collections::hash_map::{Entry, HashMap};
+
+/// A reply P: the seat that gave it, the slip that it carries, and the recorded acks that it rests on, as they came,
+/// the ack at hand last.
+pub struct PutForward {
+    pub seat: usize,
+    pub slip: Slip,
+    pub acks: Vec<Ack>,
+}
+
+impl PutForward {
+    /// Whether another slip has as many acks.
+    pub fn is_tied(&self) -> bool {
+        ties::tied(&self.acks).len() > 1
+    }
+}
+
+/// Every P of the run. An ack is recorded if it was answered N or P.
+pub fn put_forwards(record: &Record) -> Vec<PutForward> {
+    let mut recorded: Vec<Arrivals> = record.pages.iter().map(|_| Arrivals::default()).collect();
+    let mut all = Vec::new();
+    for call in record.calls() {
+        let (sender, at_hand) = match (call.message, call.reply) {
+            (Message::Ack { seat, slip }, Reply::Noted | Reply::PutForward(_)) => (seat, slip),
+            _ => continue,
+        };
+        let acks = recorded[call.seat].record(sender, at_hand);
+        if let Some(slip) = call.put_forward() {
+            all.push(PutForward {
+                seat: call.seat,
+                slip,
+                acks: acks.to_vec(),
+            });
+        }
+    }
+    all
+}
+
+/// Each P that rests on the same acks, seat by seat, as an earlier one, and before it the first that does.
+pub fn pairs(all: &[PutForward]) -> Vec<[&PutForward; 2]> {
+    let mut first: HashMap<Vec<Ack>, &PutForward> = HashMap::new();
+    let mut pairs = Vec::new();
+    for one in all {
+        match first.entry(ties::by_seat(&one.acks)) {
+            Entry::Vacant(entry) => drop(entry.insert(one)),
+            Entry::Occupied(entry) => pairs.push([*entry.get(), one]),
+        }
+    }
+    pairs
+}
+
+/// The pairs whose slips differ.
+pub fn faults(record: &Record) -> Vec<String> {
+    let all = put_forwards(record);
+    let mut faults = Vec::new();
+    for [first, second] in pairs(&all) {
+        if first.slip != second.slip {
+            faults.push(format!(
+                "on the same acks seat {} put forward {}, seat {} put forward {}",
+                first.seat, first.slip, second.seat, second.slip
+            ));
+        }
+    }
+    faults
+}

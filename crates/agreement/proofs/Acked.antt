@@ -9,7 +9,7 @@ use Rattle.agreement.specs.Types.{Seat, Account, Transfer, Full, Entry, 
 use Rattle.agreement.specs.Runs.{Opens, honest, Call, message, waitingList, Event, Run, _▹_, Within, at-end, sooner, throughout, sameSeat, ledgerAt, Obeys, acked, passes}
 use Rattle.agreement.specs.Premises.{implies, ackedBy, genuine}
 use Rattle.agreement.proofs.Places.{before, Order, same-event, earlier, later, order, happened-later, throughout-at, obeys-before, obeys-at}
-use Rattle.agreement.proofs.Proposals.{happens}
+use Rattle.agreement.proofs.Proposals.{happens-in-run}
 use Rattle.agreement.proofs.Deeds.{acked-is, deed-found}
 use Rattle.model.proofs.Opened.{Group}
 use Rattle.agreement.proofs.Soundness.{opened-entry, group, Sound, no-acks, recorded-read}
@@ -81,7 +81,7 @@ module _ (o : Opening) (opens : Opens o) (run : Run) (obeys : Obeys o run) where
   not-yet p e t w is =
       let l = ledgerAt o (e .at) p in
       let ok = sound o opens (e .at) p (obeys-before o obeys (before w)) in
-      let answer = happens l (Circulated t) Acknowledge (rw (acked-is (e .call) t is) at (obeys-at o obeys w)) in
+      let answer = happens-in-run l (Circulated t) Acknowledge (rw (acked-is (e .call) t is) at (obeys-at o obeys w)) in
       let marks = answer-acknowledge o l _ (Circulated t) Acknowledge t (group o opens) ok refl refl answer in
       omega (arith, marks .eligible .is-next, ap bit (marks .was-clear))
 

@@ -9,7 +9,7 @@ use Rattle.agreement.specs.Types.{Seat, Account, Transfer, Opening, Ack,
 use Rattle.agreement.specs.Runs.{Opens, FewBad, message, Event, Run, start, _▹_, Within, at-end, sooner, ledgerAt, Obeys, accepted, proposed, ruled, passes}
 use Rattle.agreement.specs.Premises.{ruledOn, ruledOtherwise, likewise, proposals, founded, rightful, Premises}
 use Rattle.agreement.proofs.Places.{before, within-trans, Order, same-event, earlier, later, order, happened-holds, throughout-at, obeys-before, obeys-at}
-use Rattle.agreement.proofs.Proposals.{happens}
+use Rattle.agreement.proofs.Proposals.{happens-in-run}
 use Rattle.agreement.proofs.Deeds.{Accepts, by-ack, by-ruling, accepted-is, proposed-is, passes-is}
 use Rattle.agreement.proofs.Reachable.{sound}
 use Rattle.agreement.proofs.StepLaws.{answer-accept, answer-propose}
@@ -103,7 +103,7 @@ module _ (o : Opening) (bad : Seat → Bool) (run : Run) (opens : Opens o) (few 
   acks-quorum p e s t k w is =
       let l = ledgerAt o (e .at) p in
       let ok = sound o opens (e .at) p (obeys-before o obeys (before w)) in
-      let answer = happens l (Ack s t) (Accept k) (rw is at (obeys-at o obeys w)) in
+      let answer = happens-in-run l (Ack s t) (Accept k) (rw is at (obeys-at o obeys w)) in
       let found = answer-accept l _ (Ack s t) (Accept k) s t k refl refl answer in
       let from = call-from o bad opens run (kept .acks-genuine) obeys p e (Ack s t) (Accept k) s t w is refl (found .0) in
       accept-quorum o bad run opens l ok s t (found .0) from (found .1)
@@ -114,7 +114,7 @@ module _ (o : Opening) (bad : Seat → Bool) (run : Run) (opens : Opens o) (few 
       let l = ledgerAt o (d .at) q in
       let ok = sound o opens (d .at) q (obeys-before o obeys (before w)) in
       let call = proposed-is (d .call) u is in
-      let answer = happens l (call .0) (Propose u) (rw (call .1) at (obeys-at o obeys w)) in
+      let answer = happens-in-run l (call .0) (Propose u) (rw (call .1) at (obeys-at o obeys w)) in
       let found = answer-propose l _ (call .0) (Propose u) u refl answer in
       let from =
       call-from o bad opens run (kept .acks-genuine) obeys q d (call .0) (Propose u) (found .sender) (found .slip) w (call .1) (found .is-ack)

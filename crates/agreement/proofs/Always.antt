@@ -11,7 +11,7 @@ use Rattle.agreement.specs.Types.{Seat, Account, Transfer, Slot, Empty, 
 use Rattle.agreement.specs.Runs.{Opens, Call, message, waitingList, Event, Run, _▹_, Within, sameSeat, ledgerAt, Conforms, Obeys, isAccept, accepted, proposed, ruled, passes}
 use Rattle.agreement.specs.Facts.{answeredK, countOf, mustAccept, acceptedBy, taken, ruledFor, Always}
 use Rattle.agreement.proofs.Places.{before, happened-found, happened-holds, obeys-before, obeys-at, ledger-after}
-use Rattle.agreement.proofs.Proposals.{happens}
+use Rattle.agreement.proofs.Proposals.{happens-in-run}
 use Rattle.agreement.proofs.Deeds.{proposed-is, that-slip, deed-found}
 use Rattle.agreement.proofs.Soundness.{opened-entry, next-waits, group, Sound}
 use Rattle.agreement.proofs.Reachable.{sound, stays, everywhere, past-calls}
@@ -37,7 +37,7 @@ same-test false false forth back = refl
 
 -- a call accepts exactly if it must
 call-accepts : (l : Ledger) (c : Call) → Conforms l c → answeredK c ≡ mustAccept l c
-call-accepts l (message m r) h = answer-exactly l _ m r (happens l m r h)
+call-accepts l (message m r) h = answer-exactly l _ m r (happens-in-run l m r h)
 call-accepts l (waitingList b q a) h = refl
 
 -- a ruling that is not refused accepts its slip
@@ -105,7 +105,7 @@ module _ (o : Opening) (opens : Opens o) (s : Seat) where
       let l = ledgerAt o s q in
       let ok = sound o opens s q (obeys .0) in
       let call = proposed-is (d .call) u puts in
-      let answer = happens l (call .0) (Propose u) (rw (here, call .1) at (obeys .1)) in
+      let answer = happens-in-run l (call .0) (Propose u) (rw (here, call .1) at (obeys .1)) in
       let found = answer-propose l _ (call .0) (Propose u) u refl answer in
       let same = proposes-for o l (call .0) u (group o opens) ok found in
       none-eligible o l t (found .slip) (group o opens) ok (all-settled q (obeys .0) p e w there t is)
@@ -177,7 +177,7 @@ run-count : (o : Opening) (run p : Run) (e : Event) (m : Message) (r : Reply) �
 run-count o run p e m r opens obeys w is =
     let l = ledgerAt o (e .at) p in
     let ok = sound o opens (e .at) p (obeys-before o obeys (before w)) in
-    let h = happens l m r (rw is at (obeys-at o obeys w)) in
+    let h = happens-in-run l m r (rw is at (obeys-at o obeys w)) in
     rw (ledger-after o (e .at) p e m r refl is)
     (turn-count o l (step l m .next) m r ok (step-sound o l _ m r (group o opens) ok h) (turn o l _ m r (group o opens) ok h))
 

@@ -9,8 +9,7 @@ use Rattle.model.specs.Acks.{hasMost, mostAcked}
 use Rattle.model.specs.Calls.{step}
 use Rattle.model.proofs.Sums.{impossible}
 use Rattle.model.proofs.Proposals.{most-acked-most, same-acks}
-use Rattle.model.proofs.Steps.{Happens, refused, circulated, acknowledged, accepted-by-acks, proposed, noted, accepted-by-ruling, told, carries-most}
-use Rattle.model.proofs.Steps as Steps
+use Rattle.model.proofs.Steps.{Happens, refused, circulated, acknowledged, accepted-by-acks, proposed, noted, accepted-by-ruling, told, happens, carries-most}
 
 -- a reply that carries a slip is P
 carried : (r : Reply) (t : Transfer) → proposal r ≡ some t → r ≡ Propose t
@@ -48,12 +47,13 @@ module _ (l : Ledger) (m : Message) where
   another t u is most (accepted-by-ruling v e f fit same) = impossible (cc)
   another t u is most (told a e f same) = impossible (cc)
 
-  pub happens : (r : Reply) → MayReply l m r → Happens l m r (step l m .next)
-  happens r h = go (proposal (step l m .reply)) refl h
+  -- what is replied in a run is one of the cases of what happens
+  pub happens-in-run : (r : Reply) → MayReply l m r → Happens l m r (step l m .next)
+  happens-in-run r h = go (proposal (step l m .reply)) refl h
     where
       go : (o : Option Transfer) → proposal (step l m .reply) ≡ o → StandsFor (step l m .reply) o (acksWith l m) r → Happens l m r (step l m .next)
-      go none e is = rw is (Steps.happens l m)
-      go (some t) e (u, is, most) = rw is (another t u (carried (step l m .reply) t e) most (Steps.happens l m))
+      go none e is = rw is (happens l m)
+      go (some t) e (u, is, most) = rw is (another t u (carried (step l m .reply) t e) most (happens l m))
 
   -- a refusal is not free
   pub refused-today : (q : Refusal) → MayReply l m (Refuse q) → step l m .reply ≡ Refuse q

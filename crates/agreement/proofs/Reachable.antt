@@ -9,7 +9,7 @@ use mathlib.Core.List.{List}
 use Rattle.agreement.specs.Types.{Seat, Ledger, Opening, Message, Reply, ListReply}
 use Rattle.agreement.specs.Runs.{Opens, Call, message, waitingList, Event, Run, start, _▹_, Within, at-end, sooner, sameSeat, ledgerAt, Obeys}
 use Rattle.agreement.proofs.Places.{the-start, nothing-yet, last-or-sooner, seat-self, one-event, ledger-induction}
-use Rattle.agreement.proofs.Proposals.{happens}
+use Rattle.agreement.proofs.Proposals.{happens-in-run}
 use Rattle.agreement.proofs.Soundness.{group, Sound, opened-sound}
 use Rattle.agreement.proofs.StepLaws.{step-sound}
 use Rattle.model.specs.Records.{freshLedger}
@@ -23,7 +23,7 @@ sound o opens s =
     ledger-induction o s (λ r l. Sound o l)
     (λ r e l other ok. ok)
     (λ r b a q l ok. ok)
-    (λ r m q l is obeys h ok. step-sound o l (step l m .next) m q (group o opens) ok (happens l m q h))
+    (λ r m q l is obeys h ok. step-sound o l (step l m .next) m q (group o opens) ok (happens-in-run l m q h))
     (opened-sound o opens)
 
 module _ (o : Opening) (opens : Opens o) (s : Seat) where
@@ -37,7 +37,7 @@ module _ (o : Opening) (opens : Opens o) (s : Seat) where
       → (r : Run) → Obeys o r → P r (ledgerAt o s r)
   run-induction P opened elsewhere listed answered =
       ledger-induction o s P elsewhere listed
-      (λ r m q l is obeys h yet. answered r m q l (rw is (sound o opens s r obeys)) (happens l m q h) yet) opened
+      (λ r m q l is obeys h yet. answered r m q l (rw is (sound o opens s r obeys)) (happens-in-run l m q h) yet) opened
 
   -- P of the ledger, which messages keep: from a place to every later one
   module _ (P : Ledger → Type 0)
@@ -47,7 +47,7 @@ module _ (o : Opening) (opens : Opens o) (s : Seat) where
       stays obeys at-end old = old
       stays obeys (sooner {r = r} {e = e} w) old =
           one-event o s (λ r l. P l) (λ r e l other yet. yet) (λ r b a q l yet. yet)
-          (λ r m q l is here h yet. kept l m q (rw is (sound o opens s r here)) (happens l m q h) yet)
+          (λ r m q l is here h yet. kept l m q (rw is (sound o opens s r here)) (happens-in-run l m q h) yet)
           r e obeys (stays (obeys .0) w old)
 
       -- so at every place, if it is true of the opened ledger

@@ -5,7 +5,7 @@ use Rattle.agreement.specs.Types.{Seat, Account, Entry, Ledger, Opening,
 use Rattle.agreement.specs.Runs.{Opens, message, Event, Run, _▹_, Within, ledgerAt, Obeys, accepted}
 use Rattle.agreement.specs.Slates.{Slate, freshSlate, nextSlate, slateAt, join}
 use Rattle.agreement.proofs.Places.{before, obeys-before, obeys-at, seat-self}
-use Rattle.agreement.proofs.Proposals.{happens}
+use Rattle.agreement.proofs.Proposals.{happens-in-run}
 use Rattle.model.proofs.Opened.{Group}
 use Rattle.agreement.proofs.Soundness.{next-waits, opened-entry, group, Sound, bounded}
 use Rattle.agreement.proofs.Reachable.{run-induction}
@@ -55,5 +55,5 @@ pub told-slate : (o : Opening) (run p : Run) (e : Event) (a : Account) (b : ℕ)
     → Within (p ▹ e) run → e .call ≡ message (Inquiry a) (Balance b) → b ≡ slateAt o (e .at) p .balance a
 told-slate o run p e a b opens obeys w is =
     let l = ledgerAt o (e .at) p in
-    let answer = happens l (Inquiry a) (Balance b) (rw is at (obeys-at o obeys w)) in
+    let answer = happens-in-run l (Inquiry a) (Balance b) (rw is at (obeys-at o obeys w)) in
     answer-balance l _ (Inquiry a) (Balance b) a b refl refl answer ∙ slated o opens (e .at) p (obeys-before o obeys (before w)) .balance-is a

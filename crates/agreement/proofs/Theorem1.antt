@@ -15,7 +15,7 @@ use Rattle.agreement.specs.Premises.{Premises}
 use Rattle.agreement.specs.Facts.{acceptedBy}
 use Rattle.agreement.specs.Undisputed.{AllAcked, tooEarly, brings, AllReached, Theorem1}
 use Rattle.agreement.proofs.Places.{before, within-trans, happened-found, obeys-before, obeys-at, seat-is, ledger-after}
-use Rattle.agreement.proofs.Proposals.{happens, refused-today}
+use Rattle.agreement.proofs.Proposals.{happens-in-run, refused-today}
 use Rattle.agreement.proofs.Deeds.{acked-is, Accepts, by-ack, by-ruling, accepted-is, brings-is, deed-found}
 use Rattle.agreement.proofs.Soundness.{group, Sound, same-range}
 use Rattle.agreement.proofs.StepLaws.{Held, stays-held, now-held, BookedOrWaits, stays-settled, answer-acknowledge, AckRefused, unknown-seat, out-of-range, past-number, future-number, waits-already, repeated, conflicting, ack-refused}
@@ -130,7 +130,7 @@ module _ (o : Opening) (bad : Seat → Bool) (run : Run) (opens : Opens o) (few 
         let e = found .1 in
         let k = ledgerAt o (e .at) (found .0) in
         let ok = sound o opens (e .at) (found .0) (obeys-before o obeys (before (found .2))) in
-        let answer = happens k (Circulated t) Acknowledge (rw (acked-is (e .call) t (found .4)) at (obeys-at o obeys (found .2))) in
+        let answer = happens-in-run k (Circulated t) Acknowledge (rw (acked-is (e .call) t (found .4)) at (obeys-at o obeys (found .2))) in
         let fit = answer-acknowledge o k _ (Circulated t) Acknowledge t (group o opens) ok refl refl answer .eligible in
         (omega (arith, fit .is-next), λ l too. same-range o l k t too ok ∙ fit .in-range)
 
@@ -186,7 +186,7 @@ module _ (o : Opening) (bad : Seat → Bool) (run : Run) (opens : Opens o) (few 
         taken : (y : Reply) → MayReply l (Ack s t) y → isRefusal y ≡ false → Arrived s t (entryOf (step l (Ack s t) .next) (t .account))
         taken y h is =
             let ok = sound o opens z q (obeys-before o obeys (before w)) in
-            inl (now-held o l (step l (Ack s t) .next) (Ack s t) y (group o opens) ok s t refl is (happens l (Ack s t) y h))
+            inl (now-held o l (step l (Ack s t) .next) (Ack s t) y (group o opens) ok s t refl is (happens-in-run l (Ack s t) y h))
 
         go : (y : Reply) → r ≡ y → MayReply l (Ack s t) y → Arrived s t (entryOf (step l (Ack s t) .next) (t .account))
         go Circulate at h = taken Circulate h refl

@@ -27,15 +27,15 @@ eight = pageWith 8 1 (10 ∷ 3 ∷ [])
 abbrev w : Transfer
 w = slip 0 1 4 0
 
--- Acks of t from seats 0 to 2 and of u from seats 3 to 5 reach seat 1, those of t first, and seat 2, those of u first. Then w's ack from seat 6 does.
+-- Acks of t from seats 0 to 2, of u from 3 to 5 and of w from 6 reach seat 1, those of t first and w's last, and seat 2, those of u first and one of t last.
 abbrev tFirst : Run
 tFirst = start ▹ ack 1 0 t Note ▹ ack 1 1 t Note ▹ ack 1 2 t Note ▹ ack 1 3 u Note ▹ ack 1 4 u Note ▹ ack 1 5 u Note
 
 abbrev uFirst : Run → Run
-uFirst run = run ▹ ack 2 3 u Note ▹ ack 2 4 u Note ▹ ack 2 5 u Note ▹ ack 2 0 t Note ▹ ack 2 1 t Note ▹ ack 2 2 t Note
+uFirst run = run ▹ ack 2 3 u Note ▹ ack 2 4 u Note ▹ ack 2 5 u Note ▹ ack 2 6 w Note ▹ ack 2 1 t Note ▹ ack 2 2 t Note
 
 abbrev tied : Transfer → Run
-tied v = uFirst (tFirst ▹ ack 1 6 w (Propose t)) ▹ ack 2 6 w (Propose v)
+tied v = uFirst (tFirst ▹ ack 1 6 w (Propose t)) ▹ ack 2 0 t (Propose v)
 
 -- today both put t forward, whose lowest seat is 0
 pub tied-today : ObeysToday eight (tied t)
@@ -45,15 +45,18 @@ tied-today =
     then refl then refl then refl then refl then refl then refl then refl
     then refl then refl then refl then refl then refl then refl then refl
 
--- The ledgers of the two seats before w's ack.
+-- The ledgers of the two seats before the last ack, and that ack.
 abbrev one : Ledger
 one = ledgerAt eight (seatOf 1) tFirst
 
 abbrev other : Ledger
 other = ledgerAt eight (seatOf 2) (uFirst start)
 
-abbrev last : Message
-last = Ack (seatOf 6) w
+abbrev wLast : Message
+wLast = Ack (seatOf 6) w
+
+abbrev tLast : Message
+tLast = Ack (seatOf 0) t
 
 abbrev recorded : List AckSlot
 recorded = map (λ p. record { slot = p }) (Full t ∷ Full t ∷ Full t ∷ Full u ∷ Full u ∷ Full u ∷ Full w ∷ replicate 9 Empty)
@@ -79,11 +82,11 @@ tied-in-a-run = (
 )
 
 -- both are answered P, and with that ack they have the same acks: what is said of two such calls is said of these
-pub same-acks-tried : (step one last .reply ≡ Propose t) × (step other last .reply ≡ Propose t) × SameAcks one last other last
+pub same-acks-tried : (step one wLast .reply ≡ Propose t) × (step other tLast .reply ≡ Propose t) × SameAcks one wLast other tLast
 unfolding ledgerAt noAcks equal conflict hasMost mostAcked lowestAffordable apply settleAtMost settle step
 same-acks-tried =
-    let first : acksWith one last ≡ recorded = refl in
-    let second : acksWith other last ≡ recorded = refl in
+    let first : acksWith one wLast ≡ recorded = refl in
+    let second : acksWith other tLast ≡ recorded = refl in
     (refl, refl, λ s. ap (λ (acks : List AckSlot). ackAt acks (s .0)) (first ∙ sym second))
 
 -- Where the acks differ, so may the slips: at one seat three acks of t and two of u, at another the other way round.

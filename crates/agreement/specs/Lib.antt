@@ -1,4 +1,4 @@
--- Demand 3 as a statement, in reading order. `Claims.Demand3` is the whole of it.
+-- Demand 3 as a statement, in reading order. `Claims.Demand3` is the whole of it; beside it Facts, Undisputed, and Proposals: request 2 of document 02.
 pub mod Types
 pub mod Runs
 pub mod Premises

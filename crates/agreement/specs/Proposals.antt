@@ -12,7 +12,7 @@ TodayConforms = (l : Ledger) (c : Call) → AnsweredToday l c → Conforms l c
 abbrev pub TodayObeys : Type 0
 TodayObeys = (o : Opening) (run : Run) → ObeysToday o run → Obeys o run
 
--- the two ledgers, with the ack at hand recorded, have the same ack of each seat
+-- the two ledgers, with the ack at hand recorded, have the same acks for the number: the same ack of each seat
 abbrev pub SameAcks : Ledger → Message → Ledger → Message → Type 0
 SameAcks l m k q = (s : Seat) → ackAt (acksWith l m) (s .0) ≡ ackAt (acksWith k q) (s .0)
 

@@ -101,16 +101,17 @@ acksWith l (Ack s t) = withAck (entryOf l (t .account)) s t .acks
 acksWith l (Decision t) = entryOf l (t .account) .acks
 acksWith l (Inquiry a) = entryOf l a .acks
 
--- What a message may be replied in a run: what the definitions say, save that a P may carry any of the slips with the most acks, since seats take request 2
--- of document 02, which says which of them, on different days.
+-- a reply that may stand for the one that is due, given the slip that this carries, if any, and the acks
 abbrev pub StandsFor : Reply → Option Transfer → List AckSlot → Reply → Type 0
 StandsFor due none acks r = r ≡ due
 StandsFor due (some t) acks r = (u : Transfer) × (r ≡ Propose u) × (hasMost acks u ≡ true)
 
+-- What a message may be replied in a run: what the definitions say, save that a P may carry any of the slips with the most acks, since seats take request 2
+-- of document 02 on different days and until then put forward any of those.
 abbrev pub MayReply : Ledger → Message → Reply → Type 0
 MayReply l m r = StandsFor (step l m .reply) (proposal (step l m .reply)) (acksWith l m) r
 
--- a call is answered as a run allows: any reply that is left free is allowed
+-- a call is answered as a run allows
 abbrev pub Conforms : Ledger → Call → Type 0
 Conforms l (message m r) = MayReply l m r
 Conforms l (waitingList before r after) = Lists l before r after
@@ -120,14 +121,16 @@ abbrev pub AnsweredToday : Ledger → Call → Type 0
 AnsweredToday l (message m r) = r ≡ step l m .reply
 AnsweredToday l (waitingList before r after) = Lists l before r after
 
--- every call is answered in this way, by the ledger that its seat has there
+-- every call of a run is answered in a certain way, by the ledger that its seat has there
 abbrev pub EachCall : (Ledger → Call → Type 0) → Opening → Run → Type 0
 EachCall Right o start = Unit {0}
 EachCall Right o (r ▹ e) = EachCall Right o r × Right (ledgerAt o (e .at) r) (e .call)
 
+-- .. as a run allows
 abbrev pub Obeys : Opening → Run → Type 0
 Obeys o r = EachCall Conforms o r
 
+-- .. by today's definitions
 abbrev pub ObeysToday : Opening → Run → Type 0
 ObeysToday o r = EachCall AnsweredToday o r
 

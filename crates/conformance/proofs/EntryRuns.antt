@@ -1,7 +1,7 @@
 -- A run at one seat that goes on with the entries of a bundle, and the lines of these entries: each gives the other.
 use Prim.Native.Nat.{ℕ, zero, suc, _+_, _≤_, _<_}
 use native.Mathlib.Omega.{arith}
-use mathlib.Core.Path.{_≡_, refl, sym}
+use mathlib.Core.Path.{_≡_, refl}
 use mathlib.Core.List.{List, [], _∷_, _++_, append-assoc}
 use mathlib.Core.Option.{some}
 use Rattle.model.specs.Calls.{step}
@@ -10,7 +10,7 @@ use Rattle.agreement.specs.Types.{Seat, Opening, Message}
 use Rattle.agreement.specs.Runs.{Run, _▹_, Within, at-end, ledgerAt, AnsweredToday, ObeysToday}
 use Rattle.agreement.proofs.Places.{before, calls-before, ledger-after}
 use Rattle.text.specs.Lines.{replyLine}
-use Rattle.replay.specs.Text.{ledgerFrom, closing, linesFrom}
+use Rattle.replay.specs.Text.{ledgerFrom, linesFrom}
 use Rattle.conformance.specs.Texts.{Exchange, eventOf, runFrom, AskedFrom, replyLines}
 
 -- the first of these lines, and what stands behind it
@@ -33,10 +33,6 @@ module _ (s : Seat) where
   call-within run early late x = rw (from-append run early (x ∷ late)) (from-within (runFrom s run early ▹ eventOf s x) late)
 
 module _ (bytes : List ℕ) (o : Opening) (s : Seat) where
-  -- what is told from entry i on of a run that goes on with these exchanges
-  abbrev textFrom : ℕ → Run → List Exchange → List ℕ
-  textFrom i run xs = replyLines i xs ++ closing (ledgerAt o s (runFrom s run xs))
-
   -- a run that goes on with the `left` entries from i on
   abbrev GoesOn : ℕ → ℕ → Run → Type 0
   GoesOn left i run = (xs : List Exchange) × AskedFrom bytes left i xs × ObeysToday o (runFrom s run xs)
@@ -51,17 +47,16 @@ module _ (bytes : List ℕ) (o : Opening) (s : Seat) where
       let rest = goes-on left (suc i) (run ▹ eventOf s x) (λ j from to. asks j (omega arith) (omega arith)) (obeys, refl) in
       (x ∷ rest .0, (this .1, rest .1), rest .2)
 
-  -- and the lines of these entries are its text
+  -- and the lines of these entries are those of its replies
   pub told-lines : (left i : ℕ) (run : Run) (xs : List Exchange) → AskedFrom bytes left i xs → ObeysToday o (runFrom s run xs)
-      → linesFrom bytes left i (ledgerAt o s run) ≡ textFrom i run xs
+      → linesFrom bytes left i (ledgerAt o s run) ≡ replyLines i xs
   told-lines zero i run [] asked obeys = refl
   told-lines zero i run (x ∷ xs) asked obeys = absurd asked
   told-lines (suc left) i run [] asked obeys = absurd asked
   told-lines (suc left) i run (x ∷ xs) asked obeys =
       let left-ledger = ledger-after o s run (eventOf s x) (x .asked) (x .reply) refl refl in
       let reply = calls-before AnsweredToday o obeys (from-within s (run ▹ eventOf s x) xs) .1 in
-      let ends = closing (ledgerAt o s (runFrom s (run ▹ eventOf s x) xs)) in
-      rw (asked .0, ← reply, ← left-ledger, told-lines left (suc i) (run ▹ eventOf s x) xs (asked .1) obeys) (sym (first-line i x xs ends))
+      rw (asked .0, ← reply, ← left-ledger, told-lines left (suc i) (run ▹ eventOf s x) xs (asked .1) obeys)
 
   -- the run's last ledger is the one that these entries leave
   pub ledger-left : (left i : ℕ) (run : Run) (xs : List Exchange) → AskedFrom bytes left i xs

@@ -5,26 +5,30 @@ use mathlib.Core.Bool.{Bool, true, false, cond}
 use mathlib.Core.List.{List}
 use lib.ListN.{replicate, length-replicate}
 use Rattle.agreement.specs.Types.{Seat, Ledger, Opening, Opened}
-use Rattle.agreement.specs.Runs.{Call, message, waitingList, Event, Run, start, _▹_, sameSeat, nextLedger, ledgerAt, AnsweredToday, ObeysToday}
+use Rattle.agreement.specs.Runs.{Call, message, waitingList, Event, Run, start, _▹_, sameSeat, nextLedger, ledgerAt, Conforms, Obeys}
 use Rattle.agreement.proofs.Places.{seat-is, seat-self}
-use Rattle.agreement.proofs.Proposals.{today-obeys}
+use Rattle.agreement.proofs.Proposals.{refused-today, today-conforms}
 use Rattle.agreement.proofs.Demand3.{demand3}
 use Rattle.agreement.proofs.Always.{always}
-use Rattle.model.specs.Replies.{letterOf, valuesOf}
 use Rattle.model.proofs.Sums.{impossible}
 use Rattle.model.proofs.Refusing.{refusal-keeps}
 use Rattle.model.proofs.Opened.{opened-fresh}
 use Rattle.layout.specs.Layout.{bookWords, ledgerIn}
 use Rattle.ledger.proofs.Promising.{opened, listed}
-use Rattle.conformance.specs.Operations.{Operated, OperatedToday, Called, Works, WorksObeys, ObeysWorks, WorksDemand3, WorksFacts}
+use Rattle.conformance.specs.Operations.{ContractServes, Operated, OperatedConforms, Called, Works, WorksObeys, ObeysWorks, WorksDemand3, WorksFacts}
 use Rattle.layout.specs.Words.{wordsOf}
 use Rattle.layout.proofs.Words.{words-are}
 use Rattle.conformance.proofs.Reached.{reached-told}
 
--- an operation is a call that is answered by today's definitions, and leaves the run's next ledger
-pub operated-today : OperatedToday
-operated-today words (message m r) next done = (done .reply, done .ledger)
-operated-today words (waitingList before r after) next done = (done .0 .meets, ap ledgerIn (done .1))
+-- an operation that keeps its contract answers as a run allows
+pub contract-serves : ContractServes
+contract-serves words m r next done =
+    (record { replied = today-conforms (ledgerIn words) (message m r) (done .reply); ledger = done .ledger; kept = done .kept }, done .reply)
+
+-- an operation is a call that conforms, and leaves the run's next ledger
+pub operated-conforms : OperatedConforms
+operated-conforms words (message m r) next done = (done .replied, done .ledger)
+operated-conforms words (waitingList before r after) next done = (done .0 .meets, ap ledgerIn (done .1))
 
 -- what a seat holds after a call, if what all held before it were the run's ledgers
 held-after : (o : Opening) (run : Run) (e : Event) (before held : Seat → List ℕ)
@@ -35,7 +39,7 @@ held-after o run e before held yet call s = go (sameSeat (e .at) s) refl
     go : (b : Bool) → sameSeat (e .at) s ≡ b → ledgerIn (held s) ≡ cond b (nextLedger (ledgerAt o s run) (e .call)) (ledgerAt o s run)
     go true here =
         let seat = seat-is (e .at) s here in
-        let done = operated-today (before (e .at)) (e .call) (held (e .at)) (call .operated) in
+        let done = operated-conforms (before (e .at)) (e .call) (held (e .at)) (call .operated) in
         rw (← seat) (done .1 ∙ ap (λ (l : Ledger). nextLedger l (e .call)) (yet (e .at)))
     go false there = ap ledgerIn (call .others s there) ∙ yet s
 
@@ -49,32 +53,30 @@ works-obeys o held start first =
 works-obeys o held (run ▹ e) (before, works, call) =
     let yet = works-obeys o before run works in
     record {
-      obeys = (yet .obeys, rw (yet .ledgers (e .at)) at (operated-today (before (e .at)) (e .call) (held (e .at)) (call .operated) .0));
+      obeys = (yet .obeys, rw (yet .ledgers (e .at)) at (operated-conforms (before (e .at)) (e .call) (held (e .at)) (call .operated) .0));
       ledgers = held-after o run e before held (yet .ledgers) call;
     }
 
--- A call that is answered so is an operation on the words of its ledger, where those of both ledgers are these. A refusal leaves the ledger, and so
+-- A call that conforms is an operation on the words of its ledger, where those of both ledgers are these. A refusal leaves the ledger, and so
 -- its words.
-today-operated : (l : Ledger) (c : Call) → ledgerIn (wordsOf l) ≡ l → ledgerIn (wordsOf (nextLedger l c)) ≡ nextLedger l c
-    → AnsweredToday l c → Operated (wordsOf l) c (wordsOf (nextLedger l c))
-today-operated l (message m r) before after ok =
+conforms-operated : (l : Ledger) (c : Call) → ledgerIn (wordsOf l) ≡ l → ledgerIn (wordsOf (nextLedger l c)) ≡ nextLedger l c
+    → Conforms l c → Operated (wordsOf l) c (wordsOf (nextLedger l c))
+conforms-operated l (message m r) before after ok =
     record {
-      reply = rw before ok;
-      letter = rw before (ap letterOf ok);
-      values = rw before (ap valuesOf ok);
+      replied = rw before ok;
       ledger = rw before after;
-      kept = λ code is. ap wordsOf (refusal-keeps l m code (sym ok ∙ is));
+      kept = λ code is. ap wordsOf (refusal-keeps l m code (refused-today l m code (rw is at ok)));
     }
-today-operated l (waitingList buffer r left) before after ok = (rw before (listed l buffer r left ok), refl)
+conforms-operated l (waitingList buffer r left) before after ok = (rw before (listed l buffer r left ok), refl)
 
 pub obeys-works : ObeysWorks
 unfolding ledgerAt
 obeys-works o run opens obeys = (λ s. wordsOf (ledgerAt o s run), go run obeys)
   where
-    are : (run : Run) → ObeysToday o run → (s : Seat) → ledgerIn (wordsOf (ledgerAt o s run)) ≡ ledgerAt o s run
-    are run obeys s = words-are (ledgerAt o s run) (reached-told o opens s run (today-obeys o run obeys))
+    are : (run : Run) → Obeys o run → (s : Seat) → ledgerIn (wordsOf (ledgerAt o s run)) ≡ ledgerAt o s run
+    are run obeys s = words-are (ledgerAt o s run) (reached-told o opens s run obeys)
 
-    go : (run : Run) → ObeysToday o run → Works o (λ s. wordsOf (ledgerAt o s run)) run
+    go : (run : Run) → Obeys o run → Works o (λ s. wordsOf (ledgerAt o s run)) run
     go start obeys = λ s.
         let zeros = replicate {A = ℕ} bookWords 0 in
         let fresh = are start tt s ∙ sym (opened-fresh o (opens .not-refused) (ledgerIn zeros)) in (
@@ -89,14 +91,14 @@ obeys-works o run opens obeys = (λ s. wordsOf (ledgerAt o s run), go run obeys)
       record {
         operated =
             rw (seat-self (e .at))
-            (today-operated (ledgerAt o (e .at) run) (e .call) (are run (obeys .0) (e .at))
+            (conforms-operated (ledgerAt o (e .at) run) (e .call) (are run (obeys .0) (e .at))
             (rw (seat-self (e .at)) at (are (run ▹ e) obeys (e .at))) (obeys .1));
         others = λ z there. rw there;
       },
     )
 
 pub works-demand3 : WorksDemand3
-works-demand3 o bad held run opens few fair works kept = demand3 o bad run opens few fair (today-obeys o run (works-obeys o held run works .obeys)) kept
+works-demand3 o bad held run opens few fair works kept = demand3 o bad run opens few fair (works-obeys o held run works .obeys) kept
 
 pub works-facts : WorksFacts
-works-facts o held run opens works = always o run opens (today-obeys o run (works-obeys o held run works .obeys))
+works-facts o held run opens works = always o run opens (works-obeys o held run works .obeys)

@@ -28,8 +28,10 @@ each-asks bytes m right (suc j) from to = all-ask bytes m right j (omega (arith,
 pub every-run : EveryRun
 unfolding ledgerAt
 every-run bytes m s xs right opens run =
-    rw (right, opens, sound-count bytes m right .0)
-    (told-lines bytes (openingPage bytes) s (entryCount bytes - 1) 1 start xs (run .asked) (run .obeys))
+    let page = openingPage bytes in
+    let lines = told-lines bytes page s (entryCount bytes - 1) 1 start xs (run .asked) (run .obeys) in
+    let left = ledger-left bytes page s (entryCount bytes - 1) 1 start xs (run .asked) in
+    rw (right, opens, sound-count bytes m right .0, lines, left)
 
 pub every-text : EveryText
 every-text bytes m s right opens =

@@ -19,7 +19,7 @@ use Rattle.agreement.specs.Runs.{start, _▹_, ledgerAt, ObeysToday}
 use Rattle.agreement.specs.Slates.{leaveAtMost, leaveAll, slateAt}
 use Rattle.agreement.specs.Facts.{countOf}
 use Rattle.agreement.proofs.Proposals.{today-obeys}
-use Rattle.agreement.proofs.Examples.{page, t, asked, acks, ack, _then_, witness, witness-today, witness-keeps}
+use Rattle.agreement.proofs.Examples.{page, t, asked, acks, ack, _then_, witness, witness-obeys, witness-keeps}
 use Rattle.agreement.proofs.FactsTried.{_is_}
 use Rattle.text.specs.Lines.{decimal}
 use Rattle.replay.specs.Text.{Row, rowLines, openingPage, opened}
@@ -32,7 +32,7 @@ use Rattle.conformance.proofs.Texts.{every-text, every-run}
 
 -- a group at work makes the run that demand 3 is tried on
 pub witness-works : (held : Seat → List ℕ) × Works page held witness
-witness-works = obeys-works page witness (witness-keeps .0) witness-today
+witness-works = obeys-works page witness (witness-keeps .0) witness-obeys
 
 -- "slip (0, 1, 4, 1), acks of it from seats 0 to 4, question 1", with the replies of the nine lines
 infixl 70 _gets_

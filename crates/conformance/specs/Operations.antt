@@ -5,25 +5,39 @@ use mathlib.Core.Path.{_≡_}
 use mathlib.Core.Bool.{Bool, true, false}
 use mathlib.Core.List.{List}
 use lib.ListN.{length}
-use Rattle.agreement.specs.Types.{Seat, Opening, Opened}
-use Rattle.agreement.specs.Runs.{Opens, FewBad, Call, message, waitingList, Event, Run, start, _▹_, atHonest, sameSeat, nextLedger, ledgerAt, AnsweredToday, ObeysToday}
+use Rattle.agreement.specs.Types.{Seat, Opening, Refusal, Message, Reply, Refuse, Opened}
+use Rattle.agreement.specs.Runs.{Opens, FewBad, Call, message, waitingList, Event, Run, start, _▹_, atHonest, sameSeat, nextLedger, ledgerAt, MayReply, Conforms, AnsweredToday, Obeys}
 use Rattle.agreement.specs.Premises.{Premises}
 use Rattle.agreement.specs.Claims.{Claim}
 use Rattle.agreement.specs.Facts.{Facts}
+use Rattle.model.specs.Calls.{step}
 use Rattle.layout.specs.Layout.{bookWords, ledgerIn}
 use Rattle.ledger.specs.Promises.{Answered, OpenedAs, ListedAs}
 
--- A call as an operation makes it that keeps its contract: the words that it is lent, with what it was asked and replied, and the words after it.
--- The waiting list is lent the words to read: they stay.
+-- A message as an operation answers it in a run, on the words that it is lent: what a run allows, P with any of the tied slips among it, since a seat may not
+-- have taken request 2 yet; the ledger after it; and a refusal leaves each word.
+pub record Served (words : List ℕ) (m : Message) (r : Reply) (next : List ℕ) : Type 0 where
+  pub replied : MayReply (ledgerIn words) m r
+  pub ledger : ledgerIn next ≡ step (ledgerIn words) m .next
+  pub kept : (code : Refusal) → r ≡ Refuse code → next ≡ words
+
+-- An operation that keeps today's contract is one of these, and is answered by today's definitions.
+abbrev pub ContractServes : Type 0
+ContractServes =
+    (words : List ℕ) (m : Message) (r : Reply) (next : List ℕ)
+    → Answered words m r next → Served words m r next × AnsweredToday (ledgerIn words) (message m r)
+
+-- A call as an operation makes it: the words that it is lent, with what it was asked and replied, and the words after it. The waiting list is lent the words
+-- to read: they stay.
 abbrev pub Operated : List ℕ → Call → List ℕ → Type 0
-Operated words (message m r) next = Answered words m r next
+Operated words (message m r) next = Served words m r next
 Operated words (waitingList before r after) next = ListedAs (ledgerIn words) before r after × (next ≡ words)
 
--- It is answered by today's definitions, and the ledger after it is the run's.
-abbrev pub OperatedToday : Type 0
-OperatedToday =
+-- It conforms in a run, and the ledger after it is the run's.
+abbrev pub OperatedConforms : Type 0
+OperatedConforms =
     (words : List ℕ) (c : Call) (next : List ℕ)
-    → Operated words c next → AnsweredToday (ledgerIn words) c × (ledgerIn next ≡ nextLedger (ledgerIn words) c)
+    → Operated words c next → Conforms (ledgerIn words) c × (ledgerIn next ≡ nextLedger (ledgerIn words) c)
 
 -- "each holds a book just opened from that page": what an opening left that was not refused, whatever a book's words were before it. It is said
 -- of every seat; of one that makes no call nothing depends on what it holds.
@@ -41,18 +55,17 @@ abbrev pub Works : Opening → (Seat → List ℕ) → Run → Type 0
 Works o held start = OpenedAll o held
 Works o held (run ▹ e) = (before : Seat → List ℕ) × Works o before run × Called before e held
 
--- Such a run obeys today's definitions, and what the seats hold are the run's ledgers.
+-- Such a run obeys the definitions, and what the seats hold are the run's ledgers.
 pub record ObeysAndHolds (o : Opening) (held : Seat → List ℕ) (run : Run) : Type 0 where
-  pub obeys : ObeysToday o run
+  pub obeys : Obeys o run
   pub ledgers : (s : Seat) → ledgerIn (held s) ≡ ledgerAt o s run
 
 abbrev pub WorksObeys : Type 0
 WorksObeys = (o : Opening) (held : Seat → List ℕ) (run : Run) → Works o held run → ObeysAndHolds o held run
 
--- And every run that obeys them is one that operations which keep these contracts could make, on some words. Words are plain numbers here, also such
--- as no 32 bits could hold.
+-- And every run that obeys is one that such operations could make, on some words. Words are plain numbers here, also such as no 32 bits could hold.
 abbrev pub ObeysWorks : Type 0
-ObeysWorks = (o : Opening) (run : Run) → Opens o → ObeysToday o run → (held : Seat → List ℕ) × Works o held run
+ObeysWorks = (o : Opening) (run : Run) → Opens o → Obeys o run → (held : Seat → List ℕ) × Works o held run
 
 -- So demand 3, under its premises, and what holds of every run, hold of what groups at work do.
 abbrev pub WorksDemand3 : Type 0

@@ -91,6 +91,7 @@ module _ (acks : List AckSlot) where
       let passes : test s ≡ true = rw is most in
       impossible (cc)
 
+  -- where an ack is recorded, it is the first of those with the most
   pub first-of-most : (s : ℕ) (u : Transfer) → ackAt acks s ≡ Full u → FirstOfMost acks (mostAcked acks)
   unfolding mostAcked
   first-of-most s u is = go (firstWhere test (length acks) 0) refl

@@ -13,7 +13,7 @@ use Rattle.model.specs.Records.{freshLedger, noLedger, withAck, withProp
 use Rattle.model.specs.Refusals.{Rule, firstRefusal, pastNumber, futureNumber, rulesOf, listRules}
 use Rattle.model.specs.Openings.{openRules, openReplyBy, openReply, openLedgerBy, openLedger}
 use Rattle.model.specs.Acks.{acksFor, acksRecorded, enough, mustPropose, mostAcked}
-use Rattle.model.specs.Calls.{payerOf, replies, waits, tallied, effect, unlessRefused, finished, step, Lists, ListsUnlessRefused}
+use Rattle.model.specs.Calls.{payerOf, Effect, replies, waits, tallied, effect, unlessRefused, finished, step, Lists, ListsUnlessRefused}
 use Rattle.model.proofs.Sums.{impossible}
 use Rattle.model.proofs.Access.{with-entry-read}
 
@@ -54,18 +54,22 @@ next-number e t past future =
 abbrev NeverRefuses : Reply → Type 0
 NeverRefuses q = (r : Refusal) → q ≡ Refuse r → ⊥
 
-tallied-never : (l : Ledger) (a : Account) (e : Entry) (t : Transfer) → NeverRefuses (finished l a (tallied l e t) .reply)
-tallied-never l a e t =
+-- what is true of K, of P and of N is true of what the tally decides
+pub by-tally : (P : Effect → Type 0) (l : Ledger) (e : Entry) (t : Transfer)
+    → P (waits e t) → P (replies (Propose (mostAcked (e .acks))) (withProposed e)) → P (replies Note e) → P (tallied l e t)
+by-tally P l e t accepts proposes notes =
     go (enough (l .seats) (l .faults) (acksFor t (e .acks))) (mustPropose (l .seats) (l .faults) (acksRecorded (e .acks)) e)
   where
-    go : (full conflicting : Bool)
-        → NeverRefuses
-        (finished l a
-        (cond full (waits e t)
-        (cond conflicting (replies (Propose (mostAcked (e .acks))) (withProposed e)) (replies Note e))) .reply)
-    go true c r h = impossible (cc)
-    go false true r h = impossible (cc)
-    go false false r h = impossible (cc)
+    go : (full split : Bool)
+        → P (cond full (waits e t) (cond split (replies (Propose (mostAcked (e .acks))) (withProposed e)) (replies Note e)))
+    go true split = accepts
+    go false true = proposes
+    go false false = notes
+
+tallied-never : (l : Ledger) (a : Account) (e : Entry) (t : Transfer) → NeverRefuses (finished l a (tallied l e t) .reply)
+tallied-never l a e t =
+    by-tally (λ x. NeverRefuses (finished l a x .reply)) l e t
+    (λ r h. impossible (cc)) (λ r h. impossible (cc)) (λ r h. impossible (cc))
 
 effect-never : (l : Ledger) (a : Account) (e : Entry) (m : Message) → NeverRefuses (finished l a (effect l e m) .reply)
 effect-never l a e (Request t) r h = impossible (cc)

@@ -3,7 +3,7 @@
 use Prim.Native.Nat.{_+_, _<_}
 use native.Mathlib.Omega.{arith}
 use mathlib.Core.Path.{_≡_, refl}
-use mathlib.Core.Bool.{Bool, true, false, cond, _||_}
+use mathlib.Core.Bool.{Bool, true, false, _||_}
 use mathlib.Core.List.{List}
 use mathlib.Core.Option.{Option, none, some}
 use lib.Dec.{eqb, ltb}
@@ -13,11 +13,11 @@ use Rattle.model.specs.Records.{entryOf, setEntry, withEntry, withEntrie
 use Rattle.model.specs.Refusals.{firstRefusal, waitsAlready, ackFrom, outOfRange, unknownAccount}
 use Rattle.model.specs.Acks.{holds, conflicts, acksFor, acksRecorded, enough, mustPropose, hasMost, mostAcked}
 use Rattle.model.specs.Settling.{Settled, settle}
-use Rattle.model.specs.Calls.{replies, waits, tallied, finished, step}
+use Rattle.model.specs.Calls.{tallied, finished, step}
 use Rattle.model.proofs.Sums.{impossible, neither}
 use Rattle.model.proofs.Proposals.{most-acked-most}
 use Rattle.model.proofs.Access.{SameGroup, with-entries, with-entry-read}
-use Rattle.model.proofs.Refusing.{AllFail, none-holds, next-number, rulesIn, effectIn, refuses, not-refused}
+use Rattle.model.proofs.Refusing.{AllFail, none-holds, next-number, rulesIn, effectIn, by-tally, refuses, not-refused}
 
 -- what a slip is that 5 to 8 do not refuse
 pub record Eligible (l : Ledger) (t : Transfer) : Type 0 where
@@ -163,21 +163,12 @@ CarriesMost l m u = (s : Seat) × (t : Transfer) × (m ≡ Ack s t) × (u ≡ mo
 pub carries-most : (l : Ledger) (m : Message) (u : Transfer) → step l m .reply ≡ Propose u → CarriesMost l m u
 carries-most l m u h = go (firstRefusal (rulesIn l m)) refl
   where
-    tally : (s : Seat) (t : Transfer) (full split : Bool)
-        → finished l (t .account)
-        (cond full (waits (entryWithAck l s t) t)
-        (cond split (replies (Propose (mostAcked (entryWithAck l s t .acks))) (withProposed (entryWithAck l s t))) (replies Note (entryWithAck l s t)))) .reply
-        ≡ Propose u → CarriesMost l (Ack s t) u
-    tally s t true split h = impossible (cc)
-    tally s t false true h = (s, t, refl, cc)
-    tally s t false false h = impossible (cc)
-
     taken : (m : Message) → effectIn l m .reply ≡ Propose u → CarriesMost l m u
     taken (Request t) h = impossible (cc)
     taken (Circulated t) h = impossible (cc)
     taken (Ack s t) h =
-        let e = entryWithAck l s t in
-        tally s t (enough (l .seats) (l .faults) (acksFor t (e .acks))) (mustPropose (l .seats) (l .faults) (acksRecorded (e .acks)) e) h
+        by-tally (λ x. finished l (t .account) x .reply ≡ Propose u → CarriesMost l (Ack s t) u) l (entryWithAck l s t) t
+        (λ k. impossible (cc)) (λ p. (s, t, refl, cc)) (λ n. impossible (cc)) h
     taken (Decision t) h = impossible (cc)
     taken (Inquiry a) h = impossible (cc)
 

@@ -3,8 +3,8 @@
 use Prim.Native.Nat.{ℕ, suc, _+_, _*_, _-_, _≤_, _<_}
 use native.Mathlib.Numerals.{add-one}
 use native.Mathlib.Omega.{arith}
-use mathlib.Core.Path.{_≡_, refl, subst}
-use mathlib.Core.List.{List, [], _++_, append-assoc}
+use mathlib.Core.Path.{_≡_, refl, sym, subst, _∙_}
+use mathlib.Core.List.{List, [], _++_, append-assoc, append-nil}
 use mathlib.Core.Option.{Option, none, some}
 use lib.ListN.{length}
 use Rattle.model.specs.Types.{Ledger}
@@ -92,9 +92,8 @@ pub played-all : (bytes words before : List ℕ) {i : ℕ} {left after : List �
     → entryCount bytes ≤ i → PlayedAll bytes words left before after filled
 played-all bytes words before {i} {left} p over =
     let none-left : entryCount bytes - i ≡ 0 = omega arith in
+    let all : p .lines ≡ linesFrom bytes (entryCount bytes - 1) 1 (ledgerIn words) = sym (append-nil (p .lines)) ∙ (rw none-left at (p .goes-on)) in
     record {
-      lines = p .lines;
       ledger = rw none-left at (p .left);
-      right = rw none-left at (p .goes-on);
-      writes = within (omega (arith, p .few)) (p .writes);
+      writes = rw (← all) (within (omega (arith, p .few)) (p .writes));
     }

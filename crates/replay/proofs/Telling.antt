@@ -17,19 +17,19 @@ use Rattle.text.specs.Lines.{refusalLine}
 use Rattle.layout.specs.Layout.{ledgerIn}
 use Rattle.opening.specs.Promises.{Opens}
 use Rattle.replay.proofs.Sound.{fresh-words}
-use Rattle.replay.specs.Text.{closing, linesFrom, openingPage, checkedText, textOf}
+use Rattle.replay.specs.Text.{closing, playedText, openingPage, checkedText, textOf}
 use Rattle.replay.specs.Promises.{closingMost, textMost, Replayed, Wrote, PlayedAll}
 
 module _ (bytes : List ℕ) {before : List ℕ} where
   -- the entries' lines, and behind them the closing lines of the ledger that they leave
   pub wrote-lines : {words left mid after : List ℕ} {filled r : ℕ} → PlayedAll bytes words left before mid filled
-      → Writes mid filled (closing (ledgerIn left)) closingMost after r → Wrote (linesFrom bytes (entryCount bytes - 1) 1 (ledgerIn words)) before after r
-  wrote-lines played closes = rw (← played .right) (within (omega arith) (then (played .writes) closes))
+      → Writes mid filled (closing (ledgerIn left)) closingMost after r → Wrote (playedText bytes (entryCount bytes - 1) (ledgerIn words)) before after r
+  wrote-lines played closes = rw (← played .ledger) (within (omega arith) (then (played .writes) closes))
 
   module _ {after : List ℕ} {r : ℕ} where
     -- the answer of the opening page decides what follows
     pub wrote-opened : (words held : List ℕ) (a : OpenReply) → Opens words (openingPage bytes) a held → a ≡ Opened
-        → Wrote (linesFrom bytes (entryCount bytes - 1) 1 (ledgerIn held)) before after r
+        → Wrote (playedText bytes (entryCount bytes - 1) (ledgerIn held)) before after r
         → Wrote (checkedText bytes (Sound (entryCount bytes))) before after r
     wrote-opened words held a answer opens w =
         rw (← answer .reply, opens) (rw (fresh-words words held (openingPage bytes) a answer opens) at w)

@@ -7,7 +7,7 @@ use Rattle.model.specs.Bundles.{entryCount}
 use Rattle.basics.specs.Outputs.{Writes}
 use Rattle.layout.specs.Layout.{ledgerIn}
 use Rattle.bundle.specs.Promises.{longest}
-use Rattle.replay.specs.Text.{ledgerFrom, closing, linesFrom, textOf}
+use Rattle.replay.specs.Text.{ledgerFrom, linesFrom, textOf}
 
 -- How long a text can be. The longest line of an entry is that of P: the entry in 3 digits, the letter, account and recipient in 3 digits
 -- each, number and value in 10 each, their spaces and the end of the line: 36 bytes, for 999 entries. The line of an account has 27, for 32.
@@ -44,7 +44,5 @@ Wrote text before after r = Writes before 0 text textMost after r
 -- All entries from 1 on: their lines stand at the buffer's front, and the words are the ledger that is left, whose closing lines are still to
 -- come.
 pub record PlayedAll (bytes words left before after : List ℕ) (r : ℕ) : Type 0 where
-  pub lines : List ℕ
   pub ledger : ledgerIn left ≡ ledgerFrom bytes (entryCount bytes - 1) 1 (ledgerIn words)
-  pub right : lines ++ closing (ledgerIn left) ≡ linesFrom bytes (entryCount bytes - 1) 1 (ledgerIn words)
-  pub writes : Writes before 0 lines linesMost after r
+  pub writes : Writes before 0 (linesFrom bytes (entryCount bytes - 1) 1 (ledgerIn words)) linesMost after r

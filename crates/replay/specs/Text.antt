@@ -53,12 +53,16 @@ rowsOf l = tableFrom (λ a. rowOf (entryOf l (accountOf a))) (l .accounts) 0
 abbrev pub closing : Ledger → List ℕ
 closing l = rowLines 0 (rowsOf l)
 
--- the lines of the `left` entries from i on, then the closing lines
+-- the lines of the `left` entries from i on
 abbrev pub linesFrom : List ℕ → ℕ → ℕ → Ledger → List ℕ
-linesFrom bytes zero i l = closing l
+linesFrom bytes zero i l = []
 linesFrom bytes (suc left) i l =
     let asked = messageOf (pageAt bytes i) in
     entryLine i l asked ++ linesFrom bytes left (suc i) (ledgerAfter l asked)
+
+-- the lines of the `left` entries from 1 on, then the closing lines of the ledger that they leave
+abbrev pub playedText : List ℕ → ℕ → Ledger → List ℕ
+playedText bytes left l = linesFrom bytes left 1 l ++ closing (ledgerFrom bytes left 1 l)
 
 -- "page 0 is the opening page"
 abbrev pub openingPage : List ℕ → Opening
@@ -71,7 +75,7 @@ opened bytes = openReply (openingPage bytes)
 -- the text of an opening's answer. "`F code entry` for a bundle or opening that is refused (entry 0 for codes 1, 2, 3 ..)"
 abbrev pub openedText : List ℕ → ℕ → OpenReply → List ℕ
 openedText bytes m (OpenRefused r) = refusalLine (codeOf r) 0
-openedText bytes m Opened = linesFrom bytes (m - 1) 1 (freshLedger (openingPage bytes))
+openedText bytes m Opened = playedText bytes (m - 1) (freshLedger (openingPage bytes))
 
 -- the text of the check's answer: nothing is opened before the whole bundle is checked
 abbrev pub checkedText : List ℕ → BundleReply → List ℕ

@@ -30,7 +30,7 @@ ghost use Rattle.model.specs.Bundles.{entryCount};
 ghost use Rattle.basics.specs.Outputs.{Writes};
 ghost use Rattle.layout.specs.Layout.{bookWords, ledgerIn};
 ghost use Rattle.opening.specs.Promises.{Opens};
-ghost use Rattle.replay.specs.Text.{closing, linesFrom, openingPage, checkedText, textOf};
+ghost use Rattle.replay.specs.Text.{closing, playedText, openingPage, checkedText, textOf};
 ghost use Rattle.replay.specs.Lists.{ListedFrom, SoundList, ListOf};
 ghost use Rattle.replay.specs.Promises.{closingMost, Replayed, ReplayedInput, Wrote, PlayedAll};
 
@@ -86,7 +86,7 @@ fn put_closing(words: &[u32], out: &mut [u8], at: usize) -> usize
 // The text of a bundle whose opening page opened this book.
 fn replay_opened(bytes: &[u8], words: &mut [u32; BOOK_WORDS], out: &mut [u8]) -> usize
     requires { ⌜ entryCount (now bytes) ≤ 1_000 ⌝ }
-    ensures { λ r. ⌜ Wrote (linesFrom (now (bytes .entry)) (entryCount (now (bytes .entry)) - 1) 1 (ledgerIn (now (words .entry)))) (now (out .entry)) (now (out .exit)) r ⌝ }
+    ensures { λ r. ⌜ Wrote (playedText (now (bytes .entry)) (entryCount (now (bytes .entry)) - 1) (ledgerIn (now (words .entry)))) (now (out .entry)) (now (out .exit)) r ⌝ }
 {
     let filled = play(bytes, words, out);
     put_closing(words, out, filled)

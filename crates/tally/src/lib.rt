@@ -106,7 +106,7 @@ pub struct Leader {
     pub acks: u8,
 }
 
-// Of the leader and the transfer that a seat acked for the number of t, if any, the one with more acks; on a tie the leader.
+// Of the leader and the transfer that a seat acked for t's account, if any, told with t's number, the one with more acks; on a tie the leader.
 fn better(words: &[u32], best: Leader, t: Transfer, s: Seat) -> Leader
     requires { ⌜ length (now words) ≡ bookWords ⌝ }
     requires { ⌜ (t .account .0 < 32) × (s .0 < 16) ⌝ }
@@ -129,8 +129,8 @@ fn better(words: &[u32], best: Leader, t: Transfer, s: Seat) -> Leader
     }
 }
 
-// The most acked transfer of those that are recorded for the number of t: going through the seats from 0, the first of those with the most acks. Where
-// nothing is recorded its account, value and recipient are 0.
+// The most acked transfer of t's account, told with t's number: going through the seats from 0, the first of those with the most acks. Where nothing is
+// recorded its account, value and recipient are 0.
 pub fn most_acked(words: &[u32], t: Transfer) -> Transfer
     requires { ⌜ length (now words) ≡ bookWords ⌝ }
     requires { ⌜ t .account .0 < 32 ⌝ }

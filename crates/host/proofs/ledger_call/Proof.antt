@@ -24,7 +24,7 @@ returns : tie.Need-returns
 returns c = record { told = rw (sym (c .before .before .before .message-from .ensures) ∙ ap asks (c .before .enum-told .given .1)) (refl, refl) }
 
 returns-2 : tie.Need-returns-2
-returns-2 c = record { told = rw (sym (c .before .before .before .before .before .before .message-from .ensures) ∙ ap asks (c .before .before .before .before .asked .given .1)) (rw (← c .before .call .ensures .reply) (c .before .call .ensures, c .reply-words .ensures)) }
+returns-2 c = record { told = rw (sym (c .before .before .before .before .before .before .message-from .ensures) ∙ ap asks (c .before .before .before .before .asked .given .1)) (rw (← c .before .call .ensures .reply) (c .reply-words .ensures, c .before .call .ensures .ledger, c .before .call .ensures .kept)) }
 
 pub ledger-call-spec : {M : Type 1} → statement M
 ledger-call-spec =

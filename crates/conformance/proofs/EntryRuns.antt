@@ -1,7 +1,7 @@
 -- A run at one seat that goes on with the entries of a bundle, and the lines of these entries: each gives the other.
 use Prim.Native.Nat.{ℕ, zero, suc, _+_, _≤_, _<_}
 use native.Mathlib.Omega.{arith}
-use mathlib.Core.Path.{_≡_, refl}
+use mathlib.Core.Path.{_≡_, refl, ap, sym, _∙_}
 use mathlib.Core.List.{List, [], _∷_, _++_, append-assoc}
 use mathlib.Core.Option.{some}
 use Rattle.model.specs.Calls.{step}
@@ -10,7 +10,7 @@ use Rattle.agreement.specs.Types.{Seat, Opening, Message}
 use Rattle.agreement.specs.Runs.{Run, _▹_, Within, at-end, ledgerAt, AnsweredToday, ObeysToday}
 use Rattle.agreement.proofs.Places.{before, calls-before, ledger-after}
 use Rattle.text.specs.Lines.{replyLine}
-use Rattle.replay.specs.Text.{ledgerFrom, linesFrom}
+use Rattle.replay.specs.Text.{entryLine, ledgerAfter, ledgerFrom, linesFrom}
 use Rattle.conformance.specs.Texts.{Exchange, eventOf, runFrom, AskedFrom, replyLines}
 
 -- the first of these lines, and what stands behind it
@@ -56,7 +56,10 @@ module _ (bytes : List ℕ) (o : Opening) (s : Seat) where
   told-lines (suc left) i run (x ∷ xs) asked obeys =
       let left-ledger = ledger-after o s run (eventOf s x) (x .asked) (x .reply) refl refl in
       let reply = calls-before AnsweredToday o obeys (from-within s (run ▹ eventOf s x) xs) .1 in
-      rw (asked .0, ← reply, ← left-ledger, told-lines left (suc i) (run ▹ eventOf s x) xs (asked .1) obeys)
+      let line : entryLine i (ledgerAt o s run) (messageOf (pageAt bytes i)) ≡ replyLine i (x .reply) =
+      ap (entryLine i (ledgerAt o s run)) (asked .0) ∙ ap (replyLine i) (sym reply) in
+      let next = ap (ledgerAfter (ledgerAt o s run)) (asked .0) ∙ sym left-ledger in
+      rw (line, next, told-lines left (suc i) (run ▹ eventOf s x) xs (asked .1) obeys)
 
   -- the run's last ledger is the one that these entries leave
   pub ledger-left : (left i : ℕ) (run : Run) (xs : List Exchange) → AskedFrom bytes left i xs
@@ -65,5 +68,5 @@ module _ (bytes : List ℕ) (o : Opening) (s : Seat) where
   ledger-left zero i run (x ∷ xs) asked = absurd asked
   ledger-left (suc left) i run [] asked = absurd asked
   ledger-left (suc left) i run (x ∷ xs) asked =
-      rw (asked .0, ← ledger-after o s run (eventOf s x) (x .asked) (x .reply) refl refl)
-      (ledger-left left (suc i) (run ▹ eventOf s x) xs (asked .1))
+      let next = ap (ledgerAfter (ledgerAt o s run)) (asked .0) ∙ sym (ledger-after o s run (eventOf s x) (x .asked) (x .reply) refl refl) in
+      rw next (ledger-left left (suc i) (run ▹ eventOf s x) xs (asked .1))

@@ -1,11 +1,11 @@
 -- What a group at work does is a run that obeys: the statements are in specs/Operations.antt.
 use Prim.Native.Nat.{ℕ}
-use mathlib.Core.Path.{_≡_, refl, ap, sym, _∙_}
+use mathlib.Core.Path.{_≡_, refl, ap, sym, subst, _∙_}
 use mathlib.Core.Bool.{Bool, true, false, cond}
 use mathlib.Core.List.{List}
 use lib.ListN.{replicate, length-replicate}
 use Rattle.agreement.specs.Types.{Seat, Ledger, Opening, Opened}
-use Rattle.agreement.specs.Runs.{Call, message, waitingList, Event, Run, start, _▹_, sameSeat, nextLedger, ledgerAt, Conforms, Obeys}
+use Rattle.agreement.specs.Runs.{Call, message, waitingList, Event, Run, start, _▹_, sameSeat, nextLedger, ledgerAt, MayReply, Conforms, Obeys}
 use Rattle.agreement.proofs.Places.{seat-is, seat-self}
 use Rattle.agreement.proofs.Proposals.{refused-today, today-conforms}
 use Rattle.agreement.proofs.Demand3.{demand3}
@@ -63,7 +63,7 @@ conforms-operated : (l : Ledger) (c : Call) → ledgerIn (wordsOf l) ≡ l → l
     → Conforms l c → Operated (wordsOf l) c (wordsOf (nextLedger l c))
 conforms-operated l (message m r) before after ok =
     record {
-      replied = rw before ok;
+      replied = subst (λ (k : Ledger). MayReply k m r) (sym before) ok;
       ledger = rw before after;
       kept = λ code is. ap wordsOf (refusal-keeps l m code (refused-today l m code (rw is at ok)));
     }

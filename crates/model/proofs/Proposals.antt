@@ -3,7 +3,7 @@
 use Prim.Native.Nat.{ℕ, zero, suc, _≤_, _<_}
 use native.Mathlib.Decide.{decLe}
 use native.Mathlib.Omega.{arith}
-use mathlib.Core.Path.{_≡_, refl, ap, sym, _∙_}
+use mathlib.Core.Path.{_≡_, refl, ap, sym, subst, _∙_}
 use mathlib.Core.Logic.{_⊎_, inl, inr}
 use mathlib.Core.Bool.{Bool, true, false}
 use mathlib.Core.List.{List, [], _∷_}
@@ -105,7 +105,8 @@ module _ (acks : List AckSlot) where
       go (some j) e =
           let found = first-found test (length acks) 0 j e in
           let held = holding j (found .passes) in
-          rw (held .1) (record { most = held .2; seat = j; acked = held .1; lowest = λ v k at most. not-lower v k at most (found .lowest k) })
+          let first : FirstOfMost acks (held .0) = record { most = held .2; seat = j; acked = held .1; lowest = λ v k at most. not-lower v k at most (found .lowest k) } in
+          subst (FirstOfMost acks) (sym (ap slipIn (held .1))) first
         where
           not-lower : (v : Transfer) (k : ℕ) → ackAt acks k ≡ Full v → hasMost acks v ≡ true → (0 ≤ k → k < j → test k ≡ false) → j ≤ k
           not-lower v k at most lower = from (decLe j k)
@@ -151,13 +152,15 @@ counts-same t (a ∷ acks) [] same =
 counts-same t (a ∷ acks) (b ∷ others) same =
     omega (arith, ap (λ (p : Slot). bit (holds t p)) (same 0), counts-same t acks others (λ s. same (suc s)))
 
--- so the slip that is put forward is told by each seat's ack, in whatever order they came
+-- so the same slips have the most
+most-same : (acks others : List AckSlot) → ((s : ℕ) → ackAt acks s ≡ ackAt others s) → (t : Transfer) → hasMost acks t ≡ true → hasMost others t ≡ true
+most-same acks others same t h =
+    most-complete others t (λ v. omega (arith, counts-same v acks others same, counts-same t acks others same, most-sound acks t h v))
+
+-- and the slip that is put forward is told by each seat's ack, in whatever order they came
 pub same-acks : (acks others : List AckSlot) → ((s : ℕ) → ackAt acks s ≡ ackAt others s) → mostAcked acks ≡ mostAcked others
 same-acks acks others same = go (best-place acks acks)
   where
-    most : (t : Transfer) → ((v : Transfer) → acksFor v acks ≡ acksFor v others) → hasMost acks t ≡ true → hasMost others t ≡ true
-    most t counts h = most-complete others t (λ v. omega (arith, counts v, counts t, most-sound acks t h v))
-
     go : NoneRecorded acks ⊎ Best acks acks → mostAcked acks ≡ mostAcked others
     go (inl bare) = none-recorded acks bare ∙ sym (none-recorded others (λ s. sym (same s) ∙ bare s))
     go (inr (s, u, is, best)) =
@@ -165,10 +168,8 @@ same-acks acks others same = go (best-place acks acks)
         sym
         (only-first others (mostAcked acks)
         (record {
-          most = most (mostAcked acks) (λ v. counts-same v acks others same) (f .most);
+          most = most-same acks others same (mostAcked acks) (f .most);
           seat = f .seat;
           acked = sym (same (f .seat)) ∙ f .acked;
-          lowest = λ v k at h.
-              f .lowest v k (same k ∙ at)
-              (most-complete acks v (λ w. omega (arith, counts-same w acks others same, counts-same v acks others same, most-sound others v h w)));
+          lowest = λ v k at h. f .lowest v k (same k ∙ at) (most-same others acks (λ s. sym (same s)) v h);
         }))

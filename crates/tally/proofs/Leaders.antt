@@ -25,17 +25,27 @@ use Rattle.tally.specs.Results.{leaderOf}
 
 module _ (acks : List AckSlot) (number : ℕ) where
   -- a slip as a leader; and the leader before the first seat
-  abbrev pub leading : Transfer → Leader
+  abbrev leading : Transfer → Leader
   leading v = record { transfer = withNumber v number; acks = acksFor v acks }
 
-  abbrev pub noLeader : Leader
+  abbrev noLeader : Leader
   noLeader = record { transfer = withNumber (slipIn Empty) number; acks = 0 }
+
+  -- none of the seats before i acked a slip with more than c acks
+  abbrev NoMore : ℕ → ℕ → Type 0
+  NoMore c i = (k : ℕ) (u : Transfer) → k < i → ackAt acks k ≡ Full u → acksFor u acks ≤ c
+
+  no-more-next : {c i : ℕ} → NoMore c i → ((u : Transfer) → ackAt acks i ≡ Full u → acksFor u acks ≤ c) → NoMore c (i + 1)
+  no-more-next {c} {i} earlier here k u below = below-more (λ j. ackAt acks j ≡ Full u → acksFor u acks ≤ c) i (λ j. earlier j u) (here u) k below
+
+  -- a place has one slip
+  one-slip : {c : ℕ} (i : ℕ) (u : Transfer) → ackAt acks i ≡ Full u → acksFor u acks ≤ c → (w : Transfer) → ackAt acks i ≡ Full w → acksFor w acks ≤ c
+  one-slip i u at few w full = let same : w ≡ u = cc (at, full) in rw same few
 
   -- The leader of the seats before i: nobody, where none of them acked; or the first by its seat of the slips with the most acks among theirs.
   pub data Led (i : ℕ) (best : Leader) : Type 0 where
     nobody : ((k : ℕ) → k < i → ackAt acks k ≡ Empty) → best ≡ noLeader → Led i best
-    leads : (seat : ℕ) (v : Transfer) → ackAt acks seat ≡ Full v → best ≡ leading v
-        → ((k : ℕ) (u : Transfer) → k < i → ackAt acks k ≡ Full u → acksFor u acks ≤ acksFor v acks)
+    leads : (seat : ℕ) (v : Transfer) → ackAt acks seat ≡ Full v → best ≡ leading v → NoMore (acksFor v acks) i
         → ((k : ℕ) (u : Transfer) → k < seat → ackAt acks k ≡ Full u → acksFor u acks < acksFor v acks)
         → Led i best
 
@@ -55,15 +65,11 @@ module _ (acks : List AckSlot) (number : ℕ) where
         go : (p : Slot) → ackAt acks i ≡ p → Led i best → Led (i + 1) (leaderOf acks number best p)
         go Empty at (nobody none is) = nobody (below-more (λ k. ackAt acks k ≡ Empty) i none at) is
         go Empty at (leads seat v acked is most first) =
-            leads seat v acked is
-            (λ k u below. below-more (λ j. ackAt acks j ≡ Full u → acksFor u acks ≤ acksFor v acks) i (λ j. most j u) (λ full. impossible (cc (at, full))) k below)
-            first
+            leads seat v acked is (no-more-next most (λ u full. impossible (cc (at, full)))) first
         go (Full u) at (nobody none is) =
             rw (is, lt-ltb 0 (acksFor u acks) (some-acks i u at))
             (leads i u at refl
-            (λ k w below.
-            below-more (λ j. ackAt acks j ≡ Full w → acksFor w acks ≤ acksFor u acks) i (λ j lower full. impossible (cc (none j lower, full)))
-            (λ full. let same : w ≡ u = cc (at, full) in rw same (omega arith)) k below)
+            (no-more-next (λ k w below full. impossible (cc (none k below, full))) (one-slip i u at (omega arith)))
             (λ k w below full. impossible (cc (none k below, full))))
         go (Full u) at (leads seat v acked is most first) = more (decLt (acksFor v acks) (acksFor u acks))
           where
@@ -71,17 +77,11 @@ module _ (acks : List AckSlot) (number : ℕ) where
             more (yes above) =
                 rw (is, lt-ltb (acksFor v acks) (acksFor u acks) above)
                 (leads i u at refl
-                (λ k w below.
-                below-more (λ j. ackAt acks j ≡ Full w → acksFor w acks ≤ acksFor u acks) i (λ j lower full. omega (arith, most j w lower full))
-                (λ full. let same : w ≡ u = cc (at, full) in rw same (omega arith)) k below)
+                (no-more-next (λ k w below full. omega (arith, most k w below full)) (one-slip i u at (omega arith)))
                 (λ k w below full. omega (arith, most k w below full)))
             more (no not-above) =
                 rw (is, le-ltb (acksFor v acks) (acksFor u acks) (omega arith))
-                (leads seat v acked refl
-                (λ k w below.
-                below-more (λ j. ackAt acks j ≡ Full w → acksFor w acks ≤ acksFor v acks) i (λ j. most j w)
-                (λ full. let same : w ≡ u = cc (at, full) in rw same (omega arith)) k below)
-                first)
+                (leads seat v acked refl (no-more-next most (one-slip i u at (omega arith))) first)
 
     -- after the last seat it is the slip that is put forward
     pub led-all : length acks ≤ i → Led i best → best .transfer ≡ withNumber (mostAcked acks) number

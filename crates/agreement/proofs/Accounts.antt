@@ -10,7 +10,6 @@ use Rattle.agreement.proofs.Reachable.{sound, everywhere}
 use Rattle.agreement.proofs.StepLaws.{Turn, keeps, accepts, turn}
 use Rattle.model.specs.Basics.{sumOf}
 use Rattle.model.specs.Records.{accountOf, freshEntry, withPending, sumBalances, setEntry, entryOf}
-use Rattle.model.specs.Calls.{step}
 use Rattle.model.proofs.Sums.{sum-front}
 use Rattle.model.proofs.Access.{entry-set-other}
 use Rattle.model.proofs.Settles.{Apart, settle-apart}
@@ -41,8 +40,7 @@ module _ (o : Opening) where
     pub behind : (r : Run) → Obeys o r → (a : Account) → o .accounts ≤ a .0 → Unused (entryOf (ledgerAt o s r) a)
     behind =
         everywhere o opens s (λ l. (a : Account) → o .accounts ≤ a .0 → Unused (entryOf l a))
-        (λ l m q ok h old a above.
-        turn-unused l (step l m .next) m q (turn o l (step l m .next) m q (group o opens) ok h) a above (old a above))
+        (λ l next m q ok h old a above. turn-unused l next m q (turn o l next m q (group o opens) ok h) a above (old a above))
         (λ a above. rw (opened-entry o a) (group o opens .rest-zero (a .0) above, refl))
 
     -- so the balances of the k accounts add up to the opening sum

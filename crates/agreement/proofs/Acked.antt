@@ -6,7 +6,7 @@ use mathlib.Core.Logic.{_⊎_, inl, inr}
 use mathlib.Core.Bool.{Bool, true, false, _&&_}
 use mathlib.Core.Option.{some}
 use Rattle.agreement.specs.Types.{Seat, Account, Transfer, Full, Entry, Ledger, Opening, Message, Circulated, Ack, Reply, Acknowledge}
-use Rattle.agreement.specs.Runs.{Opens, honest, Call, message, waitingList, Event, Run, _▹_, Within, at-end, sooner, throughout, sameSeat, ledgerAt, Obeys, acked, passes}
+use Rattle.agreement.specs.Runs.{Opens, honest, Call, message, waitingList, switch, Event, Run, _▹_, Within, at-end, sooner, throughout, sameSeat, rulesAt, ledgerAt, Obeys, acked, passes}
 use Rattle.agreement.specs.Premises.{implies, ackedBy, genuine}
 use Rattle.agreement.proofs.Places.{before, Order, same-event, earlier, later, order, happened-later, throughout-at, obeys-before, obeys-at}
 use Rattle.agreement.proofs.Proposals.{happens-in-run}
@@ -20,12 +20,11 @@ use Rattle.model.specs.Basics.{bit}
 use Rattle.model.specs.Records.{entryOf}
 use Rattle.model.specs.Transfers.{equal}
 use Rattle.model.specs.Refusals.{ackFrom}
-use Rattle.model.specs.Calls.{step}
 use Rattle.model.proofs.Sums.{impossible, both}
 use Rattle.model.proofs.Steps.{Eligible, Recordable, entryWithAck, Happens}
 
 -- the last number of an account that this entry has booked or acked
-abbrev lastNumber : Entry → ℕ
+abbrev pub lastNumber : Entry → ℕ
 lastNumber e = e .current + bit (e .acked)
 
 -- it never falls
@@ -48,22 +47,21 @@ number-rises o l next m r g ok =
 
 module _ (o : Opening) (opens : Opens o) where
   -- the last number is not below that of what the seat acked
-  abbrev AckedUpTo : Call → Ledger → Type 0
+  abbrev pub AckedUpTo : Call → Ledger → Type 0
   AckedUpTo c l = (t : Transfer) → acked c ≡ some t → t .number ≤ lastNumber (entryOf l (t .account))
 
-  acked-now : (l : Ledger) (m : Message) (q : Reply) → Sound o l → Happens l m q (step l m .next) → AckedUpTo (message m q) (step l m .next)
-  acked-now l m q ok h t is =
+  acked-now : (l next : Ledger) (m : Message) (q : Reply) → Sound o l → Happens l m q next → AckedUpTo (message m q) next
+  acked-now l next m q ok h t is =
       let call = acked-is (message m q) t is in
       let kind : m ≡ Circulated t = cc in
       let reply : q ≡ Acknowledge = cc in
-      let marks = answer-acknowledge o l (step l m .next) m q t (group o opens) ok kind reply h in
+      let marks = answer-acknowledge o l next m q t (group o opens) ok kind reply h in
       rw (marks .entry-is) (omega (arith, marks .eligible .is-next))
 
-  acked-so-far : (s : Seat) (r : Run) → Obeys o r → (p : Run) (e : Event) → Within (p ▹ e) r → e .at ≡ s → AckedUpTo (e .call) (ledgerAt o s r)
+  pub acked-so-far : (s : Seat) (r : Run) → Obeys o r → (p : Run) (e : Event) → Within (p ▹ e) r → e .at ≡ s → AckedUpTo (e .call) (ledgerAt o s r)
   acked-so-far s =
-      past-calls o opens s AckedUpTo (λ l b a q t is. impossible (cc)) acked-now
-      (λ l m q c ok h yet t this.
-      omega (arith, yet t this, number-rises o l (step l m .next) m q (group o opens) ok h (t .account)))
+      past-calls o opens s AckedUpTo (λ l b a q t is. impossible (cc)) (λ l t is. impossible (cc)) acked-now
+      (λ l next m q c ok h yet t this. omega (arith, yet t this, number-rises o l next m q (group o opens) ok h (t .account)))
 
 -- the call that acked a slip
 pub acked-by-found : (s : Seat) (t : Transfer) (r : Run) → ackedBy s t r ≡ true
@@ -81,7 +79,7 @@ module _ (o : Opening) (opens : Opens o) (run : Run) (obeys : Obeys o run) where
   not-yet p e t w is =
       let l = ledgerAt o (e .at) p in
       let ok = sound o opens (e .at) p (obeys-before o obeys (before w)) in
-      let answer = happens-in-run l (Circulated t) Acknowledge (rw (acked-is (e .call) t is) at (obeys-at o obeys w)) in
+      let answer = happens-in-run (rulesAt (e .at) p) l (Circulated t) Acknowledge (rw (acked-is (e .call) t is) at (obeys-at o obeys w)) in
       let marks = answer-acknowledge o l _ (Circulated t) Acknowledge t (group o opens) ok refl refl answer in
       omega (arith, marks .eligible .is-next, ap bit (marks .was-clear))
 
@@ -157,12 +155,13 @@ module _ (o : Opening) (bad : Seat → Bool) (opens : Opens o) where
       → (a : Account) → FromSenders o bad r (entryOf (ledgerAt o s r) a)
   all-from run fair s =
       run-induction o opens s (λ r l. Within r run → (a : Account) → FromSenders o bad r (entryOf l a))
-      (λ w a i t h honestly. impossible (cc (h, ap (λ (e : Entry). ackFrom e i) (opened-entry o a), no-acks i)))
+      (λ from w a i t h honestly. impossible (cc (h, ap (λ (e : Entry). ackFrom e i) (opened-entry o a), no-acks i)))
       (λ r e l other old w a. more r e (entryOf l a) (old (before w) a))
       (λ r b a q l old w c. more r (record { at = s; call = waitingList b q a }) (entryOf l c) (old (before w) c))
-      (λ r m q l ok h old w a.
-      more r (record { at = s; call = message m q }) (entryOf (step l m .next) a)
-      (step-from r l (step l m .next) m q ok (throughout-at (λ p e. genuine o bad p (e .call)) fair w) h (old (before w)) a))
+      (λ r l old w c. more r (record { at = s; call = switch }) (entryOf l c) (old (before w) c))
+      (λ r m q l next ok h old w a.
+      more r (record { at = s; call = message m q }) (entryOf next a)
+      (step-from r l next m q ok (throughout-at (λ p e. genuine o bad p (e .call)) fair w) h (old (before w)) a))
     where
       more : (r : Run) (d : Event) (e : Entry) → FromSenders o bad r e → FromSenders o bad (r ▹ d) e
       more r d e old i t h honestly = acked-by-later i t {p = r} {r = r ▹ d} (sooner at-end) (old i t h honestly)

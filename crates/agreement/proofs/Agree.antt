@@ -6,7 +6,7 @@ use mathlib.Core.List.{List, [], _∷_, _++_}
 use mathlib.Core.Option.{Option, none, some}
 use borrow.Author.Tests.{eq-eqb, eqb-true}
 use Rattle.agreement.specs.Types.{Seat, Account, Transfer, Opening, Ack, Accept, Propose}
-use Rattle.agreement.specs.Runs.{Opens, FewBad, message, Event, Run, start, _▹_, Within, at-end, sooner, ledgerAt, Obeys, accepted, proposed, ruled, passes}
+use Rattle.agreement.specs.Runs.{Opens, FewBad, message, Event, Run, start, _▹_, Within, at-end, sooner, rulesAt, ledgerAt, Obeys, accepted, proposed, ruled, passes}
 use Rattle.agreement.specs.Premises.{ruledOn, ruledOtherwise, likewise, proposals, founded, rightful, Premises}
 use Rattle.agreement.proofs.Places.{before, within-trans, Order, same-event, earlier, later, order, happened-holds, throughout-at, obeys-before, obeys-at}
 use Rattle.agreement.proofs.Proposals.{happens-in-run}
@@ -42,7 +42,7 @@ pub record FirstRuling (t : Transfer) (r : Run) : Type 0 where
   pub none-sooner : ruledOn t place ≡ false
 
 first-ruling : (t : Transfer) (r : Run) → ruledOn t r ≡ true → FirstRuling t r
-first-ruling t start h = impossible (cc)
+first-ruling t (start from) h = impossible (cc)
 first-ruling t (r ▹ e) h = go (ruledOn t r) refl (first-ruling t r)
   where
     go : (b : Bool) → ruledOn t r ≡ b → (ruledOn t r ≡ true → FirstRuling t r) → FirstRuling t (r ▹ e)
@@ -73,7 +73,7 @@ first-ruling t (r ▹ e) h = go (ruledOn t r) refl (first-ruling t r)
 proposals-all : (t u : Transfer) (r : Run)
     → ((q : Run) (d : Event) (w : Transfer) → Within (q ▹ d) r → proposed (d .call) ≡ some w → sameNumber u w ≡ true → t ≡ w)
     → every (equal t) (proposals u r) ≡ true
-proposals-all t u start h = refl
+proposals-all t u (start from) h = refl
 proposals-all t u (r ▹ e) h = go (proposed (e .call)) refl (proposals-all t u r (λ q d w within. h q d w (sooner within)))
   where
     add : (w : Transfer) (b : Bool) → sameNumber u w ≡ b → proposed (e .call) ≡ some w → every (equal t) (proposals u r) ≡ true
@@ -103,7 +103,7 @@ module _ (o : Opening) (bad : Seat → Bool) (run : Run) (opens : Opens o) (few 
   acks-quorum p e s t k w is =
       let l = ledgerAt o (e .at) p in
       let ok = sound o opens (e .at) p (obeys-before o obeys (before w)) in
-      let answer = happens-in-run l (Ack s t) (Accept k) (rw is at (obeys-at o obeys w)) in
+      let answer = happens-in-run (rulesAt (e .at) p) l (Ack s t) (Accept k) (rw is at (obeys-at o obeys w)) in
       let found = answer-accept l _ (Ack s t) (Accept k) s t k refl refl answer in
       let from = call-from o bad opens run (kept .acks-genuine) obeys p e (Ack s t) (Accept k) s t w is refl (found .0) in
       accept-quorum o bad run opens l ok s t (found .0) from (found .1)
@@ -114,7 +114,7 @@ module _ (o : Opening) (bad : Seat → Bool) (run : Run) (opens : Opens o) (few 
       let l = ledgerAt o (d .at) q in
       let ok = sound o opens (d .at) q (obeys-before o obeys (before w)) in
       let call = proposed-is (d .call) u is in
-      let answer = happens-in-run l (call .0) (Propose u) (rw (call .1) at (obeys-at o obeys w)) in
+      let answer = happens-in-run (rulesAt (d .at) q) l (call .0) (Propose u) (rw (call .1) at (obeys-at o obeys w)) in
       let found = answer-propose l _ (call .0) (Propose u) u refl answer in
       let from =
       call-from o bad opens run (kept .acks-genuine) obeys q d (call .0) (Propose u) (found .sender) (found .slip) w (call .1) (found .is-ack)

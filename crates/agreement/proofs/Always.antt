@@ -8,7 +8,7 @@ use mathlib.Core.Option.{some}
 use lib.ListN.{length}
 use borrow.Author.Tests.{leb-false}
 use Rattle.agreement.specs.Types.{Seat, Account, Transfer, Slot, Empty, Full, Ledger, Opening, Message, Request, Circulated, Ack, Decision, Inquiry, Reply, Circulate, Acknowledge, Accept, Propose, Note, Balance, Refuse}
-use Rattle.agreement.specs.Runs.{Opens, Call, message, waitingList, Event, Run, _▹_, Within, sameSeat, ledgerAt, Conforms, Obeys, isAccept, accepted, proposed, ruled, passes}
+use Rattle.agreement.specs.Runs.{Opens, Call, message, waitingList, switch, Event, Run, _▹_, Within, sameSeat, rulesAt, ledgerAt, Conforms, Obeys, isAccept, accepted, proposed, ruled, passes}
 use Rattle.agreement.specs.Facts.{answeredK, countOf, mustAccept, acceptedBy, taken, ruledFor, Always}
 use Rattle.agreement.proofs.Places.{before, happened-found, happened-holds, obeys-before, obeys-at, ledger-after}
 use Rattle.agreement.proofs.Proposals.{happens-in-run}
@@ -24,7 +24,7 @@ use Rattle.model.specs.Records.{accountOf, freshEntry, withPending, sumCurrents
 use Rattle.model.specs.Transfers.{equal}
 use Rattle.model.specs.Acks.{holds, acksFor, enough}
 use Rattle.model.specs.Settling.{affordable, settle}
-use Rattle.model.specs.Calls.{step}
+use Rattle.model.specs.Switches.{Rules}
 use Rattle.model.proofs.Sums.{impossible, both, sum-set-same, sum-same-each}
 use Rattle.model.proofs.Equality.{equal-sound, equal-refl}
 use Rattle.model.proofs.Settles.{none-affordable, settle-done, settle-currents}
@@ -36,18 +36,20 @@ same-test false true forth back = impossible (cc (back refl))
 same-test false false forth back = refl
 
 -- a call accepts exactly if it must
-call-accepts : (l : Ledger) (c : Call) → Conforms l c → answeredK c ≡ mustAccept l c
-call-accepts l (message m r) h = answer-exactly l _ m r (happens-in-run l m r h)
-call-accepts l (waitingList b q a) h = refl
+call-accepts : (v : Rules) (l : Ledger) (c : Call) → Conforms v l c → answeredK c ≡ mustAccept l c
+call-accepts v l (message m r) h = answer-exactly l _ m r (happens-in-run v l m r h)
+call-accepts v l (waitingList b q a) h = refl
+call-accepts v l switch h = refl
 
 -- a ruling that is not refused accepts its slip
-ruling-accepts : (l : Ledger) (c : Call) (t : Transfer) → Conforms l c → ruled c ≡ some t → taken c ≡ true → accepted c ≡ some t
-ruling-accepts l (message (Request u) r) t h is ok = impossible (cc)
-ruling-accepts l (message (Circulated u) r) t h is ok = impossible (cc)
-ruling-accepts l (message (Ack s u) r) t h is ok = impossible (cc)
-ruling-accepts l (message (Decision u) r) t h is ok = rw (call-accepts l (message (Decision u) r) h, ok) is
-ruling-accepts l (message (Inquiry a) r) t h is ok = impossible (cc)
-ruling-accepts l (waitingList b q a) t h is ok = impossible (cc)
+ruling-accepts : (v : Rules) (l : Ledger) (c : Call) (t : Transfer) → Conforms v l c → ruled c ≡ some t → taken c ≡ true → accepted c ≡ some t
+ruling-accepts v l (message (Request u) r) t h is ok = impossible (cc)
+ruling-accepts v l (message (Circulated u) r) t h is ok = impossible (cc)
+ruling-accepts v l (message (Ack s u) r) t h is ok = impossible (cc)
+ruling-accepts v l (message (Decision u) r) t h is ok = rw (call-accepts v l (message (Decision u) r) h, ok) is
+ruling-accepts v l (message (Inquiry a) r) t h is ok = impossible (cc)
+ruling-accepts v l (waitingList b q a) t h is ok = impossible (cc)
+ruling-accepts v l switch t h is ok = impossible (cc)
 
 -- a reply that is not K has no count
 no-count : (r : Reply) → isAccept r ≡ false → countOf r ≡ 0
@@ -83,7 +85,7 @@ turn-uncovered o l next m r (accepts t this done) old a =
 uncovered : (o : Opening) → Opens o → (s : Seat) (r : Run) → Obeys o r → (a : Account) → affordable (entryOf (ledgerAt o s r) a) ≡ false
 uncovered o opens s =
     everywhere o opens s (λ l. (a : Account) → affordable (entryOf l a) ≡ false)
-    (λ l m q ok h old. turn-uncovered o l (step l m .next) m q (turn o l (step l m .next) m q (group o opens) ok h) old)
+    (λ l next m q ok h old. turn-uncovered o l next m q (turn o l next m q (group o opens) ok h) old)
     (λ a. rw (opened-entry o a) refl)
 
 -- Which slips were accepted at a seat, and which wait there.
@@ -94,9 +96,9 @@ module _ (o : Opening) (opens : Opens o) (s : Seat) where
 
   all-settled : (r : Run) → Obeys o r → (p : Run) (e : Event) → Within (p ▹ e) r → e .at ≡ s → SettledCall (e .call) (ledgerAt o s r)
   all-settled =
-      past-calls o opens s SettledCall (λ l b a q t is. impossible (cc))
-      (λ l m q ok h. just-settled o l (step l m .next) m q (group o opens) ok h)
-      (λ l m q c ok h old t this. stays-settled o l (step l m .next) m q (group o opens) ok h t (t .account) (old t this))
+      past-calls o opens s SettledCall (λ l b a q t is. impossible (cc)) (λ l t is. impossible (cc))
+      (λ l next m q ok h. just-settled o l next m q (group o opens) ok h)
+      (λ l next m q c ok h old t this. stays-settled o l next m q (group o opens) ok h t (t .account) (old t this))
 
   -- so nothing is put forward for its number: what P carries is of an eligible slip's account and number
   none-proposed : (p q : Run) (e d : Event) (t u : Transfer) → Obeys o (q ▹ d) → Within (p ▹ e) q → e .at ≡ s → d .at ≡ s
@@ -105,7 +107,7 @@ module _ (o : Opening) (opens : Opens o) (s : Seat) where
       let l = ledgerAt o s q in
       let ok = sound o opens s q (obeys .0) in
       let call = proposed-is (d .call) u puts in
-      let answer = happens-in-run l (call .0) (Propose u) (rw (here, call .1) at (obeys .1)) in
+      let answer = happens-in-run (rulesAt s q) l (call .0) (Propose u) (rw (here, call .1) at (obeys .1)) in
       let found = answer-propose l _ (call .0) (Propose u) u refl answer in
       let same = proposes-for o l (call .0) u (group o opens) ok found in
       none-eligible o l t (found .slip) (group o opens) ok (all-settled q (obeys .0) p e w there t is)
@@ -130,7 +132,7 @@ module _ (o : Opening) (opens : Opens o) (s : Seat) where
       let parts = both (sameSeat (e .at) s) _ (found .3) in
       let both-parts = both (passes (equal t) (ruled (e .call))) (taken (e .call)) (parts .1) in
       let slip = that-slip t (ruled (e .call)) (both-parts .0) in
-      let accepts-it = ruling-accepts (ledgerAt o (e .at) (found .0)) (e .call) t (obeys-at o obeys (found .2)) slip (both-parts .1) in
+      let accepts-it = ruling-accepts (rulesAt (e .at) (found .0)) (ledgerAt o (e .at) (found .0)) (e .call) t (obeys-at o obeys (found .2)) slip (both-parts .1) in
       happened-holds (λ e. sameSeat (e .at) s && passes (equal t) (accepted (e .call))) (found .2) (rw (parts .0, accepts-it, equal-refl t))
 
   accepted-iff : (r : Run) → Obeys o r → (t : Transfer) → t .number ≡ entryOf (ledgerAt o s r) (t .account) .current + 1
@@ -168,7 +170,7 @@ module _ (o : Opening) (opens : Opens o) (s : Seat) where
   never-falls : (a : Account) {p q : Run} → Obeys o q → Within p q → entryOf (ledgerAt o s p) a .current ≤ entryOf (ledgerAt o s q) a .current
   never-falls a {p} {q} obeys w =
       stays o opens s (λ l. entryOf (ledgerAt o s p) a .current ≤ entryOf l a .current)
-      (λ l m q ok h old. omega (arith, current-rises o l (step l m .next) m q (group o opens) ok h a))
+      (λ l next m q ok h old. omega (arith, current-rises o l next m q (group o opens) ok h a))
       obeys w (omega arith)
 
 -- the same, in a run
@@ -177,9 +179,9 @@ run-count : (o : Opening) (run p : Run) (e : Event) (m : Message) (r : Reply) �
 run-count o run p e m r opens obeys w is =
     let l = ledgerAt o (e .at) p in
     let ok = sound o opens (e .at) p (obeys-before o obeys (before w)) in
-    let h = happens-in-run l m r (rw is at (obeys-at o obeys w)) in
+    let h = happens-in-run (rulesAt (e .at) p) l m r (rw is at (obeys-at o obeys w)) in
     rw (ledger-after o (e .at) p e m r refl is)
-    (turn-count o l (step l m .next) m r ok (step-sound o l _ m r (group o opens) ok h) (turn o l _ m r (group o opens) ok h))
+    (turn-count o l _ m r ok (step-sound o l _ m r (group o opens) ok h) (turn o l _ m r (group o opens) ok h))
 
 pub always : Always
 always o run opens obeys =
@@ -196,7 +198,7 @@ always o run opens obeys =
       count-is-rise = λ p e m r w is. run-count o run p e m r opens obeys w is;
       acked-once = acked-once o opens run obeys;
       none-proposed-after = λ p q e d t u w v same. none-proposed o opens (d .at) p q e d t u (obeys-before o obeys v) w same refl;
-      accepts-exactly = λ p e w. call-accepts (ledgerAt o (e .at) p) (e .call) (obeys-at o obeys w);
+      accepts-exactly = λ p e w. call-accepts (rulesAt (e .at) p) (ledgerAt o (e .at) p) (e .call) (obeys-at o obeys w);
       accepted-exactly = λ p s t w next. accepted-iff o opens s p (obeys-before o obeys w) t next;
       booked-accepted = λ p s a m w. all-reasons o opens s p (obeys-before o obeys w) a .why-booked m;
       waits-exactly = λ p s t w next. waits-iff o opens s p (obeys-before o obeys w) t next;

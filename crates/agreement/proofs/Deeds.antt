@@ -4,7 +4,7 @@ use mathlib.Core.Path.{_≡_, refl, ap, sym}
 use mathlib.Core.Bool.{Bool, true, false, cond, not, _&&_}
 use mathlib.Core.Option.{Option, none, some}
 use Rattle.agreement.specs.Types.{Seat, Transfer, Message, Request, Circulated, Ack, Decision, Inquiry, Reply, Circulate, Acknowledge, Accept, Propose, Note, Balance, Refuse}
-use Rattle.agreement.specs.Runs.{Call, message, waitingList, Event, Run, _▹_, Within, happened, sameSeat, isAcknowledge, isAccept, acked, accepted, proposal, proposed, passes}
+use Rattle.agreement.specs.Runs.{Call, message, waitingList, switch, Event, Run, _▹_, Within, happened, sameSeat, isAcknowledge, isAccept, acked, accepted, proposal, proposed, passes}
 use Rattle.agreement.specs.Undisputed.{tooEarly, brings}
 use Rattle.agreement.proofs.Places.{happened-found, seat-is}
 use Rattle.model.specs.Transfers.{equal}
@@ -44,6 +44,7 @@ acked-is (message (Ack s u) r) t e = impossible (cc)
 acked-is (message (Decision u) r) t e = impossible (cc)
 acked-is (message (Inquiry a) r) t e = impossible (cc)
 acked-is (waitingList before r after) t e = impossible (cc)
+acked-is switch t e = impossible (cc)
 
 -- it accepted t: an ack or a ruling
 pub data Accepts (c : Call) (t : Transfer) : Type 0 where
@@ -63,6 +64,7 @@ accepted-is (message (Decision u) r) t e =
     by-ruling (reply .0) (λ i. message (Decision (found .1 i)) (reply .1 i))
 accepted-is (message (Inquiry a) r) t e = impossible (cc)
 accepted-is (waitingList before r after) t e = impossible (cc)
+accepted-is switch t e = impossible (cc)
 
 -- it put u forward
 proposal-is : (r : Reply) (u : Transfer) → proposal r ≡ some u → r ≡ Propose u
@@ -77,6 +79,7 @@ proposal-is (Refuse q) u e = impossible (cc)
 pub proposed-is : (c : Call) (u : Transfer) → proposed c ≡ some u → (m : Message) × (c ≡ message m (Propose u))
 proposed-is (message m r) u e = (m, ap (message m) (proposal-is r u e))
 proposed-is (waitingList before r after) u e = impossible (cc)
+proposed-is switch u e = impossible (cc)
 
 -- it brought an ack of t from seat s, not too early
 pub brings-is : (s : Seat) (t : Transfer) (c : Call) → brings s t c ≡ true → (r : Reply) × (c ≡ message (Ack s t) r) × (tooEarly r ≡ false)
@@ -95,6 +98,7 @@ brings-is s t (message (Ack z u) r) e =
 brings-is s t (message (Decision u) r) e = impossible (cc)
 brings-is s t (message (Inquiry a) r) e = impossible (cc)
 brings-is s t (waitingList before r after) e = impossible (cc)
+brings-is s t switch e = impossible (cc)
 
 -- a slip that is equal to t is t
 pub that-slip : (t : Transfer) (x : Option Transfer) → passes (equal t) x ≡ true → x ≡ some t

@@ -22,7 +22,6 @@ use Rattle.agreement.proofs.Agree.{same-number, number-same}
 use Rattle.model.specs.Transfers.{sameAccount}
 use Rattle.model.specs.Records.{accountOf, freshLedger, withPending, entryAt, setEntry, withEntry, entryOf}
 use Rattle.model.specs.Settling.{apply, settle}
-use Rattle.model.specs.Calls.{step}
 use Rattle.model.proofs.Sums.{impossible}
 use Rattle.model.proofs.Access.{set-each, same-account}
 use Rattle.model.proofs.Booking.{Affordable, share, apply-clears, apply-others, apply-balance, apply-length}
@@ -200,11 +199,12 @@ module _ (slipOf : Account → ℕ → Option Transfer) (o : Opening) where
       → ((p : Run) (e : Event) (t : Transfer) → Within (p ▹ e) run → accepted (e .call) ≡ some t → slipOf (t .account) (t .number) ≡ some t)
       → (s : Seat) (r : Run) → Obeys o r → Within r run → Balanced (ledgerAt o s r .entries)
   all-balanced opens run slips s =
-      run-induction o opens s (λ r l. Within r run → Balanced (l .entries)) (λ w. opened-balanced)
+      run-induction o opens s (λ r l. Within r run → Balanced (l .entries)) (λ from w. opened-balanced)
       (λ r e l other bal w. bal (before w))
       (λ r b a q l bal w. bal (before w))
-      (λ r m q l ok h bal w.
-      turn-balanced l (step l m .next) m q opens ok (turn o l (step l m .next) m q (group o opens) ok h)
+      (λ r l bal w. bal (before w))
+      (λ r m q l next ok h bal w.
+      turn-balanced l next m q opens ok (turn o l next m q (group o opens) ok h)
       (λ t this. slips r _ t w this) (bal (before w)))
 
 -- The slip that a run accepted for an account and number, by whichever seat.
@@ -216,7 +216,7 @@ firstOf a m none other = other
 firstOf a m (some t) other = cond (isOf a m t) (some t) other
 
 acceptedFor : Run → Account → ℕ → Option Transfer
-acceptedFor start a m = none
+acceptedFor (start from) a m = none
 acceptedFor (r ▹ e) a m = firstOf a m (accepted (e .call)) (acceptedFor r a m)
 
 -- where accepted slips of one account and number are equal, it is each of them
@@ -228,7 +228,7 @@ found-slip : (run : Run)
     → (r : Run) → Within r run → (p : Run) (e : Event) (t : Transfer) → Within (p ▹ e) r → accepted (e .call) ≡ some t
     → acceptedFor r (t .account) (t .number) ≡ some t
 unfolding acceptedFor firstOf isOf
-found-slip run agree start w p e t v is = nothing-yet v
+found-slip run agree (start from) w p e t v is = nothing-yet v
 found-slip run agree (r ▹ d) w p e t v is =
     go (accepted (d .call)) refl (last-or-sooner v) (found-slip run agree r (before w) p e t)
   where

@@ -11,7 +11,7 @@ use lib.Dec.{eqb, lit≤}
 use lib.ListN.{drop, replicate}
 use borrow.Author.Tests.{ne-eqb}
 use Rattle.agreement.specs.Types.{Seat, Transfer, Entry, Opening, Message, Request, Circulated, Ack, Decision, Inquiry, Reply, Circulate, Acknowledge, Accept, Propose, Note, Balance, Refuse}
-use Rattle.agreement.specs.Runs.{Opens, countBelow, FewBad, message, waitingList, Event, Run, start, _▹_, happened, throughout, atHonest, sameSeat, ledgerAt, Obeys, ObeysToday, acked, accepted, proposed, ruled, passes}
+use Rattle.agreement.specs.Runs.{Opens, countBelow, FewBad, message, waitingList, Event, Run, start, _▹_, happened, throughout, atHonest, sameSeat, rulesAt, ledgerAt, Obeys, acked, accepted, proposed, ruled, passes}
 use Rattle.agreement.specs.Premises.{Premises, genuine, rightful, proposals, someSlip}
 use Rattle.agreement.specs.Slates.{Slate, lowest, leaveAtMost, leaveAll, slateAt}
 use Rattle.agreement.specs.Claims.{Claim}
@@ -24,9 +24,8 @@ use Rattle.model.specs.Transfers.{equal, conflict}
 use Rattle.model.specs.Openings.{openReply}
 use Rattle.model.specs.Acks.{hasMost, mostAcked}
 use Rattle.model.specs.Settling.{isWaiting, lowestAffordable, apply, settleAtMost, settle}
-use Rattle.model.specs.Calls.{step}
+use Rattle.model.specs.Switches.{newest, stepUnder}
 use Rattle.agreement.proofs.Places.{happened-found}
-use Rattle.agreement.proofs.Proposals.{today-obeys}
 use Rattle.agreement.proofs.Deeds.{that-slip}
 use Rattle.model.proofs.Rows.{slip, pageWith}
 use Rattle.model.proofs.Sums.{impossible, both}
@@ -54,7 +53,11 @@ bad s = eqb (s .0) 5
 abbrev twoBad : Seat → Bool
 twoBad s = eqb (s .0) 4 || eqb (s .0) 5
 
--- How runs are written below. Seat s is called with a message, and replies
+-- How runs are written below. Every seat is under today's rules from the start
+abbrev pub today : Run
+today = start (λ s. newest)
+
+-- seat s is called with a message, and replies
 abbrev pub asked : ℕ → Message → Reply → Event
 asked s m r = record { at = seatOf s; call = message m r }
 
@@ -106,7 +109,7 @@ no-claim o bad run t u differ yes-t yes-u claim =
 -- accepted at seat 4, where it waits: this far first.
 abbrev pub waits : Run
 waits =
-    start
+    today
     ▹ asked 0 (Request t) Circulate
     ▹ acks 0 t ▹ acks 1 t ▹ acks 2 t ▹ acks 3 t ▹ acks 4 u
     ▹ asked 4 (Circulated t) (Refuse AlreadyAcked)
@@ -149,9 +152,9 @@ only-one [] first second rest (suc (suc a)) = impossible (cc)
 only-one (x ∷ []) first second rest (suc (suc a)) = impossible (cc)
 only-one (x ∷ y ∷ es) first second rest (suc (suc a)) = rw (ne-eqb (suc (suc a)) 1 (omega arith), none-waits es rest a)
 
-pub witness-today : ObeysToday page witness
-unfolding ledgerAt noAcks equal conflict hasMost mostAcked lowestAffordable apply settleAtMost settle step
-witness-today =
+pub witness-obeys : Obeys page witness
+unfolding rulesAt ledgerAt noAcks equal conflict hasMost mostAcked lowestAffordable apply settleAtMost settle stepUnder
+witness-obeys =
     tt
     then refl
     then refl then refl then refl then refl then refl
@@ -166,9 +169,6 @@ witness-today =
     then (refl, refl)
     then (1 ∷ [], only-one (ledgerAt page (seatOf 4) waits .entries) refl refl refl, refl, refl)
     then refl
-
-pub witness-obeys : Obeys page witness
-witness-obeys = today-obeys page witness witness-today
 
 -- The witness is a run as demand 3 means it, and keeps the premises.
 pub witness-keeps : Opens page × FewBad page bad × (atHonest page bad witness ≡ true) × Obeys page witness × Premises page bad witness
@@ -188,10 +188,10 @@ acksThat t e = passes (equal t) (acked (e .call))
 abbrev pub putsForward : Transfer → Event → Bool
 putsForward t e = passes (equal t) (proposed (e .call))
 
-abbrev takes : ℕ → Transfer → Event → Bool
+abbrev pub takes : ℕ → Transfer → Event → Bool
 takes s t e = sameSeat (e .at) (seatOf s) && passes (equal t) (accepted (e .call))
 
-abbrev isRuling : Event → Bool
+abbrev pub isRuling : Event → Bool
 isRuling e = passes (λ t. true) (ruled (e .call))
 
 -- The witness has what the premises are about: seats ack slips that conflict, t is put forward, accepted by an ack at seat 0 and by a
@@ -211,7 +211,7 @@ Fails bad run = (atHonest page bad run ≡ true) × Obeys page run × (Claim pag
 
 -- seats 0 to 3 ack t, seat 4 acks u
 abbrev split : Run
-split = start ▹ acks 0 t ▹ acks 1 t ▹ acks 2 t ▹ acks 3 t ▹ acks 4 u
+split = today ▹ acks 0 t ▹ acks 1 t ▹ acks 2 t ▹ acks 3 t ▹ acks 4 u
 
 -- .. then seat 0 accepts t, with the bad seat's ack
 abbrev acceptT : Run → Run
@@ -227,7 +227,7 @@ abbrev forged : Run
 forged = acceptT split ▹ ack 1 0 u Note ▹ ack 1 1 u Note ▹ ack 1 2 u Note ▹ ack 1 3 u Note ▹ ack 1 4 u (Accept 1)
 
 pub genuine-needed : Fails bad forged × (rulingsRightful forged ≡ true) × (Premises page bad forged → ⊥)
-unfolding ledgerAt noAcks equal conflict hasMost lowestAffordable apply settleAtMost settle step
+unfolding rulesAt ledgerAt noAcks equal conflict hasMost mostAcked lowestAffordable apply settleAtMost settle stepUnder
 genuine-needed = (
   (
     refl,
@@ -246,13 +246,13 @@ abbrev rulingsDiffer : Run
 rulingsDiffer = putForwardT split ▹ ruling 2 t (Accept 1) ▹ ruling 3 u (Accept 1)
 
 pub one-ruling-needed : Fails bad rulingsDiffer × (acksGenuine bad rulingsDiffer ≡ true) × (Premises page bad rulingsDiffer → ⊥)
-unfolding ledgerAt noAcks equal conflict hasMost lowestAffordable apply settleAtMost settle step
+unfolding rulesAt ledgerAt noAcks equal conflict hasMost mostAcked lowestAffordable apply settleAtMost settle stepUnder
 one-ruling-needed = (
   (
     refl,
     tt
         then refl then refl then refl then refl then refl
-        then refl then refl then refl then refl then (t, refl, refl)
+        then refl then refl then refl then refl then refl
         then refl then refl,
     no-claim page bad rulingsDiffer t u refl refl refl,
   ),
@@ -267,14 +267,14 @@ earlyRuling = acceptT (putForwardT (split ▹ ruling 4 u (Accept 1)))
 pub put-forward-needed :
     Fails bad earlyRuling × (acksGenuine bad earlyRuling ≡ true) × (someSlip (proposals u earlyRuling) ≡ true)
     × (Premises page bad earlyRuling → ⊥)
-unfolding ledgerAt noAcks equal conflict hasMost lowestAffordable apply settleAtMost settle step
+unfolding rulesAt ledgerAt noAcks equal conflict hasMost mostAcked lowestAffordable apply settleAtMost settle stepUnder
 put-forward-needed = (
   (
     refl,
     tt
         then refl then refl then refl then refl then refl
         then refl
-        then refl then refl then refl then refl then (t, refl, refl)
+        then refl then refl then refl then refl then refl
         then refl then refl then refl then refl then refl,
     no-claim page bad earlyRuling t u refl refl refl,
   ),
@@ -288,13 +288,13 @@ abbrev otherRuling : Run
 otherRuling = acceptT (putForwardT split ▹ ruling 4 u (Accept 1))
 
 pub that-slip-needed : Fails bad otherRuling × (acksGenuine bad otherRuling ≡ true) × (Premises page bad otherRuling → ⊥)
-unfolding ledgerAt noAcks equal conflict hasMost lowestAffordable apply settleAtMost settle step
+unfolding rulesAt ledgerAt noAcks equal conflict hasMost mostAcked lowestAffordable apply settleAtMost settle stepUnder
 that-slip-needed = (
   (
     refl,
     tt
         then refl then refl then refl then refl then refl
-        then refl then refl then refl then refl then (t, refl, refl)
+        then refl then refl then refl then refl then refl
         then refl
         then refl then refl then refl then refl then refl,
     no-claim page bad otherRuling t u refl refl refl,
@@ -306,7 +306,7 @@ that-slip-needed = (
 -- "at most f of them". Here two seats are bad, and f is 1. They ack t at seat 0, and u at seat 1.
 abbrev tooManyBad : Run
 tooManyBad =
-    start
+    today
     ▹ acks 0 t ▹ acks 1 t ▹ acks 2 t ▹ acks 3 u
     ▹ ack 0 0 t Note ▹ ack 0 1 t Note ▹ ack 0 2 t Note ▹ ack 0 4 t Note ▹ ack 0 5 t (Accept 1)
     ▹ ack 1 3 u Note ▹ ack 1 4 u Note ▹ ack 1 5 u Note ▹ ack 1 0 t Note ▹ ack 1 1 t (Propose u)
@@ -316,14 +316,14 @@ two-above-one : 2 ≤ 1 → ⊥
 two-above-one h = omega arith
 
 pub few-bad-needed : Fails twoBad tooManyBad × Premises page twoBad tooManyBad × (FewBad page twoBad → ⊥)
-unfolding ledgerAt noAcks equal conflict hasMost lowestAffordable apply settleAtMost settle step
+unfolding rulesAt ledgerAt noAcks equal conflict hasMost mostAcked lowestAffordable apply settleAtMost settle stepUnder
 few-bad-needed = (
   (
     refl,
     tt
         then refl then refl then refl then refl
         then refl then refl then refl then refl then refl
-        then refl then refl then refl then refl then (u, refl, refl)
+        then refl then refl then refl then refl then refl
         then refl,
     no-claim page twoBad tooManyBad t u refl refl refl,
   ),
@@ -333,14 +333,14 @@ few-bad-needed = (
 
 -- "A silent book would satisfy demand 3 alone, so that demand is about books obeying demand 2." Here books accept on one ack.
 abbrev invented : Run
-invented = start ▹ ack 0 5 t (Accept 1) ▹ ack 1 5 u (Accept 1)
+invented = today ▹ ack 0 5 t (Accept 1) ▹ ack 1 5 u (Accept 1)
 
 accepts-not-notes : Accept 1 ≡ Note → ⊥
 accepts-not-notes e = impossible (cc)
 
 pub obeying-needed :
     (atHonest page bad invented ≡ true) × Premises page bad invented × (Claim page bad invented → ⊥) × (Obeys page invented → ⊥)
-unfolding ledgerAt noAcks equal conflict hasMost lowestAffordable apply settleAtMost settle step
+unfolding rulesAt ledgerAt noAcks equal conflict hasMost mostAcked lowestAffordable apply settleAtMost settle stepUnder
 obeying-needed = (
   refl,
   record { acks-genuine = refl; rulings-rightful = refl },
@@ -358,7 +358,7 @@ w = slip 1 1 2 0
 
 abbrev pub free : Run
 free =
-    start
+    today
     ▹ acks 0 t ▹ acks 1 t ▹ acks 2 t ▹ acks 3 u ▹ acks 4 u
     ▹ ack 1 0 t Note ▹ ack 1 1 t Note ▹ ack 1 2 t Note ▹ ack 1 3 u Note ▹ ack 1 4 u (Propose t)
     ▹ ack 2 3 u Note ▹ ack 2 4 u Note ▹ ack 2 5 u Note ▹ ack 2 0 t Note ▹ ack 2 1 t (Propose u)
@@ -368,41 +368,41 @@ free =
     ▹ ruling 4 w (Accept 1)
 
 pub left-free : (atHonest page bad free ≡ true) × Obeys page free × Premises page bad free
-unfolding ledgerAt noAcks equal conflict hasMost lowestAffordable apply settleAtMost settle step
+unfolding rulesAt ledgerAt noAcks equal conflict hasMost mostAcked lowestAffordable apply settleAtMost settle stepUnder
 left-free = (
   refl,
   tt
       then refl then refl then refl then refl then refl
-      then refl then refl then refl then refl then (t, refl, refl)
-      then refl then refl then refl then refl then (u, refl, refl)
+      then refl then refl then refl then refl then refl
+      then refl then refl then refl then refl then refl
       then refl
       then refl then refl then refl then refl
-      then refl then refl then refl then refl then (w, refl, refl)
+      then refl then refl then refl then refl then refl
       then refl,
   record { acks-genuine = refl; rulings-rightful = refl },
 )
 
 -- What else the premises say. A ruling counts, refused or not: this one is for a value above the opening sum.
 abbrev pub refusedRuling : Run
-refusedRuling = start ▹ ruling 0 (slip 0 1 14 1) (Refuse OutOfRange)
+refusedRuling = today ▹ ruling 0 (slip 0 1 14 1) (Refuse OutOfRange)
 
 pub refused-rulings-count : Obeys page refusedRuling × (Premises page bad refusedRuling → ⊥)
-unfolding ledgerAt noAcks equal conflict hasMost lowestAffordable apply settleAtMost settle step
+unfolding rulesAt ledgerAt noAcks equal conflict hasMost mostAcked lowestAffordable apply settleAtMost settle stepUnder
 refused-rulings-count = (tt then refl, λ keeps. false≢true (keeps .rulings-rightful))
 
 -- "an earlier call at that sender": here the call comes after the ack
 abbrev ackTooSoon : Run
-ackTooSoon = start ▹ ack 0 1 t Note ▹ acks 1 t
+ackTooSoon = today ▹ ack 0 1 t Note ▹ acks 1 t
 
 pub acked-earlier : Obeys page ackTooSoon × (Premises page bad ackTooSoon → ⊥)
-unfolding ledgerAt noAcks equal conflict hasMost lowestAffordable apply settleAtMost settle step
+unfolding rulesAt ledgerAt noAcks equal conflict hasMost mostAcked lowestAffordable apply settleAtMost settle stepUnder
 acked-earlier = (tt then refl then refl, λ keeps. false≢true (keeps .acks-genuine))
 
 -- a run has calls at honest seats alone: seat 4, not the bad seat 5, nor seat 6, for there is none
 pub honest-alone :
-    (atHonest page bad (start ▹ acks 4 t) ≡ true)
-    × (atHonest page bad (start ▹ acks 5 t) ≡ false)
-    × (atHonest page bad (start ▹ acks 6 t) ≡ false)
+    (atHonest page bad (today ▹ acks 4 t) ≡ true)
+    × (atHonest page bad (today ▹ acks 5 t) ≡ false)
+    × (atHonest page bad (today ▹ acks 6 t) ≡ false)
 honest-alone = (refl, refl, refl)
 
 -- bad seats are counted among the n: the first and the last of them, and none behind
@@ -422,7 +422,7 @@ abbrev pub poor : Opening
 poor = pageWith 6 1 (0 ∷ 5 ∷ [])
 
 abbrev pub oneWaits : Run
-oneWaits = start ▹ ruling 0 (slip 0 1 5 1) (Accept 0)
+oneWaits = today ▹ ruling 0 (slip 0 1 5 1) (Accept 0)
 
 abbrev pub bothBooked : Run
 bothBooked = oneWaits ▹ ruling 0 (slip 1 1 5 0) (Accept 2)
@@ -436,17 +436,17 @@ abbrev pub three : Opening
 three = pageWith 6 1 (1 ∷ 2 ∷ 5 ∷ [])
 
 abbrev twoWait : Run
-twoWait = start ▹ ruling 0 (slip 0 1 6 1) (Accept 0) ▹ ruling 0 (slip 1 1 8 2) (Accept 0)
+twoWait = today ▹ ruling 0 (slip 0 1 6 1) (Accept 0) ▹ ruling 0 (slip 1 1 8 2) (Accept 0)
 
 abbrev pub chain : Run
 chain = twoWait ▹ ruling 0 (slip 2 1 5 0) (Accept 3) ▹ ruling 0 (slip 2 1 5 0) (Refuse PastNumber)
 
--- "Recipient may equal payer."
+-- "Recipient may equal payer": acks and rulings for such slips are still taken
 abbrev pub toItself : Run
-toItself = start ▹ ruling 0 (slip 0 1 4 0) (Accept 1)
+toItself = today ▹ ruling 0 (slip 0 1 4 0) (Accept 1)
 
 pub slate-runs-obey : Obeys poor oneMore × Obeys three chain × Obeys page toItself
-unfolding ledgerAt noAcks equal conflict hasMost lowestAffordable apply settleAtMost settle step
+unfolding rulesAt ledgerAt noAcks equal conflict hasMost mostAcked lowestAffordable apply settleAtMost settle stepUnder
 slate-runs-obey = (tt then refl then refl then refl, tt then refl then refl then refl then refl, tt then refl)
 
 -- .. and what the slates say, of seat 1 too, which is not called. In the witness v has left at seat 4 and has not come to seat 0.

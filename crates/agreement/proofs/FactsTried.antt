@@ -8,7 +8,7 @@ use native.Mathlib.Omega.{arith}
 use lib.Dec.{lit≤, lit<}
 use borrow.Author.Tests.{le-ltb}
 use Rattle.agreement.specs.Types.{Seat, Transfer, Opening, Circulated, Ack, Inquiry, Acknowledge, Accept, Propose, Note, Balance, Refuse}
-use Rattle.agreement.specs.Runs.{Opens, FewBad, honest, Event, Run, start, _▹_, Within, at-end, sooner, throughout, atHonest, ledgerAt, Obeys, proposed}
+use Rattle.agreement.specs.Runs.{Opens, FewBad, honest, Event, Run, _▹_, Within, at-end, sooner, throughout, atHonest, rulesAt, ledgerAt, Obeys, proposed}
 use Rattle.agreement.specs.Premises.{ackedBy, Premises}
 use Rattle.agreement.specs.Slates.{leaveAtMost, leaveAll, slateAt}
 use Rattle.agreement.specs.Claims.{SameCounts, Claim}
@@ -18,9 +18,9 @@ use Rattle.model.specs.declared.Refusal.the-variants.{PastNumber, FutureNumber,
 use Rattle.model.specs.Records.{seatOf, accountOf, noAcks, sumCurrents, entryOf}
 use Rattle.model.specs.Transfers.{equal, conflict}
 use Rattle.model.specs.Openings.{openReply}
-use Rattle.model.specs.Acks.{holds, acksFor, enough, hasMost}
+use Rattle.model.specs.Acks.{holds, acksFor, enough, hasMost, mostAcked}
 use Rattle.model.specs.Settling.{lowestAffordable, apply, settleAtMost, settle}
-use Rattle.model.specs.Calls.{step}
+use Rattle.model.specs.Switches.{stepUnder}
 use Rattle.model.proofs.Rows.{slip, pageWith}
 use Rattle.model.proofs.Sums.{impossible}
 use Rattle.model.proofs.Equality.{conflict-sound}
@@ -28,14 +28,14 @@ use Rattle.agreement.proofs.Places.{happened-found}
 use Rattle.agreement.proofs.Deeds.{that-slip}
 use Rattle.agreement.proofs.Demand3.{demand3}
 use Rattle.agreement.proofs.Theorem1.{theorem1}
-use Rattle.agreement.proofs.Examples.{page, t, u, v, bad, asked, acks, ack, ruling, _then_, waits, witness, witness-keeps, putsForward, free, refusedRuling, poor, oneWaits, bothBooked, oneMore, three, chain, slate}
+use Rattle.agreement.proofs.Examples.{page, t, u, v, bad, today, asked, acks, ack, ruling, _then_, waits, witness, witness-keeps, putsForward, free, refusedRuling, poor, oneWaits, bothBooked, oneMore, three, chain, slate}
 
 -- One more run: every honest seat acks t. At seat 0 the bad seat's ack of u comes first; the acks of seats 0 to 3 make five with it,
 -- which conflict, and t is put forward; then the bad seat acks t too, and is refused. Seat 1 gets two acks and one of them again, the
 -- others are lost: this far first.
 abbrev oneLacks : Run
 oneLacks =
-    start
+    today
     ▹ acks 0 t ▹ acks 1 t ▹ acks 2 t ▹ acks 3 t ▹ acks 4 t
     ▹ ack 0 5 u Note ▹ ack 0 0 t Note ▹ ack 0 1 t Note ▹ ack 0 2 t Note ▹ ack 0 3 t (Propose t)
     ▹ ack 0 5 t (Refuse AckConflicting)
@@ -67,7 +67,7 @@ pub accepts-tried :
     × (must oneLacks (ack 1 3 t Note) ≡ false)
     × (must oneLacks (ruling 1 t (Accept 1)) ≡ true)
     × (must undisputedRun (ruling 0 t (Refuse PastNumber)) ≡ false)
-unfolding ledgerAt noAcks equal conflict hasMost lowestAffordable apply settleAtMost settle step
+unfolding rulesAt ledgerAt noAcks equal conflict hasMost mostAcked lowestAffordable apply settleAtMost settle stepUnder
 accepts-tried = (refl, refl, refl, refl, refl, refl, refl, refl, refl, refl)
 
 -- Of a slip at a seat, after a run: it was accepted there; twice its recorded acks exceed n + 3f; a ruling that is not refused named it;
@@ -89,7 +89,7 @@ pub accepted-tried :
     × (reasons page 1 t undisputedRun ≡ (false, false, false, false))
     × (reasons poor 1 (slip 0 1 5 1) oneWaits ≡ (false, false, false, false))
     × (reasons page 0 t undisputedRun ≡ (true, false, false, false))
-unfolding ledgerAt noAcks equal conflict hasMost lowestAffordable apply settleAtMost settle step
+unfolding rulesAt ledgerAt noAcks equal conflict hasMost mostAcked lowestAffordable apply settleAtMost settle stepUnder
 accepted-tried = (refl, refl, refl, refl, refl, refl, refl)
 
 -- the sum of all current numbers at seat 0
@@ -97,8 +97,8 @@ abbrev currents : Run → ℕ
 currents run = sumCurrents (ledgerAt poor (seatOf 0) run .entries)
 
 -- K's count is the rise in that sum: K 0, K 2, K 1
-pub count-tried : (currents start ≡ 0) × (currents oneWaits ≡ 0) × (currents bothBooked ≡ 2) × (currents oneMore ≡ 3)
-unfolding ledgerAt noAcks equal conflict hasMost lowestAffordable apply settleAtMost settle step
+pub count-tried : (currents today ≡ 0) × (currents oneWaits ≡ 0) × (currents bothBooked ≡ 2) × (currents oneMore ≡ 3)
+unfolding rulesAt ledgerAt noAcks equal conflict hasMost mostAcked lowestAffordable apply settleAtMost settle stepUnder
 count-tried = (refl, refl, refl, refl)
 
 -- what holds of seats 0 to 4 holds of every honest seat of the page
@@ -122,12 +122,12 @@ pub undisputed-keeps :
     × Premises page bad undisputedRun
     × AllAcked page bad t undisputedRun
     × AllReached page bad (seatOf 0) t undisputedRun
-unfolding ledgerAt noAcks equal conflict hasMost lowestAffordable apply settleAtMost settle step
+unfolding rulesAt ledgerAt noAcks equal conflict hasMost mostAcked lowestAffordable apply settleAtMost settle stepUnder
 undisputed-keeps = (
   refl,
   tt
       then refl then refl then refl then refl then refl
-      then refl then refl then refl then refl then (t, refl, refl)
+      then refl then refl then refl then refl then refl
       then refl
       then refl then refl then refl
       then refl,
@@ -172,7 +172,7 @@ nobody s = false
 
 abbrev lateAck : Run
 lateAck =
-    start
+    today
     ▹ acks 0 t ▹ acks 1 t ▹ acks 2 t
     ▹ ack 1 0 t Note ▹ ack 1 1 t (Accept 1) ▹ acks 1 t2
     ▹ ack 0 1 t2 (Refuse FutureNumber)
@@ -195,7 +195,7 @@ pub late-keeps :
     × Premises threeSeats nobody lateAck
     × AllAcked threeSeats nobody t lateAck
     × AllReached threeSeats nobody (seatOf 0) t lateAck
-unfolding ledgerAt noAcks equal conflict hasMost openReply lowestAffordable apply settleAtMost settle step
+unfolding rulesAt ledgerAt noAcks equal conflict hasMost mostAcked openReply lowestAffordable apply settleAtMost settle stepUnder
 late-keeps = (
   record { full-page = refl; not-refused = refl },
   lit≤ tt,
@@ -252,7 +252,7 @@ abbrev single : Opening
 single = pageWith 1 0 (10 ∷ 3 ∷ [])
 
 abbrev two : Run
-two = start ▹ acks 0 t ▹ ack 0 0 t (Accept 1) ▹ acks 0 t2 ▹ ack 0 0 t2 (Accept 1)
+two = today ▹ acks 0 t ▹ ack 0 0 t (Accept 1) ▹ acks 0 t2 ▹ ack 0 0 t2 (Accept 1)
 
 abbrev alone : Run
 alone = two ▹ asked 0 (Inquiry (accountOf 0)) (Balance 2) ▹ acks 0 v ▹ ack 0 0 v (Accept 1)
@@ -267,7 +267,7 @@ pub alone-keeps :
     Opens single × FewBad single nobody × (atHonest single nobody alone ≡ true) × Obeys single alone × Premises single nobody alone
     × (slate single 0 two ≡ (2, 2) ∷ (11, 0) ∷ [])
     × (slate single 0 alone ≡ (8, 2) ∷ (5, 1) ∷ [])
-unfolding ledgerAt noAcks equal conflict hasMost openReply lowestAffordable apply settleAtMost settle step slateAt leaveAll leaveAtMost
+unfolding rulesAt ledgerAt noAcks equal conflict hasMost mostAcked openReply lowestAffordable apply settleAtMost settle stepUnder slateAt leaveAll leaveAtMost
 alone-keeps = (
   record { full-page = refl; not-refused = refl },
   lit≤ tt,
@@ -286,9 +286,9 @@ pub claim-says : Claim single nobody alone
     × (2 is 2)
     × (2 is 2)
     × (SameCounts single (seatOf 0) two (seatOf 0) alone → 2 is 8)
-unfolding ledgerAt noAcks equal conflict hasMost lowestAffordable apply settleAtMost settle step slateAt leaveAll leaveAtMost
+unfolding rulesAt ledgerAt noAcks equal conflict hasMost mostAcked lowestAffordable apply settleAtMost settle stepUnder slateAt leaveAll leaveAtMost
 claim-says c = (
-  c .agree (start ▹ acks 0 t) (start ▹ acks 0 t ▹ ack 0 0 t (Accept 1) ▹ acks 0 t2) (ack 0 0 t (Accept 1)) (ack 0 0 t2 (Accept 1)) t t2
+  c .agree (today ▹ acks 0 t) (today ▹ acks 0 t ▹ ack 0 0 t (Accept 1) ▹ acks 0 t2) (ack 0 0 t (Accept 1)) (ack 0 0 t2 (Accept 1)) t t2
       (sooner (sooner (sooner (sooner (sooner at-end))))) refl (sooner (sooner (sooner at-end))) refl refl,
   c .balances alone (seatOf 0) (accountOf 0) at-end refl,
   c .counts alone (seatOf 0) (accountOf 0) at-end refl,
@@ -315,12 +315,12 @@ pub facts-say : Facts single alone
     × (1 is 3 → true ≡ false)
     × (1 is 3 → true ≡ false)
     × (1 ≤ 0 → 0 ≤ 2 → (x : Transfer) × (x .account ≡ accountOf 0) × (x .number ≡ 0) × (acceptedBy (seatOf 0) x alone ≡ true))
-unfolding ledgerAt noAcks equal conflict hasMost lowestAffordable apply settleAtMost settle step
+unfolding rulesAt ledgerAt noAcks equal conflict hasMost mostAcked lowestAffordable apply settleAtMost settle stepUnder
 facts-say f = (
-  f .currents-rise start alone (seatOf 0) (accountOf 0) (sooner (sooner (sooner (sooner (sooner (sooner (sooner at-end))))))) at-end,
+  f .currents-rise today alone (seatOf 0) (accountOf 0) (sooner (sooner (sooner (sooner (sooner (sooner (sooner at-end))))))) at-end,
   f .count-is-rise (two ▹ asked 0 (Inquiry (accountOf 0)) (Balance 2) ▹ acks 0 v) (ack 0 0 v (Accept 1)) (Ack (seatOf 0) v) (Accept 1) at-end refl,
   f .count-is-rise (two ▹ asked 0 (Inquiry (accountOf 0)) (Balance 2)) (acks 0 v) (Circulated v) Acknowledge (sooner at-end) refl,
-  f .acked-once start (start ▹ acks 0 t ▹ ack 0 0 t (Accept 1)) (acks 0 t) (acks 0 t2) t t2
+  f .acked-once today (today ▹ acks 0 t ▹ ack 0 0 t (Accept 1)) (acks 0 t) (acks 0 t2) t t2
       (sooner (sooner (sooner (sooner (sooner (sooner at-end)))))) (sooner (sooner (sooner (sooner at-end)))) refl refl refl refl,
   f .accepted-exactly alone (seatOf 0) t at-end,
   f .waits-exactly alone (seatOf 0) t at-end,
@@ -331,12 +331,12 @@ facts-say f = (
 pub facts-say-too :
     (Facts poor oneWaits → true ≡ true)
     × (Facts page oneLacks → (3 < 6) × (accountOf 0 ≡ accountOf 0) × (1 is 1))
-    × (Facts (pageWith 1 0 (4_294_967_295 ∷ [])) start → 4_294_967_295 < 4_294_967_296)
-unfolding ledgerAt noAcks equal conflict hasMost lowestAffordable apply settleAtMost settle step
+    × (Facts (pageWith 1 0 (4_294_967_295 ∷ [])) today → 4_294_967_295 < 4_294_967_296)
+unfolding rulesAt ledgerAt noAcks equal conflict hasMost mostAcked lowestAffordable apply settleAtMost settle stepUnder
 facts-say-too = (
   λ f. f .accepted-exactly oneWaits (seatOf 0) (slip 0 1 5 1) at-end refl,
   λ f. f .acks-stand oneLacks (seatOf 0) (seatOf 3) (accountOf 0) t at-end refl,
-  λ f. f .sums start (seatOf 0) at-end .1,
+  λ f. f .sums today (seatOf 0) at-end .1,
 )
 
 -- .. and the accounts: behind the two all is 0; of the second, which has 5 and has booked one slip, that is not said; and the two have the
@@ -345,7 +345,7 @@ pub accounts-say : Facts single alone
     → (2 ≤ 2 → (0 is 0) × (0 is 0))
     × (2 ≤ 1 → (5 is 0) × (1 is 0))
     × (13 is 13)
-unfolding ledgerAt noAcks equal conflict hasMost lowestAffordable apply settleAtMost settle step
+unfolding rulesAt ledgerAt noAcks equal conflict hasMost mostAcked lowestAffordable apply settleAtMost settle stepUnder
 accounts-say f = (
   f .behind alone (seatOf 0) (accountOf 2) at-end,
   f .behind alone (seatOf 0) (accountOf 1) at-end,
@@ -358,7 +358,7 @@ abbrev twoSeats : Opening
 twoSeats = pageWith 2 0 (10 ∷ 3 ∷ [])
 
 abbrev acceptedThere : Run
-acceptedThere = start ▹ ack 0 0 t Note ▹ ack 0 1 t (Accept 1) ▹ ack 1 0 t Note
+acceptedThere = today ▹ ack 0 0 t Note ▹ ack 0 1 t (Accept 1) ▹ ack 1 0 t Note
 
 abbrev nextNumber : Run
 nextNumber = acceptedThere ▹ ack 1 1 u (Propose t) ▹ ruling 1 t (Accept 1) ▹ ack 0 0 t2 Note
@@ -367,8 +367,8 @@ abbrev disputed : Run
 disputed = nextNumber ▹ ack 0 1 (slip 0 2 5 1) (Propose t2)
 
 pub disputed-obeys : Obeys twoSeats disputed
-unfolding ledgerAt noAcks equal conflict hasMost lowestAffordable apply settleAtMost settle step
-disputed-obeys = tt then refl then refl then refl then (t, refl, refl) then refl then refl then (t2, refl, refl)
+unfolding rulesAt ledgerAt noAcks equal conflict hasMost mostAcked lowestAffordable apply settleAtMost settle stepUnder
+disputed-obeys = tt then refl then refl then refl then refl then refl then refl then refl
 
 -- "Once a slip is accepted, this seat puts nothing forward for that number." It is not said of another seat, nor of the next number, nor
 -- of what came before. And a run in which seat 0 did so would break the facts, also with another slip.
@@ -376,18 +376,18 @@ pub proposals-say :
     (Facts twoSeats disputed → seatOf 0 ≡ seatOf 1 → ⊥)
     × (Facts twoSeats disputed → 1 is 2 → ⊥)
     × (Facts twoSeats disputed → Within (acceptedThere ▹ ack 1 1 u (Propose t) ▹ ruling 1 t (Accept 1)) acceptedThere → ⊥)
-    × (Facts twoSeats (start ▹ ruling 0 t (Accept 1) ▹ ack 0 1 u (Propose u)) → ⊥)
+    × (Facts twoSeats (today ▹ ruling 0 t (Accept 1) ▹ ack 0 1 u (Propose u)) → ⊥)
 proposals-say = (
   λ f same.
-      f .none-proposed-after (start ▹ ack 0 0 t Note) acceptedThere (ack 0 1 t (Accept 1)) (ack 1 1 u (Propose t)) t t
+      f .none-proposed-after (today ▹ ack 0 0 t Note) acceptedThere (ack 0 1 t (Accept 1)) (ack 1 1 u (Propose t)) t t
       (sooner at-end) (sooner (sooner (sooner at-end))) same refl refl refl refl,
   λ f.
-      f .none-proposed-after (start ▹ ack 0 0 t Note) nextNumber (ack 0 1 t (Accept 1)) (ack 0 1 (slip 0 2 5 1) (Propose t2)) t t2
+      f .none-proposed-after (today ▹ ack 0 0 t Note) nextNumber (ack 0 1 t (Accept 1)) (ack 0 1 (slip 0 2 5 1) (Propose t2)) t t2
       (sooner (sooner (sooner (sooner at-end)))) at-end refl refl refl refl,
   λ f after.
       f .none-proposed-after (acceptedThere ▹ ack 1 1 u (Propose t)) acceptedThere (ruling 1 t (Accept 1)) (ack 1 1 u (Propose t)) t t
       after (sooner (sooner (sooner at-end))) refl refl refl refl refl,
   λ f.
-      f .none-proposed-after start (start ▹ ruling 0 t (Accept 1)) (ruling 0 t (Accept 1)) (ack 0 1 u (Propose u)) t u
+      f .none-proposed-after today (today ▹ ruling 0 t (Accept 1)) (ruling 0 t (Accept 1)) (ack 0 1 u (Propose u)) t u
       at-end at-end refl refl refl refl refl,
 )

@@ -6,14 +6,19 @@ use borrow.Author.Tests.{eq-eqb, eqb-true}
 use Prim.Native.Nat.{ℕ}
 use mathlib.Core.List.{List}
 use Rattle.agreement.specs.Types.{Seat, Ledger, Opening, Message, Reply, ListReply}
-use Rattle.agreement.specs.Runs.{Call, message, waitingList, Event, Run, start, _▹_, Within, at-end, sooner, happened, throughout, sameSeat, nextLedger, ledgerAt, MayReply, Conforms, EachCall, Obeys}
+use Rattle.agreement.specs.Runs.{Call, message, waitingList, switch, Event, Run, start, _▹_, Within, at-end, sooner, happened, throughout, sameSeat, rulesAt, nextLedger, ledgerAt, MayReply, Conforms, Obeys}
 use Rattle.model.specs.Records.{seatOf, freshLedger}
-use Rattle.model.specs.Calls.{step}
+use Rattle.model.specs.Switches.{Rules, stepUnder}
 use Rattle.model.proofs.Sums.{impossible, both}
+use Rattle.model.proofs.Switching.{switched-same}
 
--- the start is a place
-pub the-start : (r : Run) → Within start r
-the-start start = at-end
+-- the rules under which each seat started; and the start is a place
+abbrev pub startedUnder : Run → Seat → Rules
+startedUnder (start from) = from
+startedUnder (r ▹ e) = startedUnder r
+
+pub the-start : (r : Run) → Within (start (startedUnder r)) r
+the-start (start from) = at-end
 the-start (r ▹ e) = sooner (the-start r)
 
 -- a place in what came before a place
@@ -26,10 +31,10 @@ pub before : {p r : Run} {e : Event} → Within (p ▹ e) r → Within p r
 before w = within-trans (sooner at-end) w
 
 -- nothing happened at the start
-pub nothing-yet : {A : Type 0} {p : Run} {e : Event} → Within (p ▹ e) start → A
-nothing-yet w = go w refl
+pub nothing-yet : {A : Type 0} {p : Run} {e : Event} {from : Seat → Rules} → Within (p ▹ e) (start from) → A
+nothing-yet {from = from} w = go w refl
   where
-    go : {A : Type 0} {p r : Run} {e : Event} → Within (p ▹ e) r → r ≡ start → A
+    go : {A : Type 0} {p r : Run} {e : Event} → Within (p ▹ e) r → r ≡ start from → A
     go at-end same = impossible (cc)
     go (sooner w) same = impossible (cc)
 
@@ -48,7 +53,7 @@ pub data Order (p q : Run) (e d : Event) : Type 0 where
   later : Within (q ▹ d) p → Order p q e d
 
 pub order : {p q : Run} {e d : Event} (r : Run) → Within (p ▹ e) r → Within (q ▹ d) r → Order p q e d
-order start w v = nothing-yet w
+order (start from) w v = nothing-yet w
 order (r ▹ c) w v = go (last-or-sooner w) (last-or-sooner v) (order r)
   where
     go : {p q : Run} {e d : Event} → ((p ≡ r) × (e ≡ c)) ⊎ Within (p ▹ e) r → ((q ≡ r) × (d ≡ c)) ⊎ Within (q ▹ d) r
@@ -61,7 +66,7 @@ order (r ▹ c) w v = go (last-or-sooner w) (last-or-sooner v) (order r)
 -- a test that some event passes: such an event
 pub happened-found : (test : Event → Bool) (r : Run) → happened test r ≡ true
     → (p : Run) × (e : Event) × Within (p ▹ e) r × (test e ≡ true)
-happened-found test start h = impossible (cc)
+happened-found test (start from) h = impossible (cc)
 happened-found test (r ▹ e) h = go (happened test r) refl (happened-found test r)
   where
     go : (b : Bool) → happened test r ≡ b
@@ -84,15 +89,12 @@ pub throughout-at : (test : Run → Event → Bool) {p r : Run} {e : Event} → 
 throughout-at test {p} {e = e} h at-end = both (throughout test p) (test p e) h .1
 throughout-at test h (sooner {r = r} {e = d} w) = throughout-at test (both (throughout test r) (test r d) h .0) w
 
--- a run whose calls are so answered is such a run at each place
-pub calls-before : (Right : Ledger → Call → Type 0) (o : Opening) {p r : Run} → EachCall Right o r → Within p r → EachCall Right o p
-calls-before Right o ok at-end = ok
-calls-before Right o ok (sooner w) = calls-before Right o (ok .0) w
-
+-- a run that obeys, obeys at each place
 pub obeys-before : (o : Opening) {p r : Run} → Obeys o r → Within p r → Obeys o p
-obeys-before o ok w = calls-before Conforms o ok w
+obeys-before o ok at-end = ok
+obeys-before o ok (sooner w) = obeys-before o (ok .0) w
 
-pub obeys-at : (o : Opening) {p r : Run} {e : Event} → Obeys o r → Within (p ▹ e) r → Conforms (ledgerAt o (e .at) p) (e .call)
+pub obeys-at : (o : Opening) {p r : Run} {e : Event} → Obeys o r → Within (p ▹ e) r → Conforms (rulesAt (e .at) p) (ledgerAt o (e .at) p) (e .call)
 obeys-at o ok w = obeys-before o ok w .1
 
 -- a seat, from the test
@@ -104,27 +106,29 @@ seat-self s = eq-eqb (s .0) (s .0) refl
 
 -- the ledger after a message is what the message left
 pub ledger-after : (o : Opening) (s : Seat) (r : Run) (e : Event) (m : Message) (q : Reply) → e .at ≡ s → e .call ≡ message m q
-    → ledgerAt o s (r ▹ e) ≡ step (ledgerAt o s r) m .next
+    → ledgerAt o s (r ▹ e) ≡ stepUnder (rulesAt s r) (ledgerAt o s r) m .next
 unfolding ledgerAt
 ledger-after o s r e m q seat call = rw (seat, call, seat-self s)
 
--- What stays true of a seat's ledger at one more event: at one elsewhere, at a waiting list, and at a message.
+-- What stays true of a seat's ledger at one more event: at one elsewhere, at a waiting list, at a switch, and at a message, under whatever rules.
 module _ (o : Opening) (s : Seat) (P : Run → Ledger → Type 0)
     (elsewhere : (r : Run) (e : Event) (l : Ledger) → sameSeat (e .at) s ≡ false → P r l → P (r ▹ e) l)
     (listed : (r : Run) (b a : List ℕ) (q : ListReply) (l : Ledger) → P r l → P (r ▹ record { at = s; call = waitingList b q a }) l)
-    (answered : (r : Run) (m : Message) (q : Reply) (l : Ledger)
-    → l ≡ ledgerAt o s r → Obeys o r → MayReply l m q → P r l → P (r ▹ record { at = s; call = message m q }) (step l m .next))
+    (switches : (r : Run) (l : Ledger) → P r l → P (r ▹ record { at = s; call = switch }) l)
+    (answered : (r : Run) (v : Rules) (m : Message) (q : Reply) (l : Ledger)
+    → l ≡ ledgerAt o s r → Obeys o r → MayReply v l m q → P r l → P (r ▹ record { at = s; call = message m q }) (stepUnder v l m .next))
   where
-    at-seat : (r : Run) (c : Call) → Obeys o r → Conforms (ledgerAt o s r) c
-        → P r (ledgerAt o s r) → P (r ▹ record { at = s; call = c }) (nextLedger (ledgerAt o s r) c)
-    at-seat r (message m q) obeys ok yet = answered r m q (ledgerAt o s r) refl obeys ok yet
+    at-seat : (r : Run) (c : Call) → Obeys o r → Conforms (rulesAt s r) (ledgerAt o s r) c
+        → P r (ledgerAt o s r) → P (r ▹ record { at = s; call = c }) (nextLedger (rulesAt s r) (ledgerAt o s r) c)
+    at-seat r (message m q) obeys ok yet = answered r (rulesAt s r) m q (ledgerAt o s r) refl obeys ok yet
     at-seat r (waitingList b q a) obeys ok yet = listed r b a q (ledgerAt o s r) yet
+    at-seat r switch obeys ok yet = rw (switched-same (rulesAt s r) (ledgerAt o s r)) (switches r (ledgerAt o s r) yet)
 
     pub one-event : (r : Run) (e : Event) → Obeys o (r ▹ e) → P r (ledgerAt o s r) → P (r ▹ e) (ledgerAt o s (r ▹ e))
     unfolding ledgerAt
     one-event r e ok yet = go (sameSeat (e .at) s) refl
       where
-        go : (b : Bool) → sameSeat (e .at) s ≡ b → P (r ▹ e) (cond b (nextLedger (ledgerAt o s r) (e .call)) (ledgerAt o s r))
+        go : (b : Bool) → sameSeat (e .at) s ≡ b → P (r ▹ e) (cond b (nextLedger (rulesAt s r) (ledgerAt o s r) (e .call)) (ledgerAt o s r))
         go true here =
             let seat = seat-is (e .at) s here in
             let this : (record { at = s; call = e .call }) ≡ e = λ i. record { at = sym seat i; call = e .call } in
@@ -132,7 +136,7 @@ module _ (o : Opening) (s : Seat) (P : Run → Ledger → Type 0)
         go false there = elsewhere r e (ledgerAt o s r) there yet
 
     -- so at every place, if it is true of the opened ledger
-    pub ledger-induction : P start (freshLedger o) → (r : Run) → Obeys o r → P r (ledgerAt o s r)
+    pub ledger-induction : ((from : Seat → Rules) → P (start from) (freshLedger o)) → (r : Run) → Obeys o r → P r (ledgerAt o s r)
     unfolding ledgerAt
-    ledger-induction opened start ok = opened
+    ledger-induction opened (start from) ok = opened from
     ledger-induction opened (r ▹ e) ok = one-event r e ok (ledger-induction opened r (ok .0))

@@ -3,12 +3,13 @@ use mathlib.Core.Path.{_≡_, refl, sym, _∙_}
 use mathlib.Core.Bool.{true}
 use mathlib.Core.Option.{Option, none, some}
 use Rattle.agreement.specs.Types.{Transfer, Ledger, Refusal, Message, Reply, Circulate, Acknowledge, Accept, Propose, Note, Balance, Refuse}
-use Rattle.agreement.specs.Runs.{message, waitingList, start, _▹_, proposal, acksWith, StandsFor, MayReply}
-use Rattle.agreement.specs.Proposals.{TodayConforms, TodayObeys, PutForwardAlike}
+use Rattle.agreement.specs.Runs.{proposal, freeSlip, acksWith, StandsFor, MayReply}
+use Rattle.agreement.specs.Proposals.{PutForwardAlike}
 use Rattle.model.specs.Acks.{hasMost, mostAcked}
-use Rattle.model.specs.Calls.{step}
+use Rattle.model.specs.Switches.{Rules, firstRules, sinceRequest3, newest, stepUnder}
 use Rattle.model.proofs.Sums.{impossible}
 use Rattle.model.proofs.Proposals.{most-acked-most, same-acks}
+use Rattle.model.proofs.Refusing.{newest-step}
 use Rattle.model.proofs.Steps.{Happens, refused, circulated, acknowledged, accepted-by-acks, proposed, noted, accepted-by-ruling, told, happens, carries-most}
 
 -- a reply that carries a slip is P
@@ -22,19 +23,27 @@ carried (Balance b) t e = impossible (cc)
 carried (Refuse q) t e = impossible (cc)
 
 -- the most acked slip of the acks with the one at hand
-most-with : (l : Ledger) (m : Message) (t : Transfer) → step l m .reply ≡ Propose t → t ≡ mostAcked (acksWith l m)
-most-with l m t e = let c = carries-most l m t e in rw (c .2) (c .3)
+pub most-with : (v : Rules) (l : Ledger) (m : Message) (t : Transfer) → stepUnder v l m .reply ≡ Propose t → t ≡ mostAcked (acksWith l m)
+most-with v l m t e = let c = carries-most v l m t e in rw (c .2) (c .3)
 
-module _ (l : Ledger) (m : Message) where
-  -- what is replied today may be replied in a run
-  today : MayReply l m (step l m .reply)
-  today = go (proposal (step l m .reply)) refl
+-- a slip that is left free is P's
+pub free-carried : (v : Rules) (r : Reply) (t : Transfer) → freeSlip v r ≡ some t → r ≡ Propose t
+free-carried firstRules r t e = carried r t e
+free-carried sinceRequest3 r t e = impossible (cc)
+
+module _ (v : Rules) (l : Ledger) (m : Message) where
+  abbrev due : Reply
+  due = stepUnder v l m .reply
+
+  -- what the step replies may be replied
+  pub step-replies : MayReply v l m (stepUnder v l m .reply)
+  step-replies = go (freeSlip v due) refl
     where
-      go : (o : Option Transfer) → proposal (step l m .reply) ≡ o → StandsFor (step l m .reply) o (acksWith l m) (step l m .reply)
+      go : (o : Option Transfer) → freeSlip v due ≡ o → StandsFor due o (acksWith l m) due
       go none e = refl
       go (some t) e =
-          let is = carried (step l m .reply) t e in
-          (t, is, rw (most-with l m t is) (most-acked-most (acksWith l m)))
+          let is = free-carried v due t e in
+          (t, is, rw (most-with v l m t is) (most-acked-most (acksWith l m)))
 
   -- in a run P has another slip, and the rest is what happens
   another : {q : Reply} {next : Ledger} (t u : Transfer) → q ≡ Propose t → hasMost (acksWith l m) u ≡ true → Happens l m q next → Happens l m (Propose u) next
@@ -48,30 +57,22 @@ module _ (l : Ledger) (m : Message) where
   another t u is most (told a e f same) = impossible (cc)
 
   -- what is replied in a run is one of the cases of what happens
-  pub happens-in-run : (r : Reply) → MayReply l m r → Happens l m r (step l m .next)
-  happens-in-run r h = go (proposal (step l m .reply)) refl h
+  pub happens-in-run : (r : Reply) → MayReply v l m r → Happens l m r (stepUnder v l m .next)
+  happens-in-run r h = go (freeSlip v due) refl h
     where
-      go : (o : Option Transfer) → proposal (step l m .reply) ≡ o → StandsFor (step l m .reply) o (acksWith l m) r → Happens l m r (step l m .next)
-      go none e is = rw is (happens l m)
-      go (some t) e (u, is, most) = rw is (another t u (carried (step l m .reply) t e) most (happens l m))
+      go : (o : Option Transfer) → freeSlip v due ≡ o → StandsFor due o (acksWith l m) r → Happens l m r (stepUnder v l m .next)
+      go none e is = rw is (happens v l m)
+      go (some t) e (u, is, most) = rw is (another t u (free-carried v due t e) most (happens v l m))
 
   -- a refusal is not free
-  pub refused-today : (q : Refusal) → MayReply l m (Refuse q) → step l m .reply ≡ Refuse q
-  refused-today q h = go (proposal (step l m .reply)) h
+  pub refused-due : (q : Refusal) → MayReply v l m (Refuse q) → stepUnder v l m .reply ≡ Refuse q
+  refused-due q h = go (freeSlip v due) h
     where
-      go : (o : Option Transfer) → StandsFor (step l m .reply) o (acksWith l m) (Refuse q) → step l m .reply ≡ Refuse q
+      go : (o : Option Transfer) → StandsFor due o (acksWith l m) (Refuse q) → due ≡ Refuse q
       go none is = sym is
       go (some t) (u, is, most) = impossible (cc)
 
-pub today-conforms : TodayConforms
-today-conforms l (message m r) is = rw is (today l m)
-today-conforms l (waitingList before r after) lists = lists
-
-pub today-obeys : TodayObeys
-today-obeys o start all = tt
-today-obeys o (run ▹ e) all = (today-obeys o run (all .0), today-conforms _ (e .call) (all .1))
-
 pub put-forward-alike : PutForwardAlike
 put-forward-alike l k m q t u first second same =
-    most-with l m t first
-    ∙ (same-acks (acksWith l m) (acksWith k q) (λ s. same (record { 0 = s })) ∙ sym (most-with k q u second))
+    most-with newest l m t (rw (newest-step l m) first)
+    ∙ (same-acks (acksWith l m) (acksWith k q) (λ s. same (record { 0 = s })) ∙ sym (most-with newest k q u (rw (newest-step k q) second)))

@@ -7,13 +7,13 @@ use mathlib.Core.Logic.{_⊎_, inl, inr}
 use mathlib.Core.Bool.{false}
 use mathlib.Core.List.{List}
 use Rattle.agreement.specs.Types.{Seat, Ledger, Opening, Message, Reply, ListReply}
-use Rattle.agreement.specs.Runs.{Opens, Call, message, waitingList, Event, Run, start, _▹_, Within, at-end, sooner, sameSeat, ledgerAt, Obeys}
+use Rattle.agreement.specs.Runs.{Opens, Call, message, waitingList, switch, Event, Run, start, _▹_, Within, at-end, sooner, sameSeat, ledgerAt, Obeys}
 use Rattle.agreement.proofs.Places.{the-start, nothing-yet, last-or-sooner, seat-self, one-event, ledger-induction}
 use Rattle.agreement.proofs.Proposals.{happens-in-run}
 use Rattle.agreement.proofs.Soundness.{group, Sound, opened-sound}
 use Rattle.agreement.proofs.StepLaws.{step-sound}
 use Rattle.model.specs.Records.{freshLedger}
-use Rattle.model.specs.Calls.{step}
+use Rattle.model.specs.Switches.{Rules, stepUnder}
 use Rattle.model.proofs.Sums.{impossible}
 use Rattle.model.proofs.Steps.{Happens}
 
@@ -23,31 +23,34 @@ sound o opens s =
     ledger-induction o s (λ r l. Sound o l)
     (λ r e l other ok. ok)
     (λ r b a q l ok. ok)
-    (λ r m q l is obeys h ok. step-sound o l (step l m .next) m q (group o opens) ok (happens-in-run l m q h))
-    (opened-sound o opens)
+    (λ r l ok. ok)
+    (λ r v m q l is obeys h ok. step-sound o l (stepUnder v l m .next) m q (group o opens) ok (happens-in-run v l m q h))
+    (λ from. opened-sound o opens)
 
 module _ (o : Opening) (opens : Opens o) (s : Seat) where
   -- P of the run and the ledger, at every place
   pub run-induction : (P : Run → Ledger → Type 0)
-      → P start (freshLedger o)
+      → ((from : Seat → Rules) → P (start from) (freshLedger o))
       → ((r : Run) (e : Event) (l : Ledger) → sameSeat (e .at) s ≡ false → P r l → P (r ▹ e) l)
       → ((r : Run) (b a : List ℕ) (q : ListReply) (l : Ledger) → P r l → P (r ▹ record { at = s; call = waitingList b q a }) l)
-      → ((r : Run) (m : Message) (q : Reply) (l : Ledger) → Sound o l → Happens l m q (step l m .next)
-      → P r l → P (r ▹ record { at = s; call = message m q }) (step l m .next))
+      → ((r : Run) (l : Ledger) → P r l → P (r ▹ record { at = s; call = switch }) l)
+      → ((r : Run) (m : Message) (q : Reply) (l next : Ledger) → Sound o l → Happens l m q next
+      → P r l → P (r ▹ record { at = s; call = message m q }) next)
       → (r : Run) → Obeys o r → P r (ledgerAt o s r)
-  run-induction P opened elsewhere listed answered =
-      ledger-induction o s P elsewhere listed
-      (λ r m q l is obeys h yet. answered r m q l (rw is (sound o opens s r obeys)) (happens-in-run l m q h) yet) opened
+  run-induction P opened elsewhere listed switches answered =
+      ledger-induction o s P elsewhere listed switches
+      (λ r v m q l is obeys h yet. answered r m q l (stepUnder v l m .next) (rw is (sound o opens s r obeys)) (happens-in-run v l m q h) yet)
+      opened
 
   -- P of the ledger, which messages keep: from a place to every later one
   module _ (P : Ledger → Type 0)
-      (kept : (l : Ledger) (m : Message) (q : Reply) → Sound o l → Happens l m q (step l m .next) → P l → P (step l m .next))
+      (kept : (l next : Ledger) (m : Message) (q : Reply) → Sound o l → Happens l m q next → P l → P next)
     where
       pub stays : {p r : Run} → Obeys o r → Within p r → P (ledgerAt o s p) → P (ledgerAt o s r)
       stays obeys at-end old = old
       stays obeys (sooner {r = r} {e = e} w) old =
-          one-event o s (λ r l. P l) (λ r e l other yet. yet) (λ r b a q l yet. yet)
-          (λ r m q l is here h yet. kept l m q (rw is (sound o opens s r here)) (happens-in-run l m q h) yet)
+          one-event o s (λ r l. P l) (λ r e l other yet. yet) (λ r b a q l yet. yet) (λ r l yet. yet)
+          (λ r v m q l is here h yet. kept l (stepUnder v l m .next) m q (rw is (sound o opens s r here)) (happens-in-run v l m q h) yet)
           r e obeys (stays (obeys .0) w old)
 
       -- so at every place, if it is true of the opened ledger
@@ -58,8 +61,9 @@ module _ (o : Opening) (opens : Opens o) (s : Seat) where
   -- Q of every earlier call at the seat and of the ledger now: true of each call when it is made, and later messages keep it
   module _ (Q : Call → Ledger → Type 0)
       (listed : (l : Ledger) (b a : List ℕ) (q : ListReply) → Q (waitingList b q a) l)
-      (made : (l : Ledger) (m : Message) (q : Reply) → Sound o l → Happens l m q (step l m .next) → Q (message m q) (step l m .next))
-      (kept : (l : Ledger) (m : Message) (q : Reply) (c : Call) → Sound o l → Happens l m q (step l m .next) → Q c l → Q c (step l m .next))
+      (switches : (l : Ledger) → Q switch l)
+      (made : (l next : Ledger) (m : Message) (q : Reply) → Sound o l → Happens l m q next → Q (message m q) next)
+      (kept : (l next : Ledger) (m : Message) (q : Reply) (c : Call) → Sound o l → Happens l m q next → Q c l → Q c next)
     where
       abbrev Past : Run → Ledger → Type 0
       Past r l = (p : Run) (e : Event) → Within (p ▹ e) r → e .at ≡ s → Q (e .call) l
@@ -74,8 +78,9 @@ module _ (o : Opening) (opens : Opens o) (s : Seat) where
 
       pub past-calls : (r : Run) → Obeys o r → (p : Run) (e : Event) → Within (p ▹ e) r → e .at ≡ s → Q (e .call) (ledgerAt o s r)
       past-calls =
-          run-induction Past (λ p e w at. nothing-yet w)
+          run-induction Past (λ from p e w at. nothing-yet w)
           (λ r d l other old. one-more r d l old (λ at. impossible (cc (other, seat-self s, at))))
           (λ r b a q l old. one-more r _ l old (λ at. listed l b a q))
-          (λ r m q l ok h old.
-          one-more r _ (step l m .next) (λ p e w at. kept l m q (e .call) ok h (old p e w at)) (λ at. made l m q ok h))
+          (λ r l old. one-more r _ l old (λ at. switches l))
+          (λ r m q l next ok h old.
+          one-more r _ next (λ p e w at. kept l next m q (e .call) ok h (old p e w at)) (λ at. made l next m q ok h))

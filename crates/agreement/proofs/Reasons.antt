@@ -7,7 +7,7 @@ use mathlib.Core.Logic.{_⊎_, inl, inr}
 use mathlib.Core.Bool.{Bool, true, _&&_}
 use mathlib.Core.Option.{some}
 use Rattle.agreement.specs.Types.{Seat, Account, Transfer, Full, Entry, Ledger, Opening, Message, Decision, Reply, Accept}
-use Rattle.agreement.specs.Runs.{Opens, message, waitingList, Event, Run, _▹_, Within, at-end, sooner, sameSeat, ledgerAt, Obeys, accepted, ruled, passes}
+use Rattle.agreement.specs.Runs.{Opens, message, waitingList, switch, Event, Run, _▹_, Within, at-end, sooner, sameSeat, ledgerAt, Obeys, accepted, ruled, passes}
 use Rattle.agreement.specs.Facts.{acceptedBy, taken, ruledFor}
 use Rattle.agreement.proofs.Places.{happened-holds, happened-later, seat-self}
 use Rattle.agreement.proofs.Soundness.{opened-entry, group, SoundEntry, Sound, admitted}
@@ -16,7 +16,6 @@ use Rattle.agreement.proofs.StepLaws.{Puts, puts-mark, puts-ack, puts-a
 use Rattle.model.specs.Records.{entryOf}
 use Rattle.model.specs.Transfers.{equal}
 use Rattle.model.specs.Acks.{acksFor, enough}
-use Rattle.model.specs.Calls.{step}
 use Rattle.model.proofs.Sums.{impossible}
 use Rattle.model.proofs.Equality.{equal-refl}
 use Rattle.model.proofs.Booking.{Cleared}
@@ -141,11 +140,12 @@ module _ (o : Opening) (opens : Opens o) (s : Seat) where
   pub all-reasons : (r : Run) → Obeys o r → (a : Account) → Reasons r a (entryOf (ledgerAt o s r) a)
   all-reasons =
       run-induction o opens s (λ r l. (a : Account) → Reasons r a (entryOf l a))
-      (λ a. rw (opened-entry o a) (record { why-waits = λ t waits. impossible (cc); why-booked = λ m from to. absurd (omega arith) }))
+      (λ from a. rw (opened-entry o a) (record { why-waits = λ t waits. impossible (cc); why-booked = λ m from to. absurd (omega arith) }))
       (λ r e l other old a. reasons-stay r (r ▹ e) a (entryOf l a) (entryOf l a) (sooner at-end) refl refl refl (old a))
       (λ r b a q l old c.
       reasons-stay r (r ▹ record { at = s; call = waitingList b q a }) c (entryOf l c) (entryOf l c) (sooner at-end) refl refl refl (old c))
-      (λ r m q l ok h old. step-reasons r m q l (step l m .next) ok h old)
+      (λ r l old c. reasons-stay r (r ▹ record { at = s; call = switch }) c (entryOf l c) (entryOf l c) (sooner at-end) refl refl refl (old c))
+      (λ r m q l next ok h old. step-reasons r m q l next ok h old)
 
   -- a slip with enough recorded acks was accepted
   pub decided-accepted : (r : Run) → Obeys o r → (t : Transfer)

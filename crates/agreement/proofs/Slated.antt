@@ -2,7 +2,7 @@
 use Prim.Native.Nat.{ℕ}
 use mathlib.Core.Path.{_≡_, refl, ap, _∙_}
 use Rattle.agreement.specs.Types.{Seat, Account, Entry, Ledger, Opening, Message, Reply, Balance, Inquiry}
-use Rattle.agreement.specs.Runs.{Opens, message, Event, Run, _▹_, Within, ledgerAt, Obeys, accepted}
+use Rattle.agreement.specs.Runs.{Opens, message, Event, Run, _▹_, Within, rulesAt, ledgerAt, Obeys, accepted}
 use Rattle.agreement.specs.Slates.{Slate, freshSlate, nextSlate, slateAt, join}
 use Rattle.agreement.proofs.Places.{before, obeys-before, obeys-at, seat-self}
 use Rattle.agreement.proofs.Proposals.{happens-in-run}
@@ -12,7 +12,6 @@ use Rattle.agreement.proofs.Reachable.{run-induction}
 use Rattle.agreement.proofs.StepLaws.{Turn, keeps, accepts, turn, answer-balance}
 use Rattle.agreement.proofs.SlateSettles.{Matches, quiet-matches, join-matches, settle-matches}
 use Rattle.model.specs.Records.{freshLedger, setEntry, withPending, withEntry}
-use Rattle.model.specs.Calls.{step}
 
 opened-matches : (o : Opening) → Matches (freshLedger o .entries) (freshSlate o)
 opened-matches o =
@@ -43,17 +42,18 @@ module _ (o : Opening) (opens : Opens o) (s : Seat) where
   pub slated : (r : Run) → Obeys o r → Matches (ledgerAt o s r .entries) (slateAt o s r)
   unfolding slateAt
   slated =
-      run-induction o opens s (λ r l. Matches (l .entries) (slateAt o s r)) (opened-matches o)
+      run-induction o opens s (λ r l. Matches (l .entries) (slateAt o s r)) (λ from. opened-matches o)
       (λ r e l other match. rw other match)
       (λ r b a q l match. rw (seat-self s) match)
-      (λ r m q l ok h match.
+      (λ r l match. rw (seat-self s) match)
+      (λ r m q l next ok h match.
       let g = group o opens in
-      rw (seat-self s) (turn-matches o l (step l m .next) m q (slateAt o s r) g ok (turn o l (step l m .next) m q g ok h) match))
+      rw (seat-self s) (turn-matches o l next m q (slateAt o s r) g ok (turn o l next m q g ok h) match))
 
 -- the balance in each reply B is the slate's
 pub told-slate : (o : Opening) (run p : Run) (e : Event) (a : Account) (b : ℕ) → Opens o → Obeys o run
     → Within (p ▹ e) run → e .call ≡ message (Inquiry a) (Balance b) → b ≡ slateAt o (e .at) p .balance a
 told-slate o run p e a b opens obeys w is =
     let l = ledgerAt o (e .at) p in
-    let answer = happens-in-run l (Inquiry a) (Balance b) (rw is at (obeys-at o obeys w)) in
+    let answer = happens-in-run (rulesAt (e .at) p) l (Inquiry a) (Balance b) (rw is at (obeys-at o obeys w)) in
     answer-balance l _ (Inquiry a) (Balance b) a b refl refl answer ∙ slated o opens (e .at) p (obeys-before o obeys (before w)) .balance-is a

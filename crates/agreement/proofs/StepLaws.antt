@@ -4,7 +4,7 @@
 use Prim.Native.Nat.{_-_, _*_, _<_, _≤_, ℕ, _+_}
 use native.Mathlib.Omega.{arith}
 use mathlib.Core.List.{List}
-use mathlib.Core.Path.{_≡_, refl, ap, sym, _∙_}
+use mathlib.Core.Path.{_≡_, refl, ap, sym, subst, _∙_}
 use mathlib.Core.Logic.{_⊎_, inl, inr}
 use mathlib.Core.Bool.{true, false, not, _&&_}
 use lib.Dec.{leb}
@@ -20,14 +20,16 @@ use Rattle.model.specs.Records.{seatOf, withAcked, withProposed, withPending, e
 use Rattle.model.specs.Acks.{holds, conflicts, acksFor, acksRecorded, enough, twoConflict, mustPropose}
 use Rattle.model.specs.Refusals.{outOfRange, waitsAlready, ackFrom}
 use Rattle.model.specs.Settling.{settle}
-use Rattle.model.specs.Calls.{step}
+use Rattle.model.specs.Calls.{rulesIn}
+use Rattle.model.specs.Switches.{Rules, stepUnder}
 use Rattle.model.proofs.Sums.{impossible, some-counted, both}
 use Rattle.model.proofs.Equality.{equal-sound, equal-refl}
 use Rattle.model.proofs.Access.{entry-set-same, set-each, with-entry-same}
 use Rattle.model.proofs.Tallies.{most-sound}
 use Rattle.model.proofs.Booking.{SameButBalance, Cleared}
 use Rattle.model.proofs.Settles.{Turned, kept, booked, settle-entry}
-use Rattle.model.proofs.Refusing.{SomeHolds, some-holds, rulesIn, refused-by}
+use Rattle.model.proofs.Switching.{ack-rules}
+use Rattle.model.proofs.Refusing.{SomeHolds, some-holds, rulesThere, refused-by}
 use Rattle.model.proofs.Steps.{Eligible, Recordable, entryWithAck, acceptedIn, Happens, refused, circulated, acknowledged, accepted-by-acks, proposed, noted, accepted-by-ruling, told}
 
 -- every call leaves a sound ledger
@@ -473,8 +475,8 @@ pub data AckRefused (l : Ledger) (s : Seat) (t : Transfer) (q : Refusal) : Type 
   repeated : holds t (ackFrom (entryOf l (t .account)) s) ≡ true → AckRefused l s t q
   conflicting : conflicts t (ackFrom (entryOf l (t .account)) s) ≡ true → AckRefused l s t q
 
-pub ack-refused : (l : Ledger) (s : Seat) (t : Transfer) (q : Refusal) → step l (Ack s t) .reply ≡ Refuse q → AckRefused l s t q
-ack-refused l s t q h = go (some-holds (rulesIn l (Ack s t)) q (refused-by l (Ack s t) q h))
+pub ack-refused : (v : Rules) (l : Ledger) (s : Seat) (t : Transfer) (q : Refusal) → stepUnder v l (Ack s t) .reply ≡ Refuse q → AckRefused l s t q
+ack-refused v l s t q h = go (subst (SomeHolds q) (ack-rules v l s t) (some-holds (rulesThere v l (Ack s t)) q (refused-by v l (Ack s t) q h)))
   where
     go : SomeHolds q (rulesIn l (Ack s t)) → AckRefused l s t q
     go (inl is) = unknown-seat (leb-true (l .seats) (s .0) (is .0))

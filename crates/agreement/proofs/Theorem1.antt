@@ -10,12 +10,12 @@ use mathlib.Core.Option.{some}
 use lib.Dec.{ltb}
 use borrow.Author.Tests.{lt-ltb, ltb-true}
 use Rattle.agreement.specs.Types.{Seat, Transfer, Slot, Empty, Full, Entry, Ledger, Opening, Refusal, Message, Circulated, Ack, Reply, Circulate, Acknowledge, Accept, Propose, Note, Balance, Refuse}
-use Rattle.agreement.specs.Runs.{Opens, countBelow, FewBad, honest, message, Event, Run, _▹_, Within, sameSeat, ledgerAt, MayReply, Obeys, isRefusal, accepted, proposed, ruled}
+use Rattle.agreement.specs.Runs.{Opens, countBelow, FewBad, honest, message, Event, Run, _▹_, Within, sameSeat, rulesAt, ledgerAt, MayReply, Obeys, isRefusal, accepted, proposed, ruled}
 use Rattle.agreement.specs.Premises.{Premises}
 use Rattle.agreement.specs.Facts.{acceptedBy}
 use Rattle.agreement.specs.Undisputed.{AllAcked, tooEarly, brings, AllReached, Theorem1}
 use Rattle.agreement.proofs.Places.{before, within-trans, happened-found, obeys-before, obeys-at, seat-is, ledger-after}
-use Rattle.agreement.proofs.Proposals.{happens-in-run, refused-today}
+use Rattle.agreement.proofs.Proposals.{happens-in-run, refused-due}
 use Rattle.agreement.proofs.Deeds.{acked-is, Accepts, by-ack, by-ruling, accepted-is, brings-is, deed-found}
 use Rattle.agreement.proofs.Soundness.{group, Sound, same-range}
 use Rattle.agreement.proofs.StepLaws.{Held, stays-held, now-held, BookedOrWaits, stays-settled, answer-acknowledge, AckRefused, unknown-seat, out-of-range, past-number, future-number, waits-already, repeated, conflicting, ack-refused}
@@ -30,7 +30,7 @@ use Rattle.model.specs.Records.{seatOf, entryOf}
 use Rattle.model.specs.Transfers.{equal}
 use Rattle.model.specs.Acks.{holds, conflicts, acksFor, enough}
 use Rattle.model.specs.Refusals.{outOfRange, waitsAlready, ackFrom}
-use Rattle.model.specs.Calls.{step}
+use Rattle.model.specs.Switches.{Rules, stepUnder}
 use Rattle.model.proofs.Sums.{impossible, both}
 use Rattle.model.proofs.Equality.{equal-sound, equal-refl, conflict-sound}
 use Rattle.model.proofs.Refusing.{refusal-keeps}
@@ -130,7 +130,7 @@ module _ (o : Opening) (bad : Seat → Bool) (run : Run) (opens : Opens o) (few 
         let e = found .1 in
         let k = ledgerAt o (e .at) (found .0) in
         let ok = sound o opens (e .at) (found .0) (obeys-before o obeys (before (found .2))) in
-        let answer = happens-in-run k (Circulated t) Acknowledge (rw (acked-is (e .call) t (found .4)) at (obeys-at o obeys (found .2))) in
+        let answer = happens-in-run (rulesAt (e .at) (found .0)) k (Circulated t) Acknowledge (rw (acked-is (e .call) t (found .4)) at (obeys-at o obeys (found .2))) in
         let fit = answer-acknowledge o k _ (Circulated t) Acknowledge t (group o opens) ok refl refl answer .eligible in
         (omega (arith, fit .is-next), λ l too. same-range o l k t too ok ∙ fit .in-range)
 
@@ -183,12 +183,15 @@ module _ (o : Opening) (bad : Seat → Bool) (run : Run) (opens : Opens o) (few 
         l : Ledger
         l = ledgerAt o z q
 
-        taken : (y : Reply) → MayReply l (Ack s t) y → isRefusal y ≡ false → Arrived s t (entryOf (step l (Ack s t) .next) (t .account))
+        v : Rules
+        v = rulesAt z q
+
+        taken : (y : Reply) → MayReply v l (Ack s t) y → isRefusal y ≡ false → Arrived s t (entryOf (stepUnder v l (Ack s t) .next) (t .account))
         taken y h is =
             let ok = sound o opens z q (obeys-before o obeys (before w)) in
-            inl (now-held o l (step l (Ack s t) .next) (Ack s t) y (group o opens) ok s t refl is (happens-in-run l (Ack s t) y h))
+            inl (now-held o l _ (Ack s t) y (group o opens) ok s t refl is (happens-in-run v l (Ack s t) y h))
 
-        go : (y : Reply) → r ≡ y → MayReply l (Ack s t) y → Arrived s t (entryOf (step l (Ack s t) .next) (t .account))
+        go : (y : Reply) → r ≡ y → MayReply v l (Ack s t) y → Arrived s t (entryOf (stepUnder v l (Ack s t) .next) (t .account))
         go Circulate at h = taken Circulate h refl
         go Acknowledge at h = taken Acknowledge h refl
         go (Accept c) at h = taken (Accept c) h refl
@@ -196,8 +199,8 @@ module _ (o : Opening) (bad : Seat → Bool) (run : Run) (opens : Opens o) (few 
         go Note at h = taken Note h refl
         go (Balance b) at h = taken (Balance b) h refl
         go (Refuse x) at h =
-            let due = refused-today l (Ack s t) x h in
-            rw (refusal-keeps l (Ack s t) x due) (refused-arrived q z s x (before w) fair (rw at at late) (ack-refused l s t x due))
+            let due = refused-due v l (Ack s t) x h in
+            rw (refusal-keeps v l (Ack s t) x due) (refused-arrived q z s x (before w) fair (rw at at late) (ack-refused v l s t x due))
 
     -- and stays so
     stays-arrived : (z s : Seat) {p r : Run} → Obeys o r → Within p r
@@ -205,12 +208,11 @@ module _ (o : Opening) (bad : Seat → Bool) (run : Run) (opens : Opens o) (few 
     stays-arrived z s =
         stays o opens z (λ l. Arrived s t (entryOf l (t .account))) go
       where
-        go : (l : Ledger) (m : Message) (q : Reply) → Sound o l → Happens l m q (step l m .next)
-            → Arrived s t (entryOf l (t .account)) → Arrived s t (entryOf (step l m .next) (t .account))
-        go l m q ok h (inl held) = inl (stays-held o l (step l m .next) m q (group o opens) ok s t h (t .account) held)
-        go l m q ok h (inr other) =
-            inr
-            (other .0, other .1, other .2, stays-settled o l (step l m .next) m q (group o opens) ok h (other .0) (t .account) (other .3))
+        go : (l next : Ledger) (m : Message) (q : Reply) → Sound o l → Happens l m q next
+            → Arrived s t (entryOf l (t .account)) → Arrived s t (entryOf next (t .account))
+        go l next m q ok h (inl held) = inl (stays-held o l next m q (group o opens) ok s t h (t .account) held)
+        go l next m q ok h (inr other) =
+            inr (other .0, other .1, other .2, stays-settled o l next m q (group o opens) ok h (other .0) (t .account) (other .3))
 
     -- t's number was booked, or a slip of it waits, or all acks are held: either way t was accepted
     arrived-accepted : (p : Run) (z : Seat) → Within p run → honest o bad z ≡ true

@@ -7,15 +7,16 @@ use mathlib.Core.List.{List, [], _∷_, map}
 use lib.Dec.{lit<}
 use lib.ListN.{replicate}
 use Rattle.agreement.specs.Types.{Transfer, Empty, Full, AckSlot, Ledger, Opening, Message, Ack, Propose, Note}
-use Rattle.agreement.specs.Runs.{Run, start, _▹_, ledgerAt, acksWith, Obeys, ObeysToday}
+use Rattle.agreement.specs.Runs.{Run, start, _▹_, rulesAt, ledgerAt, acksWith, Obeys}
 use Rattle.agreement.specs.Proposals.{SameAcks}
 use Rattle.agreement.proofs.Proposals.{put-forward-alike}
-use Rattle.agreement.proofs.Examples.{page, t, u, ack, _then_}
+use Rattle.agreement.proofs.Examples.{page, t, u, today, ack, _then_}
 use Rattle.model.specs.Records.{seatOf, noAcks}
 use Rattle.model.specs.Transfers.{equal, conflict}
 use Rattle.model.specs.Acks.{ackAt, hasMost, mostAcked}
 use Rattle.model.specs.Settling.{lowestAffordable, apply, settleAtMost, settle}
 use Rattle.model.specs.Calls.{step}
+use Rattle.model.specs.Switches.{Rules, firstRules, newest, stepUnder}
 use Rattle.model.proofs.Rows.{slip, pageWith}
 use Rattle.model.proofs.Sums.{impossible}
 
@@ -28,18 +29,19 @@ abbrev w : Transfer
 w = slip 0 1 4 0
 
 -- Acks of t from seats 0 to 2, of u from 3 to 5 and of w from 6 reach seat 1, those of t first and w's last, and seat 2, those of u first and one of t last.
-abbrev tFirst : Run
-tFirst = start ▹ ack 1 0 t Note ▹ ack 1 1 t Note ▹ ack 1 2 t Note ▹ ack 1 3 u Note ▹ ack 1 4 u Note ▹ ack 1 5 u Note
+abbrev tFirst : Run → Run
+tFirst run = run ▹ ack 1 0 t Note ▹ ack 1 1 t Note ▹ ack 1 2 t Note ▹ ack 1 3 u Note ▹ ack 1 4 u Note ▹ ack 1 5 u Note
 
 abbrev uFirst : Run → Run
 uFirst run = run ▹ ack 2 3 u Note ▹ ack 2 4 u Note ▹ ack 2 5 u Note ▹ ack 2 6 w Note ▹ ack 2 1 t Note ▹ ack 2 2 t Note
 
-abbrev tied : Transfer → Run
-tied v = uFirst (tFirst ▹ ack 1 6 w (Propose t)) ▹ ack 2 0 t (Propose v)
+-- .. and both put a slip forward, seat 2 this one; under these rules
+abbrev tied : Rules → Transfer → Run
+tied v x = uFirst (tFirst (start (λ s. v)) ▹ ack 1 6 w (Propose t)) ▹ ack 2 0 t (Propose x)
 
 -- today both put t forward, whose lowest seat is 0
-pub tied-today : ObeysToday eight (tied t)
-unfolding ledgerAt noAcks equal conflict hasMost mostAcked lowestAffordable apply settleAtMost settle step
+pub tied-today : Obeys eight (tied newest t)
+unfolding rulesAt ledgerAt noAcks equal conflict hasMost mostAcked lowestAffordable apply settleAtMost settle step stepUnder
 tied-today =
     tt
     then refl then refl then refl then refl then refl then refl then refl
@@ -47,10 +49,10 @@ tied-today =
 
 -- The ledgers of the two seats before the last ack, and that ack.
 abbrev one : Ledger
-one = ledgerAt eight (seatOf 1) tFirst
+one = ledgerAt eight (seatOf 1) (tFirst today)
 
 abbrev other : Ledger
-other = ledgerAt eight (seatOf 2) (uFirst start)
+other = ledgerAt eight (seatOf 2) (uFirst today)
 
 abbrev wLast : Message
 wLast = Ack (seatOf 6) w
@@ -70,20 +72,20 @@ not-most : (x : Transfer) → Propose w ≡ Propose x → hasMost recorded x ≡
 unfolding equal conflict hasMost
 not-most x is most = let same : w ≡ x = cc in let z : false ≡ true = rw (← same) at most in impossible (cc)
 
--- a run may also hold a seat that puts u forward, which no seat does today; but none that puts w forward
-pub tied-in-a-run : Obeys eight (tied u) × (ObeysToday eight (tied u) → ⊥) × (Obeys eight (tied w) → ⊥)
-unfolding ledgerAt noAcks equal conflict hasMost mostAcked lowestAffordable apply settleAtMost settle step
+-- under the first rules a seat may also put u forward, which no seat does today; but none puts w forward
+pub tied-in-a-run : Obeys eight (tied firstRules u) × (Obeys eight (tied newest u) → ⊥) × (Obeys eight (tied firstRules w) → ⊥)
+unfolding rulesAt ledgerAt noAcks equal conflict hasMost mostAcked lowestAffordable apply settleAtMost settle step stepUnder
 tied-in-a-run = (
   tt
       then refl then refl then refl then refl then refl then refl then (t, refl, refl)
       then refl then refl then refl then refl then refl then refl then (u, refl, refl),
-  λ today. let z : Propose u ≡ Propose t = today .1 in not-one u t z (lit< tt),
+  λ obeys. let z : Propose u ≡ Propose t = obeys .1 in not-one u t z (lit< tt),
   λ obeys. not-most (obeys .1 .0) (obeys .1 .1) (obeys .1 .2),
 )
 
 -- both are answered P, and with that ack they have the same acks: what is said of two such calls is said of these
 pub same-acks-tried : (step one wLast .reply ≡ Propose t) × (step other tLast .reply ≡ Propose t) × SameAcks one wLast other tLast
-unfolding ledgerAt noAcks equal conflict hasMost mostAcked lowestAffordable apply settleAtMost settle step
+unfolding rulesAt ledgerAt noAcks equal conflict hasMost mostAcked lowestAffordable apply settleAtMost settle step stepUnder
 same-acks-tried =
     let first : acksWith one wLast ≡ recorded = refl in
     let second : acksWith other tLast ≡ recorded = refl in
@@ -91,16 +93,16 @@ same-acks-tried =
 
 -- Where the acks differ, so may the slips: at one seat three acks of t and two of u, at another the other way round.
 abbrev moreT : Ledger
-moreT = ledgerAt page (seatOf 1) (start ▹ ack 1 0 t Note ▹ ack 1 1 t Note ▹ ack 1 2 t Note ▹ ack 1 3 u Note)
+moreT = ledgerAt page (seatOf 1) (today ▹ ack 1 0 t Note ▹ ack 1 1 t Note ▹ ack 1 2 t Note ▹ ack 1 3 u Note)
 
 abbrev moreU : Ledger
-moreU = ledgerAt page (seatOf 2) (start ▹ ack 2 3 u Note ▹ ack 2 4 u Note ▹ ack 2 2 u Note ▹ ack 2 0 t Note)
+moreU = ledgerAt page (seatOf 2) (today ▹ ack 2 3 u Note ▹ ack 2 4 u Note ▹ ack 2 2 u Note ▹ ack 2 0 t Note)
 
 pub same-acks-needed :
     (step moreT (Ack (seatOf 4) u) .reply ≡ Propose t)
     × (step moreU (Ack (seatOf 1) t) .reply ≡ Propose u)
     × (SameAcks moreT (Ack (seatOf 4) u) moreU (Ack (seatOf 1) t) → ⊥)
-unfolding ledgerAt noAcks equal conflict hasMost mostAcked lowestAffordable apply settleAtMost settle step
+unfolding rulesAt ledgerAt noAcks equal conflict hasMost mostAcked lowestAffordable apply settleAtMost settle step stepUnder
 same-acks-needed = (
   refl,
   refl,

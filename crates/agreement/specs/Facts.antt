@@ -6,7 +6,7 @@ use mathlib.Core.Bool.{Bool, true, false, not, _&&_, _||_}
 use mathlib.Core.Option.{some}
 use lib.ListN.{take}
 use Rattle.agreement.specs.Types.{Seat, Account, Transfer, Full, Ledger, Opening, Message, Request, Circulated, Ack, Decision, Inquiry, Reply, Circulate, Acknowledge, Accept, Propose, Note, Balance, Refuse}
-use Rattle.agreement.specs.Runs.{Opens, Call, message, waitingList, Event, Run, _▹_, Within, happened, sameSeat, ledgerAt, Obeys, isAccept, isRefusal, acked, accepted, proposed, ruled, passes}
+use Rattle.agreement.specs.Runs.{Opens, Call, message, waitingList, switch, Event, Run, _▹_, Within, happened, sameSeat, ledgerAt, Obeys, isAccept, isRefusal, acked, accepted, proposed, ruled, passes}
 use Rattle.agreement.specs.Slates.{slateAt}
 use Rattle.model.specs.Basics.{sumOf}
 use Rattle.model.specs.Records.{withAck, sumBalances, sumCurrents, entryOf}
@@ -18,6 +18,7 @@ use Rattle.model.specs.Refusals.{ackFrom}
 abbrev pub answeredK : Call → Bool
 answeredK (message m r) = isAccept r
 answeredK (waitingList before r after) = false
+answeredK switch = false
 
 -- "K carries how many slips this call booked"; no other reply has a count
 abbrev pub countOf : Reply → ℕ
@@ -37,6 +38,7 @@ mustAccept l (message (Ack s t) r) = not (isRefusal r) && enough (l .seats) (l .
 mustAccept l (message (Decision t) r) = not (isRefusal r)
 mustAccept l (message (Inquiry a) r) = false
 mustAccept l (waitingList before r after) = false
+mustAccept l switch = false
 
 -- a call at seat s in this run accepted the slip
 abbrev pub acceptedBy : Seat → Transfer → Run → Bool
@@ -46,6 +48,7 @@ acceptedBy s t run = happened (λ e. sameSeat (e .at) s && passes (equal t) (acc
 abbrev pub taken : Call → Bool
 taken (message m r) = not (isRefusal r)
 taken (waitingList before r after) = false
+taken switch = false
 
 -- a ruling at seat s in this run names the slip, and is not refused
 abbrev pub ruledFor : Seat → Transfer → Run → Bool

@@ -4,7 +4,7 @@ use mathlib.Core.Bool.{Bool, true, false, cond, not, _&&_, _||_}
 use mathlib.Core.List.{List, [], _∷_, _++_}
 use mathlib.Core.Option.{Option, none, some}
 use Rattle.agreement.specs.Types.{Seat, Transfer, Opening, Request, Circulated, Ack, Decision, Inquiry}
-use Rattle.agreement.specs.Runs.{Call, message, waitingList, Run, start, _▹_, happened, throughout, honest, sameSeat, acked, proposed, ruled, passes}
+use Rattle.agreement.specs.Runs.{Call, message, waitingList, switch, Run, start, _▹_, happened, throughout, honest, sameSeat, acked, proposed, ruled, passes}
 use Rattle.model.specs.Basics.{every}
 use Rattle.model.specs.Transfers.{sameNumber, equal, conflict}
 
@@ -23,6 +23,7 @@ genuine o bad before (message (Ack s t) r) = implies (honest o bad s) (ackedBy s
 genuine o bad before (message (Decision t) r) = true
 genuine o bad before (message (Inquiry a) r) = true
 genuine o bad before (waitingList buffer r after) = true
+genuine o bad before switch = true
 
 -- a ruling in this run has the slip's account and number
 abbrev pub ruledOn : Transfer → Run → Bool
@@ -39,7 +40,7 @@ likewise t (some u) = cond (sameNumber t u) (u ∷ []) []
 
 -- the slips with t's account and number that calls of this run put forward
 abbrev pub proposals : Transfer → Run → List Transfer
-proposals t start = []
+proposals t (start from) = []
 proposals t (r ▹ e) = likewise t (proposed (e .call)) ++ proposals t r
 
 -- "some call put forward a slip with that account and number": there is such a slip

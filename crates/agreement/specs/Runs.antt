@@ -1,4 +1,5 @@
--- Document 01, "A run, as demand 3 means it": calls, runs, the ledger of a seat at any place of a run, and what a call did.
+-- Document 01, "A run, as demand 3 means it": calls, runs, the ledger of a seat at any place of a run, and what a call did. And document 02, request 3: a
+-- seat that switches to newer rules, on a day of its own, and the rules of a seat at any place.
 use Prim.Native.Nat.{ℕ, zero, suc, _+_, _≤_}
 use mathlib.Core.Path.{_≡_}
 use mathlib.Core.Bool.{Bool, true, false, cond, not, _&&_, _||_}
@@ -12,7 +13,8 @@ use Rattle.model.specs.Records.{seatOf, freshLedger, entryOf, withAck}
 use Rattle.model.specs.Acks.{hasMost}
 use Rattle.model.specs.Replies.{letterOf}
 use Rattle.model.specs.Openings.{openReply}
-use Rattle.model.specs.Calls.{step, Lists}
+use Rattle.model.specs.Calls.{Lists}
+use Rattle.model.specs.Switches.{Rules, firstRules, sinceRequest3, nextRules, switched, stepUnder}
 
 -- "Take any opening page that is not refused": a page has 32 balances.
 pub record Opens (o : Opening) : Type 0 where
@@ -32,21 +34,22 @@ FewBad o bad = countBelow (λ i. bad (seatOf i)) (o .seats) ≤ o .faults
 abbrev pub honest : Opening → (Seat → Bool) → Seat → Bool
 honest o bad s = ltb (s .0) (o .seats) && not (bad s)
 
--- A call with what it was answered: a message and its reply; or a waiting list: what the lent buffer held, the reply, and what the
--- buffer held after it.
+-- A call with what it was answered: a message and its reply; a waiting list: what the lent buffer held, the reply, and what the
+-- buffer held after it; or the seat switches to the newer rules, which nothing answers.
 pub data Call : Type 0 where
   message : Message → Reply → Call
   waitingList : List ℕ → ListReply → List ℕ → Call
+  switch : Call
 
 -- One call at one seat.
 pub record Event : Type 0 where
   pub at : Seat
   pub call : Call
 
--- "A run is any list of calls": nothing yet, or a run and one more event after it.
+-- "A run is any list of calls": nothing yet, with the rules under which each seat starts; or a run and one more event after it.
 infixl 20 _▹_
 pub data Run : Type 0 where
-  start : Run
+  start : (Seat → Rules) → Run
   _▹_ : Run → Event → Run
 
 -- A place in a run: its end, or a place in the run before its last event. `Within (p ▹ e) r`: e is an event of r, and p is all that
@@ -57,12 +60,12 @@ pub data Within : Run → Run → Type 0 where
 
 -- some event of the run passes the test
 abbrev pub happened : (Event → Bool) → Run → Bool
-happened p start = false
+happened p (start from) = false
 happened p (r ▹ e) = happened p r || p e
 
 -- each event passes the test, which is also told what came before it
 abbrev pub throughout : (Run → Event → Bool) → Run → Bool
-throughout p start = true
+throughout p (start from) = true
 throughout p (r ▹ e) = throughout p r && p r e
 
 -- "any list of calls at honest seats"
@@ -72,16 +75,28 @@ atHonest o bad run = throughout (λ before e. honest o bad (e .at)) run
 abbrev pub sameSeat : Seat → Seat → Bool
 sameSeat s z = eqb (s .0) (z .0)
 
--- the ledger that a call leaves. A waiting list leaves it as it is
-abbrev pub nextLedger : Ledger → Call → Ledger
-nextLedger l (message m r) = step l m .next
-nextLedger l (waitingList before r after) = l
+-- the rules of a seat after a call of its own: a switch leads to the next
+abbrev pub rulesAfter : Rules → Call → Rules
+rulesAfter v (message m r) = v
+rulesAfter v (waitingList before r after) = v
+rulesAfter v switch = nextRules v
+
+-- the rules of seat s after a run
+unfoldable pub rulesAt : Seat → Run → Rules
+rulesAt s (start from) = from s
+rulesAt s (r ▹ e) = cond (sameSeat (e .at) s) (rulesAfter (rulesAt s r) (e .call)) (rulesAt s r)
+
+-- the ledger that a call leaves, under the rules of its seat. A waiting list leaves it as it is; after a switch the seat goes on with the ledger that it held
+abbrev pub nextLedger : Rules → Ledger → Call → Ledger
+nextLedger v l (message m r) = stepUnder v l m .next
+nextLedger v l (waitingList before r after) = l
+nextLedger v l switch = switched v l
 
 -- the ledger of seat s after a run: "each holds a book just opened from that page", and "Each call gets the book that the call before it at that
 -- seat left, at first the opened one"
 unfoldable pub ledgerAt : Opening → Seat → Run → Ledger
-ledgerAt o s start = freshLedger o
-ledgerAt o s (r ▹ e) = cond (sameSeat (e .at) s) (nextLedger (ledgerAt o s r) (e .call)) (ledgerAt o s r)
+ledgerAt o s (start from) = freshLedger o
+ledgerAt o s (r ▹ e) = cond (sameSeat (e .at) s) (nextLedger (rulesAt s r) (ledgerAt o s r) (e .call)) (ledgerAt o s r)
 
 -- the slip that a reply P carries
 abbrev pub proposal : Reply → Option Transfer
@@ -101,38 +116,30 @@ acksWith l (Ack s t) = withAck (entryOf l (t .account)) s t .acks
 acksWith l (Decision t) = entryOf l (t .account) .acks
 acksWith l (Inquiry a) = entryOf l a .acks
 
--- a reply that may stand for the one that is due, given the slip that this carries, if any, and the acks
+-- the slip of a P that is left free under these rules: under the first, any; since request 2 of document 02, none
+abbrev pub freeSlip : Rules → Reply → Option Transfer
+freeSlip firstRules r = proposal r
+freeSlip sinceRequest3 r = none
+
+-- a reply that may stand for the one that is due, given its slip that is left free, if any, and the acks: P with any of the slips with the most acks
 abbrev pub StandsFor : Reply → Option Transfer → List AckSlot → Reply → Type 0
 StandsFor due none acks r = r ≡ due
 StandsFor due (some t) acks r = (u : Transfer) × (r ≡ Propose u) × (hasMost acks u ≡ true)
 
--- What a message may be replied in a run: what the definitions say, save that a P may carry any of the slips with the most acks, since seats take request 2
--- of document 02 on different days and until then put forward any of those.
-abbrev pub MayReply : Ledger → Message → Reply → Type 0
-MayReply l m r = StandsFor (step l m .reply) (proposal (step l m .reply)) (acksWith l m) r
+-- What a message may be replied under a set of rules: what the step under them replies, or what may stand for it.
+abbrev pub MayReply : Rules → Ledger → Message → Reply → Type 0
+MayReply v l m r = StandsFor (stepUnder v l m .reply) (freeSlip v (stepUnder v l m .reply)) (acksWith l m) r
 
--- a call is answered as a run allows
-abbrev pub Conforms : Ledger → Call → Type 0
-Conforms l (message m r) = MayReply l m r
-Conforms l (waitingList before r after) = Lists l before r after
+-- a call is answered by these rules. A seat may switch at any place
+abbrev pub Conforms : Rules → Ledger → Call → Type 0
+Conforms v l (message m r) = MayReply v l m r
+Conforms v l (waitingList before r after) = Lists l before r after
+Conforms v l switch = Unit {0}
 
--- a call is answered by today's definitions
-abbrev pub AnsweredToday : Ledger → Call → Type 0
-AnsweredToday l (message m r) = r ≡ step l m .reply
-AnsweredToday l (waitingList before r after) = Lists l before r after
-
--- every call of a run is answered in a certain way, by the ledger that its seat has there
-abbrev pub EachCall : (Ledger → Call → Type 0) → Opening → Run → Type 0
-EachCall Right o start = Unit {0}
-EachCall Right o (r ▹ e) = EachCall Right o r × Right (ledgerAt o (e .at) r) (e .call)
-
--- .. as a run allows
+-- every call of a run is answered by the rules and the ledger that its seat has there
 abbrev pub Obeys : Opening → Run → Type 0
-Obeys o r = EachCall Conforms o r
-
--- .. by today's definitions
-abbrev pub ObeysToday : Opening → Run → Type 0
-ObeysToday o r = EachCall AnsweredToday o r
+Obeys o (start from) = Unit {0}
+Obeys o (r ▹ e) = Obeys o r × Conforms (rulesAt (e .at) r) (ledgerAt o (e .at) r) (e .call)
 
 -- "A call's arguments and reply tell what it did." Whether it was answered A, K, or R
 abbrev pub isAcknowledge : Reply → Bool
@@ -152,6 +159,7 @@ acked (message (Ack s t) r) = none
 acked (message (Decision t) r) = none
 acked (message (Inquiry a) r) = none
 acked (waitingList before r after) = none
+acked switch = none
 
 -- "An ack or ruling answered K accepts its slip at that seat."
 abbrev pub accepted : Call → Option Transfer
@@ -161,11 +169,13 @@ accepted (message (Ack s t) r) = cond (isAccept r) (some t) none
 accepted (message (Decision t) r) = cond (isAccept r) (some t) none
 accepted (message (Inquiry a) r) = none
 accepted (waitingList before r after) = none
+accepted switch = none
 
 -- "A reply P puts forward the slip that it carries."
 abbrev pub proposed : Call → Option Transfer
 proposed (message m r) = proposal r
 proposed (waitingList before r after) = none
+proposed switch = none
 
 -- the slip of a ruling, refused or not
 abbrev pub ruled : Call → Option Transfer
@@ -175,6 +185,7 @@ ruled (message (Ack s t) r) = none
 ruled (message (Decision t) r) = some t
 ruled (message (Inquiry a) r) = none
 ruled (waitingList before r after) = none
+ruled switch = none
 
 -- there is a slip, and it passes the test
 abbrev pub passes : (Transfer → Bool) → Option Transfer → Bool

@@ -71,5 +71,5 @@ nextSlate s (some t) = leaveAll (join s t)
 
 -- the slate of seat s after a run
 unfoldable pub slateAt : Opening → Seat → Run → Slate
-slateAt o s start = freshSlate o
+slateAt o s (start from) = freshSlate o
 slateAt o s (r ▹ e) = cond (sameSeat (e .at) s) (nextSlate (slateAt o s r) (accepted (e .call))) (slateAt o s r)

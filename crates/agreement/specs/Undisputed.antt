@@ -4,7 +4,7 @@ use mathlib.Core.Bool.{Bool, true, false, not, _&&_}
 use mathlib.Core.Option.{some}
 use lib.Dec.{eqb}
 use Rattle.agreement.specs.Types.{Seat, Transfer, Opening, Request, Circulated, Ack, Decision, Inquiry, Reply}
-use Rattle.agreement.specs.Runs.{Opens, FewBad, honest, Call, message, waitingList, Event, Run, _▹_, Within, happened, atHonest, sameSeat, Obeys, isRefusal, accepted, proposed}
+use Rattle.agreement.specs.Runs.{Opens, FewBad, honest, Call, message, waitingList, switch, Event, Run, _▹_, Within, happened, atHonest, sameSeat, Obeys, isRefusal, accepted, proposed}
 use Rattle.agreement.specs.Premises.{ackedBy, Premises}
 use Rattle.model.specs.Transfers.{equal}
 use Rattle.model.specs.Replies.{valuesOf}
@@ -27,6 +27,7 @@ brings s t (message (Ack z u) r) = sameSeat z s && (equal t u && not (tooEarly r
 brings s t (message (Decision u) r) = false
 brings s t (message (Inquiry a) r) = false
 brings s t (waitingList before r after) = false
+brings s t switch = false
 
 -- such an ack from seat s reached seat z in this run
 abbrev pub reached : Seat → Seat → Transfer → Run → Bool

@@ -28,6 +28,7 @@ pub fn code_of(r: Refusal) -> u8
         Refusal::ShortBuffer => 17,
         Refusal::TooManyMessages => 18,
         Refusal::NoRoom => 19,
+        Refusal::SelfPayment => 20,
     }
 }
 

@@ -10,7 +10,7 @@ use borrow.Author.Tests.{leb-false, eqb-false}
 use Rattle.model.specs.declared.Seat.{Seat}
 use Rattle.model.specs.declared.Account.{Account}
 use Rattle.model.specs.declared.Transfer.{Transfer}
-use Rattle.model.specs.Refusals.{firstRefusal, unknownSeat, unknownAccount, outOfRange, pastNumber, futureNumber, transferRules, circulatedRules, ackRules}
+use Rattle.model.specs.Refusals.{firstRefusal, unknownSeat, unknownAccount, outOfRange, pastNumber, futureNumber, transferRules, offerRules, circulatedRules, ackRules}
 use Rattle.model.proofs.Sums.{neither}
 use Rattle.model.proofs.Refusing.{none-holds, next-number}
 use Rattle.layout.specs.Layout.{ledgerIn, entryIn}
@@ -52,11 +52,16 @@ module _ (ws : List ℕ) (t : Transfer) where
       let fail = none-holds (transferRules (ledgerIn ws) (entryIn ws (t .account)) t) passed in
       fits-by (fail .0) (fail .1 .0) (fail .1 .1 .0)
 
-  -- the same of a circulated slip, and of an ack, whose seat has its place too
+  -- the same of what a request or slip meets first, of a slip, and of an ack, whose seat has its place too
+  pub offer-fits : firstRefusal (offerRules (ledgerIn ws) (entryIn ws (t .account)) t) ≡ none → Fits
+  offer-fits passed =
+      let fail = none-holds (offerRules (ledgerIn ws) (entryIn ws (t .account)) t) passed in
+      fits-by (fail .0) (fail .1 .1 .0) (fail .1 .1 .1 .0)
+
   pub circulated-fits : firstRefusal (circulatedRules (ledgerIn ws) (entryIn ws (t .account)) t) ≡ none → Fits
   circulated-fits passed =
       let fail = none-holds (circulatedRules (ledgerIn ws) (entryIn ws (t .account)) t) passed in
-      fits-by (fail .0) (fail .1 .0) (fail .1 .1 .0)
+      fits-by (fail .0) (fail .1 .1 .0) (fail .1 .1 .1 .0)
 
   pub ack-fits : (s : Seat) → firstRefusal (ackRules (ledgerIn ws) (entryIn ws (t .account)) s t) ≡ none → Fits × (s .0 < 16)
   ack-fits s passed =

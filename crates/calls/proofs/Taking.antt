@@ -21,11 +21,12 @@ use Rattle.model.specs.Records.{withAck, withPending, withProposed, withEntry}
 use Rattle.model.specs.Acks.{holds, acksFor, acksRecorded, enough, mustPropose, mostAcked}
 use Rattle.model.specs.Replies.{letterOf, valuesOf}
 use Rattle.model.specs.Refusals.{firstRefusal}
-use Rattle.model.specs.Calls.{Due, replied, accepts, Effect, tallied, waits, finishedBy, finished, step}
+use Rattle.model.specs.Calls.{Due, replied, accepts, Effect, tallied, waits, finishedBy, finished, step, rulesIn}
 use Rattle.model.proofs.Equality.{equal-refl}
 use Rattle.model.proofs.Sums.{impossible, sum-at-least}
 use Rattle.model.proofs.Access.{set-entry-twice, with-entry-read, with-entry-same}
-use Rattle.model.proofs.Refusing.{rulesIn, effectIn, refuses, not-refused}
+use Rattle.model.specs.Switches.{newest}
+use Rattle.model.proofs.Refusing.{effectIn, refuses, not-refused, newest-step}
 use Rattle.layout.specs.Layout.{ledgerIn, entryIn}
 use Rattle.layout.proofs.Blocks.{entries-length}
 use Rattle.basics.specs.declared.results.Check.{Check}
@@ -47,12 +48,12 @@ answered before m r after reply ledger kept =
 module _ (ws : List ℕ) (m : Message) (q : Check) (q-is : q ≡ checkOf (firstRefusal (rulesIn (ledgerIn ws) m))) where
   pub refused : (r : Refusal) → q ≡ Failed r → Answered ws m (Refuse r) ws
   refused r found =
-      let step-is = refuses (ledgerIn ws) m r (failed (firstRefusal (rulesIn (ledgerIn ws) m)) r (sym q-is ∙ found)) in
+      let step-is = sym (newest-step (ledgerIn ws) m) ∙ refuses newest (ledgerIn ws) m r (failed (firstRefusal (rulesIn (ledgerIn ws) m)) r (sym q-is ∙ found)) in
       answered ws m (Refuse r) ws (rw step-is) (rw step-is) (λ code e. refl)
 
   pub served : (r : Reply) (after : List ℕ) → q ≡ Passed → Taken (effectIn (ledgerIn ws) m) r after → Answered ws m r after
   served r after found x =
-      let step-is = not-refused (ledgerIn ws) m (passed (firstRefusal (rulesIn (ledgerIn ws) m)) (sym q-is ∙ found)) in
+      let step-is = sym (newest-step (ledgerIn ws) m) ∙ not-refused newest (ledgerIn ws) m (passed (firstRefusal (rulesIn (ledgerIn ws) m)) (sym q-is ∙ found)) in
       answered ws m r after (rw step-is (x .reply)) (rw step-is (x .ledger)) (λ code e. absurd (x .not-refused code e))
 
 -- An entry that is stored is overwritten where a turn is finished.

@@ -1,4 +1,4 @@
-// The tests of each message, in document 01's order: the refusal of the first that holds.
+// The tests of each message, in the documents' order: the refusal of the first that holds.
 use basics::results::Check;
 use basics::slots::is_against;
 use basics::slots::is_held;
@@ -17,7 +17,8 @@ use store::seats_of;
 use store::total_of;
 ghost use mathlib.Core.Path.{_≡_};
 ghost use lib.ListN.{length};
-ghost use Rattle.model.specs.Refusals.{firstRefusal, outOfRange, waitsAlready, transferRules, requestRules, circulatedRules, ackRules};
+ghost use Prim.Native.Nat.{_<_};
+ghost use Rattle.model.specs.Refusals.{firstRefusal, outOfRange, waitsAlready, numberRules, transferRules, offerRules, requestRules, circulatedRules, ackRules};
 ghost use Rattle.layout.specs.Layout.{bookWords, ledgerIn, entryIn};
 ghost use Rattle.basics.specs.Results.{checkOf};
 
@@ -50,14 +51,12 @@ fn waits(s: Slot, t: Transfer) -> bool
     }
 }
 
-// What every transfer meets, whichever message brings it: 5 to 8.
-pub fn transfer_check(words: &[u32], t: Transfer) -> Check
+// What the number of every transfer meets, whichever message brings it: 6 to 8.
+fn number_check(words: &[u32], t: Transfer) -> Check
     requires { ⌜ length (now words) ≡ bookWords ⌝ }
-    ensures { λ r. ⌜ r ≡ checkOf (firstRefusal (transferRules (ledgerIn (now (words .entry))) (entryIn (now (words .entry)) (t .account)) t)) ⌝ }
+    requires { ⌜ t .account .0 < 32 ⌝ }
+    ensures { λ r. ⌜ r ≡ checkOf (firstRefusal (numberRules (entryIn (now (words .entry)) (t .account)) t)) ⌝ }
 {
-    if is_out_of_range(words, t) {
-        return Check::Failed(Refusal::OutOfRange);
-    }
     let current = current_of(words, t.account);
     if t.number <= current {
         return Check::Failed(Refusal::PastNumber);
@@ -71,11 +70,36 @@ pub fn transfer_check(words: &[u32], t: Transfer) -> Check
     Check::Passed
 }
 
+// What the transfer of an ack or a decision meets: 5 to 8.
+pub fn transfer_check(words: &[u32], t: Transfer) -> Check
+    requires { ⌜ length (now words) ≡ bookWords ⌝ }
+    ensures { λ r. ⌜ r ≡ checkOf (firstRefusal (transferRules (ledgerIn (now (words .entry))) (entryIn (now (words .entry)) (t .account)) t)) ⌝ }
+{
+    if is_out_of_range(words, t) {
+        return Check::Failed(Refusal::OutOfRange);
+    }
+    number_check(words, t)
+}
+
+// What a request or a circulated transfer meets first: 5, 20, then 6 to 8.
+fn offer_check(words: &[u32], t: Transfer) -> Check
+    requires { ⌜ length (now words) ≡ bookWords ⌝ }
+    ensures { λ r. ⌜ r ≡ checkOf (firstRefusal (offerRules (ledgerIn (now (words .entry))) (entryIn (now (words .entry)) (t .account)) t)) ⌝ }
+{
+    if is_out_of_range(words, t) {
+        return Check::Failed(Refusal::OutOfRange);
+    }
+    if t.recipient.0 == t.account.0 {
+        return Check::Failed(Refusal::SelfPayment);
+    }
+    number_check(words, t)
+}
+
 pub fn request_check(words: &[u32], t: Transfer) -> Check
     requires { ⌜ length (now words) ≡ bookWords ⌝ }
     ensures { λ r. ⌜ r ≡ checkOf (firstRefusal (requestRules (ledgerIn (now (words .entry))) (entryIn (now (words .entry)) (t .account)) t)) ⌝ }
 {
-    match transfer_check(words, t) {
+    match offer_check(words, t) {
         Check::Failed(r) => Check::Failed(r),
         Check::Passed => {
             if balance_of(words, t.account) < t.value {
@@ -90,7 +114,7 @@ pub fn circulated_check(words: &[u32], t: Transfer) -> Check
     requires { ⌜ length (now words) ≡ bookWords ⌝ }
     ensures { λ r. ⌜ r ≡ checkOf (firstRefusal (circulatedRules (ledgerIn (now (words .entry))) (entryIn (now (words .entry)) (t .account)) t)) ⌝ }
 {
-    match transfer_check(words, t) {
+    match offer_check(words, t) {
         Check::Failed(r) => Check::Failed(r),
         Check::Passed => {
             if is_acked(words, t.account) {

@@ -6,6 +6,7 @@ use mathlib.Core.List.{List, [], _∷_, _++_, map}
 use lib.ListN.{length, take, drop, length-map, List·getD-map}
 use lib.Seq.{length-take-le, drop-cons, getD-take}
 use Rattle.model.specs.Basics.{sumOf}
+use Rattle.model.specs.Switches.{newest}
 use Rattle.model.specs.Records.{accountOf, freshEntry, sumCurrents, entryOf}
 use Rattle.model.proofs.Sums.{sum-front, sum-map}
 use Rattle.agreement.specs.Types.{Seat, Account, Entry, Ledger, Opening, Inquiry, Balance}
@@ -22,15 +23,19 @@ use Rattle.replay.specs.Text.{Row, rowOf}
 use Rattle.conformance.specs.Texts.{Exchange, eventOf, runFrom, runOf, lastRows, Accounted}
 use Rattle.conformance.proofs.EntryRuns.{from-within, call-within}
 
+-- before the first entry
+abbrev begins : Run
+begins = start (λ z. newest)
+
 -- The current numbers add up to the counts.
 module _ (o : Opening) (opens : Opens o) (s : Seat) where
   -- before the first, all current numbers are 0
-  none-counted : sumCurrents (ledgerAt o s start .entries) ≡ 0
+  none-counted : sumCurrents (ledgerAt o s begins .entries) ≡ 0
   unfolding slateAt
   none-counted =
       sym
-      (sum-front (λ e. e .current) (ledgerAt o s start .entries) (freshEntry 0) 0
-      (λ i above. always o start opens tt .plain start s (accountOf i) at-end .1))
+      (sum-front (λ e. e .current) (ledgerAt o s begins .entries) (freshEntry 0) 0
+      (λ i above. always o begins opens tt .plain begins s (accountOf i) at-end .1))
 
   counts-sum : (xs : List Exchange) (run : Run) → Obeys o (runFrom s run xs)
       → sumCurrents (ledgerAt o s (runFrom s run xs) .entries) ≡ sumCurrents (ledgerAt o s run .entries) + sumOf (λ x. countOf (x .reply)) xs
@@ -88,8 +93,8 @@ module _ (o : Opening) (opens : Opens o) (s : Seat) (xs : List Exchange) (obeys 
       behind i above = facts .behind (runOf s xs) s (accountOf i) at-end above .1
 
       counted : sumCurrents (last .entries) ≡ sumOf (λ x. countOf (x .reply)) xs
-      counted = omega (arith, counts-sum o opens s xs start obeys, none-counted o opens s)
+      counted = omega (arith, counts-sum o opens s xs begins obeys, none-counted o opens s)
 
       placed : (early late : List Exchange) (a : Account) (b : ℕ) → xs ≡ early ++ record { asked = Inquiry a; reply = Balance b } ∷ late
           → Within (runOf s early ▹ eventOf s (record { asked = Inquiry a; reply = Balance b })) (runOf s xs)
-      placed early late a b is = rw is (call-within s start early late (record { asked = Inquiry a; reply = Balance b }))
+      placed early late a b is = rw is (call-within s begins early late (record { asked = Inquiry a; reply = Balance b }))

@@ -4,11 +4,14 @@ use native.Mathlib.Omega.{arith}
 use mathlib.Core.Path.{_≡_, refl, ap, sym, _∙_}
 use mathlib.Core.List.{List, [], _∷_, _++_, append-assoc}
 use mathlib.Core.Option.{some}
+use Rattle.model.specs.Types.{Outcome}
 use Rattle.model.specs.Calls.{step}
+use Rattle.model.specs.Switches.{newest, stepUnder}
+use Rattle.model.proofs.Refusing.{newest-step}
 use Rattle.model.specs.Bundles.{pageAt, messageOf}
 use Rattle.agreement.specs.Types.{Seat, Opening, Message}
-use Rattle.agreement.specs.Runs.{Run, _▹_, Within, at-end, ledgerAt, AnsweredToday, ObeysToday}
-use Rattle.agreement.proofs.Places.{before, calls-before, ledger-after}
+use Rattle.agreement.specs.Runs.{Run, _▹_, Within, at-end, rulesAt, ledgerAt, MayReply, Obeys}
+use Rattle.agreement.proofs.Places.{before, obeys-before, ledger-after, seat-self}
 use Rattle.text.specs.Lines.{replyLine}
 use Rattle.replay.specs.Text.{entryLine, ledgerAfter, ledgerFrom, linesFrom}
 use Rattle.conformance.specs.Texts.{Exchange, eventOf, runFrom, AskedFrom, replyLines}
@@ -35,38 +38,57 @@ module _ (s : Seat) where
 module _ (bytes : List ℕ) (o : Opening) (s : Seat) where
   -- a run that goes on with the `left` entries from i on
   abbrev GoesOn : ℕ → ℕ → Run → Type 0
-  GoesOn left i run = (xs : List Exchange) × AskedFrom bytes left i xs × ObeysToday o (runFrom s run xs)
+  GoesOn left i run = (xs : List Exchange) × AskedFrom bytes left i xs × Obeys o (runFrom s run xs)
+
+  -- Under the newest rules: after a message they are the seat's, if they were before it; and what it is replied, and leaves, is today's step.
+  abbrev Newest : Run → Type 0
+  Newest run = rulesAt s run ≡ newest
+
+  still-newest : (run : Run) (x : Exchange) → Newest run → Newest (run ▹ eventOf s x)
+  unfolding rulesAt
+  still-newest run x yet = rw (seat-self s) yet
+
+  reply-is : (run : Run) (x : Exchange) → Newest run → Obeys o (run ▹ eventOf s x) → x .reply ≡ step (ledgerAt o s run) (x .asked) .reply
+  reply-is run x yet obeys =
+      let due : MayReply newest (ledgerAt o s run) (x .asked) (x .reply) = rw yet at (obeys .1) in
+      due ∙ ap (λ (y : Outcome). y .reply) (newest-step (ledgerAt o s run) (x .asked))
+
+  ledger-is : (run : Run) (x : Exchange) → Newest run → ledgerAt o s (run ▹ eventOf s x) ≡ step (ledgerAt o s run) (x .asked) .next
+  ledger-is run x yet =
+      let under : ledgerAt o s (run ▹ eventOf s x) ≡ stepUnder newest (ledgerAt o s run) (x .asked) .next =
+      rw yet at (ledger-after o s run (eventOf s x) (x .asked) (x .reply) refl refl) in
+      under ∙ ap (λ (y : Outcome). y .next) (newest-step (ledgerAt o s run) (x .asked))
 
   -- there is one, if each entry asks
-  pub goes-on : (left i : ℕ) (run : Run)
-      → ((j : ℕ) → i ≤ j → j < i + left → (m : Message) × (messageOf (pageAt bytes j) ≡ some m)) → ObeysToday o run → GoesOn left i run
-  goes-on zero i run asks obeys = ([], tt, obeys)
-  goes-on (suc left) i run asks obeys =
+  pub goes-on : (left i : ℕ) (run : Run) → Newest run
+      → ((j : ℕ) → i ≤ j → j < i + left → (m : Message) × (messageOf (pageAt bytes j) ≡ some m)) → Obeys o run → GoesOn left i run
+  goes-on zero i run yet asks obeys = ([], tt, obeys)
+  goes-on (suc left) i run yet asks obeys =
       let this = asks i (omega arith) (omega arith) in
-      let x : Exchange = record { asked = this .0; reply = step (ledgerAt o s run) (this .0) .reply } in
-      let rest = goes-on left (suc i) (run ▹ eventOf s x) (λ j from to. asks j (omega arith) (omega arith)) (obeys, refl) in
+      let x : Exchange = record { asked = this .0; reply = stepUnder newest (ledgerAt o s run) (this .0) .reply } in
+      let replied : MayReply newest (ledgerAt o s run) (x .asked) (x .reply) = refl in
+      let rest = goes-on left (suc i) (run ▹ eventOf s x) (still-newest run x yet) (λ j from to. asks j (omega arith) (omega arith)) (obeys, rw yet replied) in
       (x ∷ rest .0, (this .1, rest .1), rest .2)
 
   -- and the lines of these entries are those of its replies
-  pub told-lines : (left i : ℕ) (run : Run) (xs : List Exchange) → AskedFrom bytes left i xs → ObeysToday o (runFrom s run xs)
+  pub told-lines : (left i : ℕ) (run : Run) (xs : List Exchange) → Newest run → AskedFrom bytes left i xs → Obeys o (runFrom s run xs)
       → linesFrom bytes left i (ledgerAt o s run) ≡ replyLines i xs
-  told-lines zero i run [] asked obeys = refl
-  told-lines zero i run (x ∷ xs) asked obeys = absurd asked
-  told-lines (suc left) i run [] asked obeys = absurd asked
-  told-lines (suc left) i run (x ∷ xs) asked obeys =
-      let left-ledger = ledger-after o s run (eventOf s x) (x .asked) (x .reply) refl refl in
-      let reply = calls-before AnsweredToday o obeys (from-within s (run ▹ eventOf s x) xs) .1 in
+  told-lines zero i run [] yet asked obeys = refl
+  told-lines zero i run (x ∷ xs) yet asked obeys = absurd asked
+  told-lines (suc left) i run [] yet asked obeys = absurd asked
+  told-lines (suc left) i run (x ∷ xs) yet asked obeys =
+      let reply = reply-is run x yet (obeys-before o obeys (from-within s (run ▹ eventOf s x) xs)) in
       let line : entryLine i (ledgerAt o s run) (messageOf (pageAt bytes i)) ≡ replyLine i (x .reply) =
       ap (entryLine i (ledgerAt o s run)) (asked .0) ∙ ap (replyLine i) (sym reply) in
-      let next = ap (ledgerAfter (ledgerAt o s run)) (asked .0) ∙ sym left-ledger in
-      rw (line, next, told-lines left (suc i) (run ▹ eventOf s x) xs (asked .1) obeys)
+      let next = ap (ledgerAfter (ledgerAt o s run)) (asked .0) ∙ sym (ledger-is run x yet) in
+      rw (line, next, told-lines left (suc i) (run ▹ eventOf s x) xs (still-newest run x yet) (asked .1) obeys)
 
   -- the run's last ledger is the one that these entries leave
-  pub ledger-left : (left i : ℕ) (run : Run) (xs : List Exchange) → AskedFrom bytes left i xs
+  pub ledger-left : (left i : ℕ) (run : Run) (xs : List Exchange) → Newest run → AskedFrom bytes left i xs
       → ledgerFrom bytes left i (ledgerAt o s run) ≡ ledgerAt o s (runFrom s run xs)
-  ledger-left zero i run [] asked = refl
-  ledger-left zero i run (x ∷ xs) asked = absurd asked
-  ledger-left (suc left) i run [] asked = absurd asked
-  ledger-left (suc left) i run (x ∷ xs) asked =
-      let next = ap (ledgerAfter (ledgerAt o s run)) (asked .0) ∙ sym (ledger-after o s run (eventOf s x) (x .asked) (x .reply) refl refl) in
-      rw next (ledger-left left (suc i) (run ▹ eventOf s x) xs (asked .1))
+  ledger-left zero i run [] yet asked = refl
+  ledger-left zero i run (x ∷ xs) yet asked = absurd asked
+  ledger-left (suc left) i run [] yet asked = absurd asked
+  ledger-left (suc left) i run (x ∷ xs) yet asked =
+      let next = ap (ledgerAfter (ledgerAt o s run)) (asked .0) ∙ sym (ledger-is run x yet) in
+      rw next (ledger-left left (suc i) (run ▹ eventOf s x) xs (still-newest run x yet) (asked .1))

@@ -5,13 +5,15 @@ use mathlib.Core.Bool.{Bool, true, false, cond}
 use mathlib.Core.List.{List}
 use lib.ListN.{replicate, length-replicate}
 use Rattle.agreement.specs.Types.{Seat, Ledger, Opening, Opened}
-use Rattle.agreement.specs.Runs.{Call, message, waitingList, Event, Run, start, _▹_, sameSeat, nextLedger, ledgerAt, MayReply, Conforms, Obeys}
+use Rattle.agreement.specs.Runs.{Call, message, waitingList, switch, Event, Run, start, _▹_, sameSeat, rulesAt, nextLedger, ledgerAt, MayReply, Conforms, Obeys}
 use Rattle.agreement.proofs.Places.{seat-is, seat-self}
-use Rattle.agreement.proofs.Proposals.{refused-today, today-conforms}
+use Rattle.agreement.proofs.Proposals.{refused-due}
 use Rattle.agreement.proofs.Demand3.{demand3}
 use Rattle.agreement.proofs.Always.{always}
 use Rattle.model.proofs.Sums.{impossible}
-use Rattle.model.proofs.Refusing.{refusal-keeps}
+use Rattle.model.specs.Switches.{Rules}
+use Rattle.model.proofs.Refusing.{refusal-keeps, newest-step}
+use Rattle.model.proofs.Switching.{switched-same}
 use Rattle.model.proofs.Opened.{opened-fresh}
 use Rattle.layout.specs.Layout.{bookWords, ledgerIn}
 use Rattle.ledger.proofs.Promising.{opened, listed}
@@ -20,32 +22,38 @@ use Rattle.layout.specs.Words.{wordsOf}
 use Rattle.layout.proofs.Words.{words-are}
 use Rattle.conformance.proofs.Reached.{reached-told}
 
--- an operation that keeps its contract answers as a run allows
+-- an operation that keeps its contract is under the newest rules
 pub contract-serves : ContractServes
 contract-serves words m r next done =
-    (record { replied = today-conforms (ledgerIn words) (message m r) (done .reply); ledger = done .ledger; kept = done .kept }, done .reply)
+    record {
+      replied = rw (newest-step (ledgerIn words) m) (done .reply);
+      ledger = rw (newest-step (ledgerIn words) m) (done .ledger);
+      kept = done .kept;
+    }
 
 -- an operation is a call that conforms, and leaves the run's next ledger
 pub operated-conforms : OperatedConforms
-operated-conforms words (message m r) next done = (done .replied, done .ledger)
-operated-conforms words (waitingList before r after) next done = (done .0 .meets, ap ledgerIn (done .1))
+operated-conforms v words (message m r) next done = (done .replied, done .ledger)
+operated-conforms v words (waitingList before r after) next done = (done .0 .meets, ap ledgerIn (done .1))
+operated-conforms v words switch next done = (tt, ap ledgerIn done ∙ sym (switched-same v (ledgerIn words)))
 
 -- what a seat holds after a call, if what all held before it were the run's ledgers
 held-after : (o : Opening) (run : Run) (e : Event) (before held : Seat → List ℕ)
-    → ((s : Seat) → ledgerIn (before s) ≡ ledgerAt o s run) → Called before e held → (s : Seat) → ledgerIn (held s) ≡ ledgerAt o s (run ▹ e)
+    → ((s : Seat) → ledgerIn (before s) ≡ ledgerAt o s run) → Called (rulesAt (e .at) run) before e held
+    → (s : Seat) → ledgerIn (held s) ≡ ledgerAt o s (run ▹ e)
 unfolding ledgerAt
 held-after o run e before held yet call s = go (sameSeat (e .at) s) refl
   where
-    go : (b : Bool) → sameSeat (e .at) s ≡ b → ledgerIn (held s) ≡ cond b (nextLedger (ledgerAt o s run) (e .call)) (ledgerAt o s run)
+    go : (b : Bool) → sameSeat (e .at) s ≡ b → ledgerIn (held s) ≡ cond b (nextLedger (rulesAt s run) (ledgerAt o s run) (e .call)) (ledgerAt o s run)
     go true here =
         let seat = seat-is (e .at) s here in
-        let done = operated-conforms (before (e .at)) (e .call) (held (e .at)) (call .operated) in
-        rw (← seat) (done .1 ∙ ap (λ (l : Ledger). nextLedger l (e .call)) (yet (e .at)))
+        let done = operated-conforms (rulesAt (e .at) run) (before (e .at)) (e .call) (held (e .at)) (call .operated) in
+        rw (← seat) (done .1 ∙ ap (λ (l : Ledger). nextLedger (rulesAt (e .at) run) l (e .call)) (yet (e .at)))
     go false there = ap ledgerIn (call .others s there) ∙ yet s
 
 pub works-obeys : WorksObeys
 unfolding ledgerAt
-works-obeys o held start first =
+works-obeys o held (start from) first =
     record {
       obeys = tt;
       ledgers = λ s. first s .2 .opens .ledger ∙ opened-fresh o (sym (first s .2 .opens .reply)) (ledgerIn (first s .0));
@@ -53,21 +61,22 @@ works-obeys o held start first =
 works-obeys o held (run ▹ e) (before, works, call) =
     let yet = works-obeys o before run works in
     record {
-      obeys = (yet .obeys, rw (yet .ledgers (e .at)) at (operated-conforms (before (e .at)) (e .call) (held (e .at)) (call .operated) .0));
+      obeys = (yet .obeys, rw (yet .ledgers (e .at)) at (operated-conforms (rulesAt (e .at) run) (before (e .at)) (e .call) (held (e .at)) (call .operated) .0));
       ledgers = held-after o run e before held (yet .ledgers) call;
     }
 
 -- A call that conforms is an operation on the words of its ledger, where those of both ledgers are these. A refusal leaves the ledger, and so
 -- its words.
-conforms-operated : (l : Ledger) (c : Call) → ledgerIn (wordsOf l) ≡ l → ledgerIn (wordsOf (nextLedger l c)) ≡ nextLedger l c
-    → Conforms l c → Operated (wordsOf l) c (wordsOf (nextLedger l c))
-conforms-operated l (message m r) before after ok =
+conforms-operated : (v : Rules) (l : Ledger) (c : Call) → ledgerIn (wordsOf l) ≡ l → ledgerIn (wordsOf (nextLedger v l c)) ≡ nextLedger v l c
+    → Conforms v l c → Operated v (wordsOf l) c (wordsOf (nextLedger v l c))
+conforms-operated v l (message m r) before after ok =
     record {
-      replied = subst (λ (k : Ledger). MayReply k m r) (sym before) ok;
+      replied = subst (λ (k : Ledger). MayReply v k m r) (sym before) ok;
       ledger = rw before after;
-      kept = λ code is. ap wordsOf (refusal-keeps l m code (refused-today l m code (rw is at ok)));
+      kept = λ code is. ap wordsOf (refusal-keeps v l m code (refused-due v l m code (rw is at ok)));
     }
-conforms-operated l (waitingList buffer r left) before after ok = (rw before (listed l buffer r left ok), refl)
+conforms-operated v l switch before after ok = ap wordsOf (switched-same v l)
+conforms-operated v l (waitingList buffer r left) before after ok = (rw before (listed l buffer r left ok), refl)
 
 pub obeys-works : ObeysWorks
 unfolding ledgerAt
@@ -77,12 +86,12 @@ obeys-works o run opens obeys = (λ s. wordsOf (ledgerAt o s run), go run obeys)
     are run obeys s = words-are (ledgerAt o s run) (reached-told o opens s run obeys)
 
     go : (run : Run) → Obeys o run → Works o (λ s. wordsOf (ledgerAt o s run)) run
-    go start obeys = λ s.
+    go (start from) obeys = λ s.
         let zeros = replicate {A = ℕ} bookWords 0 in
-        let fresh = are start tt s ∙ sym (opened-fresh o (opens .not-refused) (ledgerIn zeros)) in (
+        let fresh = are (start from) tt s ∙ sym (opened-fresh o (opens .not-refused) (ledgerIn zeros)) in (
           zeros,
           length-replicate {A = ℕ} bookWords 0,
-          opened zeros o Opened (wordsOf (ledgerAt o s start))
+          opened zeros o Opened (wordsOf (ledgerAt o s (start from)))
               (record { reply = sym (opens .not-refused); ledger = fresh; kept = λ code is. impossible (cc) }),
         )
     go (run ▹ e) obeys = (
@@ -91,7 +100,7 @@ obeys-works o run opens obeys = (λ s. wordsOf (ledgerAt o s run), go run obeys)
       record {
         operated =
             rw (seat-self (e .at))
-            (conforms-operated (ledgerAt o (e .at) run) (e .call) (are run (obeys .0) (e .at))
+            (conforms-operated (rulesAt (e .at) run) (ledgerAt o (e .at) run) (e .call) (are run (obeys .0) (e .at))
             (rw (seat-self (e .at)) at (are (run ▹ e) obeys (e .at))) (obeys .1));
         others = λ z there. rw there;
       },

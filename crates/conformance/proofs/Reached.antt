@@ -13,7 +13,6 @@ use Rattle.agreement.proofs.StepLaws.{Puts, puts-mark, puts-ack, puts-accepted,
 use Rattle.agreement.proofs.Reachable.{sound, everywhere}
 use Rattle.model.specs.Records.{entryOf, withPending}
 use Rattle.model.specs.Refusals.{ackFrom, unknownAccount}
-use Rattle.model.specs.Calls.{step}
 use Rattle.model.proofs.Sums.{impossible, neither}
 use Rattle.model.proofs.Opened.{Group}
 use Rattle.model.proofs.Booking.{SameButBalance, Cleared}
@@ -79,7 +78,7 @@ module _ (o : Opening) (opens : Opens o) where
     all-move : (run : Run) → Obeys o run → (a : Account) → AllMove (entryOf (ledgerAt o s run) a)
     all-move =
         everywhere o opens s (λ l. (a : Account) → AllMove (entryOf l a))
-        (λ l m q ok h old. step-moves l ok old m q (step l m .next) h)
+        (λ l next m q ok h old. step-moves l ok old m q next h)
         (λ a. rw (opened-entry o a) (record { acks = λ z t h. impossible (cc (h, no-acks z)); pending = λ t h. impossible (cc) }))
 
     pub reached-told : (run : Run) → Obeys o run → LedgerTold (ledgerAt o s run)

@@ -6,10 +6,10 @@ use mathlib.Core.List.{List}
 use mathlib.Core.Option.{some}
 use Rattle.model.specs.declared.BundleReply.the-variants.{Sound}
 use Rattle.model.specs.Records.{freshLedger}
+use Rattle.model.specs.Switches.{newest}
 use Rattle.model.specs.Bundles.{entryCount, pageAt, messageOf, checkBundle}
 use Rattle.agreement.specs.Types.{Message}
-use Rattle.agreement.specs.Runs.{Opens, start, ledgerAt}
-use Rattle.agreement.proofs.Proposals.{today-obeys}
+use Rattle.agreement.specs.Runs.{Opens, Run, start, rulesAt, ledgerAt}
 use Rattle.agreement.proofs.Always.{always}
 use Rattle.ledger.specs.Promises.{ListedAs}
 use Rattle.bundle.proofs.Asking.{all-ask}
@@ -25,33 +25,37 @@ each-asks : (bytes : List ℕ) (m : ℕ) → checkBundle bytes ≡ Sound m
 each-asks bytes m right zero from to = absurd (omega arith)
 each-asks bytes m right (suc j) from to = all-ask bytes m right j (omega (arith, sound-count bytes m right .1))
 
+-- before its first entry
+abbrev begins : Run
+begins = start (λ z. newest)
+
 pub every-run : EveryRun
-unfolding ledgerAt
+unfolding rulesAt ledgerAt
 every-run bytes m s xs right opens run =
     let page = openingPage bytes in
-    let lines = told-lines bytes page s (entryCount bytes - 1) 1 start xs (run .asked) (run .obeys) in
-    let left = ledger-left bytes page s (entryCount bytes - 1) 1 start xs (run .asked) in
+    let lines = told-lines bytes page s (entryCount bytes - 1) 1 begins xs refl (run .asked) (run .obeys) in
+    let left = ledger-left bytes page s (entryCount bytes - 1) 1 begins xs refl (run .asked) in
     rw (right, opens, sound-count bytes m right .0, lines, left)
 
 pub every-text : EveryText
+unfolding rulesAt
 every-text bytes m s right opens =
     let page = openingPage bytes in
     let page-opens : Opens (openingPage bytes) = record { full-page = refl; not-refused = opens } in
-    let found = goes-on bytes page s (entryCount bytes - 1) 1 start (each-asks bytes m right) tt in
+    let found = goes-on bytes page s (entryCount bytes - 1) 1 begins refl (each-asks bytes m right) tt in
     let xs = found .0 in
     let run : RunOfBundle bytes s (found .0) = record { asked = found .1; obeys = found .2 } in
-    let obeys = today-obeys page (runOf s xs) (found .2) in
     record {
       exchanges = xs;
       run = run;
       lines = every-run bytes m s xs right opens run;
-      facts = always page (runOf s xs) page-opens obeys;
-      accounted = accounted page page-opens s xs obeys;
+      facts = always page (runOf s xs) page-opens (found .2);
+      accounted = accounted page page-opens s xs (found .2);
     }
 
 pub every-list : EveryList
-unfolding ledgerAt
+unfolding rulesAt ledgerAt
 every-list bytes m s xs before reply after right opens run lists =
     let here : ListedAs (ledgerFrom bytes (entryCount bytes - 1) 1 (freshLedger (openingPage bytes))) before reply after = rw (right, opens) at (lists .meets) in
-    let left = ledger-left bytes (openingPage bytes) s (entryCount bytes - 1) 1 start xs (run .asked) in
+    let left = ledger-left bytes (openingPage bytes) s (entryCount bytes - 1) 1 begins xs refl (run .asked) in
     (run .obeys, rw left at (here .meets))

@@ -12,14 +12,13 @@ use Rattle.model.specs.Transfers.{equal, conflict}
 use Rattle.model.specs.Openings.{openReply}
 use Rattle.model.specs.Acks.{hasMost}
 use Rattle.model.specs.Settling.{lowestAffordable, apply, settleAtMost, settle}
-use Rattle.model.specs.Calls.{step}
+use Rattle.model.specs.Switches.{stepUnder}
 use Rattle.model.specs.Bundles.{checkBundle}
 use Rattle.agreement.specs.Types.{Seat, Message, Circulated, Ack, Decision, Inquiry, Reply, Acknowledge, Note, Accept, Balance, Opened}
-use Rattle.agreement.specs.Runs.{start, _▹_, ledgerAt, ObeysToday}
+use Rattle.agreement.specs.Runs.{_▹_, rulesAt, ledgerAt, Obeys}
 use Rattle.agreement.specs.Slates.{leaveAtMost, leaveAll, slateAt}
 use Rattle.agreement.specs.Facts.{countOf}
-use Rattle.agreement.proofs.Proposals.{today-obeys}
-use Rattle.agreement.proofs.Examples.{page, t, asked, acks, ack, _then_, witness, witness-obeys, witness-keeps}
+use Rattle.agreement.proofs.Examples.{page, t, today, asked, acks, ack, _then_, witness, witness-obeys, witness-keeps}
 use Rattle.agreement.proofs.FactsTried.{_is_}
 use Rattle.text.specs.Lines.{decimal}
 use Rattle.replay.specs.Text.{Row, rowLines, openingPage, opened}
@@ -55,7 +54,7 @@ rows = record { balance = 6; current = 1 } ∷ record { balance = 7; current = 0
 
 -- it has the bundle's messages and obeys, and the nine lines are its text
 pub whole-run : RunOfBundle case (seatOf 0) exchanges × (nineLines ≡ textOfRun case (seatOf 0) exchanges)
-unfolding case decimal ledgerAt noAcks equal conflict hasMost lowestAffordable apply settleAtMost settle step
+unfolding case decimal rulesAt ledgerAt noAcks equal conflict hasMost lowestAffordable apply settleAtMost settle stepUnder
 whole-run = (
   record {
     asked = (refl, (refl, (refl, (refl, (refl, (refl, (refl, tt)))))));
@@ -67,7 +66,7 @@ whole-run = (
 -- its calls in their order, its lines, and what its numbers add up to
 pub whole-facts :
     (runOf (seatOf 0) exchanges
-    ≡ start ▹ acks 0 t ▹ ack 0 0 t Note ▹ ack 0 1 t Note ▹ ack 0 2 t Note ▹ ack 0 3 t Note ▹ ack 0 4 t (Accept 1)
+    ≡ today ▹ acks 0 t ▹ ack 0 0 t Note ▹ ack 0 1 t Note ▹ ack 0 2 t Note ▹ ack 0 3 t Note ▹ ack 0 4 t (Accept 1)
     ▹ asked 0 (Inquiry (accountOf 1)) (Balance 7))
     × (nineLines ≡ replyLines 1 exchanges ++ rowLines 0 rows)
     × (sumOf (λ row. row .balance) rows ≡ sumOf (λ b. b) (openingPage case .balances))
@@ -96,12 +95,12 @@ askedTwice =
     ∷ Inquiry (accountOf 0) gets Balance 6
     ∷ []
 
-pub twice-obeys : ObeysToday page (runOf (seatOf 0) askedTwice) × (lastRows page (seatOf 0) askedTwice ≡ rows)
-unfolding ledgerAt noAcks equal conflict hasMost lowestAffordable apply settleAtMost settle step
+pub twice-obeys : Obeys page (runOf (seatOf 0) askedTwice) × (lastRows page (seatOf 0) askedTwice ≡ rows)
+unfolding rulesAt ledgerAt noAcks equal conflict hasMost lowestAffordable apply settleAtMost settle stepUnder
 twice-obeys = (tt then refl then refl then refl, refl)
 
 pub twice-accounted : Accounted page (seatOf 0) askedTwice rows
-twice-accounted = rw (twice-obeys .1) at (accounted page (witness-keeps .0) (seatOf 0) askedTwice (today-obeys page (runOf (seatOf 0) askedTwice) (twice-obeys .0)))
+twice-accounted = rw (twice-obeys .1) at (accounted page (witness-keeps .0) (seatOf 0) askedTwice (twice-obeys .0))
 
 -- What that says: two rows; the opening sum 13; one slip booked; the row of account 0; and its balance, each time as it was.
 pub accounted-says : Accounted page (seatOf 0) askedTwice rows

@@ -1,59 +1,58 @@
--- An operation that keeps its contract is a call of a run. What a seat holds are words, and the ledger that they are is the run's. The proofs are in
--- proofs/Operations.antt.
+-- An operation that keeps its contract is a call of a run, at a seat under the newest rules. What a seat holds are words, and the ledger that they are is
+-- the run's. The proofs are in proofs/Operations.antt.
 use Prim.Native.Nat.{ℕ}
 use mathlib.Core.Path.{_≡_}
 use mathlib.Core.Bool.{Bool, true, false}
 use mathlib.Core.List.{List}
 use lib.ListN.{length}
 use Rattle.agreement.specs.Types.{Seat, Opening, Refusal, Message, Reply, Refuse, Opened}
-use Rattle.agreement.specs.Runs.{Opens, FewBad, Call, message, waitingList, Event, Run, start, _▹_, atHonest, sameSeat, nextLedger, ledgerAt, MayReply, Conforms, AnsweredToday, Obeys}
+use Rattle.agreement.specs.Runs.{Opens, FewBad, Call, message, waitingList, switch, Event, Run, start, _▹_, atHonest, sameSeat, rulesAt, nextLedger, ledgerAt, MayReply, Conforms, Obeys}
 use Rattle.agreement.specs.Premises.{Premises}
 use Rattle.agreement.specs.Claims.{Claim}
 use Rattle.agreement.specs.Facts.{Facts}
-use Rattle.model.specs.Calls.{step}
+use Rattle.model.specs.Switches.{Rules, newest, stepUnder}
 use Rattle.layout.specs.Layout.{bookWords, ledgerIn}
 use Rattle.ledger.specs.Promises.{Answered, OpenedAs, ListedAs}
 
--- A message as an operation answers it in a run, on the words that it is lent: what a run allows, P with any of the tied slips among it, since a seat may not
--- have taken request 2 yet; the ledger after it; and a refusal leaves each word.
-pub record Served (words : List ℕ) (m : Message) (r : Reply) (next : List ℕ) : Type 0 where
-  pub replied : MayReply (ledgerIn words) m r
-  pub ledger : ledgerIn next ≡ step (ledgerIn words) m .next
+-- A message as an operation answers it under a set of rules, on the words that it is lent: what these rules allow; the ledger after it; and a refusal leaves
+-- each word.
+pub record Served (v : Rules) (words : List ℕ) (m : Message) (r : Reply) (next : List ℕ) : Type 0 where
+  pub replied : MayReply v (ledgerIn words) m r
+  pub ledger : ledgerIn next ≡ stepUnder v (ledgerIn words) m .next
   pub kept : (code : Refusal) → r ≡ Refuse code → next ≡ words
 
--- An operation that keeps today's contract is one of these, and is answered by today's definitions.
+-- An operation that keeps today's contract is one under the newest rules.
 abbrev pub ContractServes : Type 0
-ContractServes =
-    (words : List ℕ) (m : Message) (r : Reply) (next : List ℕ)
-    → Answered words m r next → Served words m r next × AnsweredToday (ledgerIn words) (message m r)
+ContractServes = (words : List ℕ) (m : Message) (r : Reply) (next : List ℕ) → Answered words m r next → Served newest words m r next
 
 -- A call as an operation makes it: the words that it is lent, with what it was asked and replied, and the words after it. The waiting list is lent the words
--- to read: they stay.
-abbrev pub Operated : List ℕ → Call → List ℕ → Type 0
-Operated words (message m r) next = Served words m r next
-Operated words (waitingList before r after) next = ListedAs (ledgerIn words) before r after × (next ≡ words)
+-- to read: they stay. A seat that switches "goes on with the book it holds": not one of the words changes.
+abbrev pub Operated : Rules → List ℕ → Call → List ℕ → Type 0
+Operated v words (message m r) next = Served v words m r next
+Operated v words (waitingList before r after) next = ListedAs (ledgerIn words) before r after × (next ≡ words)
+Operated v words switch next = next ≡ words
 
 -- It conforms in a run, and the ledger after it is the run's.
 abbrev pub OperatedConforms : Type 0
 OperatedConforms =
-    (words : List ℕ) (c : Call) (next : List ℕ)
-    → Operated words c next → Conforms (ledgerIn words) c × (ledgerIn next ≡ nextLedger (ledgerIn words) c)
+    (v : Rules) (words : List ℕ) (c : Call) (next : List ℕ)
+    → Operated v words c next → Conforms v (ledgerIn words) c × (ledgerIn next ≡ nextLedger v (ledgerIn words) c)
 
 -- "each holds a book just opened from that page": what an opening left that was not refused, whatever a book's words were before it. It is said
 -- of every seat; of one that makes no call nothing depends on what it holds.
 abbrev pub OpenedAll : Opening → (Seat → List ℕ) → Type 0
 OpenedAll o held = (s : Seat) → (before : List ℕ) × (length before ≡ bookWords) × OpenedAs before o Opened (held s)
 
--- "Each call gets the book that the call before it at that seat left": an operation on the words that its seat holds, which then holds
--- the words after it. "nobody else writes to a book meanwhile": each other seat holds what it held.
-pub record Called (before : Seat → List ℕ) (e : Event) (after : Seat → List ℕ) : Type 0 where
-  pub operated : Operated (before (e .at)) (e .call) (after (e .at))
+-- "Each call gets the book that the call before it at that seat left": an operation on the words that its seat holds, under the seat's rules; then the seat
+-- holds the words after it. "nobody else writes to a book meanwhile": each other seat holds what it held.
+pub record Called (v : Rules) (before : Seat → List ℕ) (e : Event) (after : Seat → List ℕ) : Type 0 where
+  pub operated : Operated v (before (e .at)) (e .call) (after (e .at))
   pub others : (z : Seat) → sameSeat (e .at) z ≡ false → after z ≡ before z
 
 -- A group at work: what its seats hold, and the run of what they did.
 abbrev pub Works : Opening → (Seat → List ℕ) → Run → Type 0
-Works o held start = OpenedAll o held
-Works o held (run ▹ e) = (before : Seat → List ℕ) × Works o before run × Called before e held
+Works o held (start from) = OpenedAll o held
+Works o held (run ▹ e) = (before : Seat → List ℕ) × Works o before run × Called (rulesAt (e .at) run) before e held
 
 -- Such a run obeys the definitions, and what the seats hold are the run's ledgers.
 pub record ObeysAndHolds (o : Opening) (held : Seat → List ℕ) (run : Run) : Type 0 where

@@ -7,8 +7,9 @@ use lib.ListN.{length, getD}
 use Rattle.model.specs.declared.BundleReply.the-variants.{Sound}
 use Rattle.model.specs.Bundles.{entryCount, pageAt, messageOf, checkBundle}
 use Rattle.model.specs.Basics.{sumOf}
+use Rattle.model.specs.Switches.{newest}
 use Rattle.agreement.specs.Types.{Seat, Account, Opening, Message, Inquiry, Reply, Balance, Opened, ListReply}
-use Rattle.agreement.specs.Runs.{message, waitingList, Event, Run, start, _▹_, ledgerAt, ObeysToday}
+use Rattle.agreement.specs.Runs.{message, waitingList, Event, Run, start, _▹_, ledgerAt, Obeys}
 use Rattle.agreement.specs.Slates.{slateAt}
 use Rattle.agreement.specs.Facts.{countOf, Facts}
 use Rattle.text.specs.Lines.{replyLine}
@@ -23,13 +24,13 @@ pub record Exchange : Type 0 where
 abbrev pub eventOf : Seat → Exchange → Event
 eventOf s x = record { at = s; call = message (x .asked) (x .reply) }
 
--- the run that goes on with these exchanges at one seat, in their order; and the run of nothing else
+-- the run that goes on with these exchanges at one seat, in their order; and the run of nothing else, under the newest rules from the start
 abbrev pub runFrom : Seat → Run → List Exchange → Run
 runFrom s run [] = run
 runFrom s run (x ∷ xs) = runFrom s (run ▹ eventOf s x) xs
 
 abbrev pub runOf : Seat → List Exchange → Run
-runOf s xs = runFrom s start xs
+runOf s xs = runFrom s (start (λ z. newest)) xs
 
 -- these exchanges have the messages of the `left` entries from i on, one for each
 abbrev pub AskedFrom : List ℕ → ℕ → ℕ → List Exchange → Type 0
@@ -38,10 +39,10 @@ AskedFrom bytes zero i (x ∷ xs) = ⊥
 AskedFrom bytes (suc left) i [] = ⊥
 AskedFrom bytes (suc left) i (x ∷ xs) = (messageOf (pageAt bytes i) ≡ some (x .asked)) × AskedFrom bytes left (suc i) xs
 
--- A run of a bundle at seat s: each entry from 1 is one of its calls, and no other is; and it obeys today's definitions.
+-- A run of a bundle at seat s: each entry from 1 is one of its calls, and no other is; and it obeys, by the newest rules.
 pub record RunOfBundle (bytes : List ℕ) (s : Seat) (xs : List Exchange) : Type 0 where
   pub asked : AskedFrom bytes (entryCount bytes - 1) 1 xs
-  pub obeys : ObeysToday (openingPage bytes) (runOf s xs)
+  pub obeys : Obeys (openingPage bytes) (runOf s xs)
 
 -- the lines of these replies, the first of which is entry i's
 abbrev pub replyLines : ℕ → List Exchange → List ℕ
@@ -106,4 +107,4 @@ abbrev pub EveryList : Type 0
 EveryList =
     (bytes : List ℕ) (m : ℕ) (s : Seat) (xs : List Exchange) (before : List ℕ) (reply : ListReply) (after : List ℕ)
     → checkBundle bytes ≡ Sound m → opened bytes ≡ Opened → RunOfBundle bytes s xs → ListOf bytes before reply after
-    → ObeysToday (openingPage bytes) (runOf s xs ▹ record { at = s; call = waitingList before reply after })
+    → Obeys (openingPage bytes) (runOf s xs ▹ record { at = s; call = waitingList before reply after })

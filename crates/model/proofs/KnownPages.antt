@@ -13,9 +13,10 @@ use Rattle.model.specs.Openings.{openReply, openLedger}
 use Rattle.model.specs.Acks.{hasMost, mostAcked}
 use Rattle.model.specs.Settling.{lowestAffordable, apply, settleAtMost, settle}
 use Rattle.model.specs.Calls.{step}
+use Rattle.model.specs.Switches.{firstRules, sinceRequest3, stepUnder}
 use Rattle.model.specs.Bundles.{checkBundle}
 use Rattle.model.specs.Writing.{written}
-use Rattle.model.proofs.Rows.{slip, ackBy, pageWith, A, B, C, K, N, P, R, _gives_, everyKind, Row, acksNeeded, opens, runs, putsForward, lists, sums, checks, counts, shows, showsOpening, reads, writes, fits, leaves, rowHolds}
+use Rattle.model.proofs.Rows.{slip, ackBy, pageWith, A, B, C, K, N, P, R, _gives_, everyKind, offered, Row, acksNeeded, opens, runs, runsAcross, putsForward, lists, sums, checks, counts, shows, showsOpening, reads, writes, fits, leaves, rowHolds}
 
 -- slips that conflict with one another
 abbrev t : Transfer
@@ -82,6 +83,52 @@ tied =
     ∷ putsForward (Full w ∷ Full w ∷ Full t ∷ Full u ∷ Full t ∷ Full t ∷ []) t
     ∷ putsForward (Empty ∷ Empty ∷ Full u ∷ Empty ∷ Full t ∷ []) u
     ∷ putsForward (replicate 16 Empty) (slip 0 0 0 0)
+    ∷ []
+
+-- Document 02, request 3: a home pays itself. Requests and slips meet 20, after 5 and before 6, 7, 8, 12 and 11: a later number, none yet; no value; a value
+-- above the balance, and above the opening sum; a recipient that there is not; a number that was acked, one that was booked, and one that waits. Acks and
+-- rulings for such slips meet what all others meet, are put forward, and are booked: the balance stays, and the current number rises.
+pub selfPaid : List Row
+selfPaid =
+    runs 6 1 (10 ∷ 5 ∷ [])
+    (offered (slip 0 9 4 0) (R 20) ++ offered (slip 0 9 0 0) (R 5) ++ offered (slip 0 0 4 0) (R 5) ++ offered (slip 0 1 11 0) (R 20)
+    ++ offered (slip 0 1 16 0) (R 5) ++ offered (slip 2 1 4 2) (R 5) ++ offered (slip 0 1 10 0) (R 20) ++ offered (slip 1 1 5 1) (R 20))
+    (10 ∷ 5 ∷ [])
+    ∷ runs 6 1 (10 ∷ 5 ∷ [])
+    (Circulated t gives A ∷ Circulated w gives R 20 ∷ Circulated u gives R 12 ∷ Decision t gives K 1 ∷ Circulated w gives R 20
+    ∷ Circulated t gives R 6 ∷ Decision (slip 0 2 7 1) gives K 0 ∷ Circulated (slip 0 2 4 0) gives R 20 ∷ Circulated (slip 0 2 4 1) gives R 8 ∷ [])
+    (6 ∷ 9 ∷ [])
+    ∷ runs 6 1 (10 ∷ 5 ∷ [])
+    (ackBy 6 w gives R 4 ∷ ackBy 0 w gives N ∷ ackBy 0 w gives R 9 ∷ ackBy 0 t gives R 10 ∷ ackBy 1 (slip 0 2 4 0) gives R 7
+    ∷ ackBy 1 w gives N ∷ ackBy 2 w gives N ∷ ackBy 3 w gives N ∷ ackBy 4 w gives K 1 ∷ ackBy 5 w gives R 6 ∷ Decision w gives R 6
+    ∷ Circulated (slip 0 2 4 1) gives A ∷ [])
+    (10 ∷ 5 ∷ [])
+    ∷ runs 6 1 (10 ∷ 5 ∷ [])
+    (ackBy 0 w gives N ∷ ackBy 1 w gives N ∷ ackBy 2 w gives N ∷ ackBy 3 t gives N ∷ ackBy 4 t gives P w ∷ Decision w gives K 1
+    ∷ Decision (slip 0 2 11 0) gives K 0 ∷ Decision (slip 0 2 11 0) gives R 8 ∷ Decision (slip 0 9 4 0) gives R 7 ∷ Decision (slip 0 9 0 0) gives R 5
+    ∷ Decision (slip 1 1 1 0) gives K 2 ∷ Inquiry (accountOf 0) gives B 11 ∷ [])
+    (11 ∷ 4 ∷ [])
+    ∷ []
+
+-- The same under the first rules: requests and slips meet 5 6 7 8 11 and 5 6 7 8 12 11, whoever is the recipient. Then the seat switches, and goes on with
+-- the ledger that it holds: a slip that it acked meets 20, another of that number 12, and the acks that it recorded count. Under the newest rules a switch
+-- changes nothing.
+pub switching : List Row
+switching =
+    runsAcross firstRules 6 1 (10 ∷ 5 ∷ [])
+    (offered (slip 0 9 4 0) (R 7) ++ offered (slip 0 9 0 0) (R 5) ++ offered (slip 0 1 11 0) (R 11)
+    ++ (Request w gives C ∷ Circulated w gives A ∷ Circulated w gives R 12 ∷ Circulated t gives R 12 ∷ Circulated (slip 1 1 5 1) gives A
+    ∷ ackBy 0 w gives N ∷ ackBy 1 w gives N ∷ ackBy 2 w gives N ∷ []))
+    (Request w gives R 20 ∷ Circulated w gives R 20 ∷ Circulated t gives R 12 ∷ Circulated (slip 1 1 4 0) gives R 12 ∷ ackBy 2 w gives R 9
+    ∷ ackBy 3 w gives N ∷ ackBy 4 w gives K 1 ∷ Circulated (slip 0 2 4 0) gives R 20 ∷ Circulated (slip 0 2 4 1) gives A ∷ [])
+    (10 ∷ 5 ∷ [])
+    ∷ runsAcross firstRules 6 1 (10 ∷ 5 ∷ [])
+    (Decision w gives K 1 ∷ Circulated w gives R 6 ∷ Decision (slip 0 2 11 0) gives K 0 ∷ Circulated (slip 0 2 4 0) gives R 8 ∷ [])
+    (Circulated w gives R 20 ∷ Circulated (slip 0 2 4 0) gives R 20 ∷ Circulated (slip 0 2 4 1) gives R 8 ∷ Decision (slip 1 1 1 0) gives K 2 ∷ [])
+    (11 ∷ 4 ∷ [])
+    ∷ runsAcross sinceRequest3 6 1 (10 ∷ 5 ∷ []) (Circulated w gives R 20 ∷ Circulated t gives A ∷ [])
+    (Circulated w gives R 20 ∷ Circulated u gives R 12 ∷ [])
+    (10 ∷ 5 ∷ [])
     ∷ []
 
 -- Further cases, in document 01's order: daybook's whole output; a seat's second ack;
@@ -229,8 +276,10 @@ writing =
 -- Every row holds of the definitions: the checker computes each.
 pub facts : T (every rowHolds marked)
     × T (every rowHolds tied)
+    × T (every rowHolds selfPaid)
+    × T (every rowHolds switching)
     × T (every rowHolds further)
     × T (every rowHolds format)
     × T (every rowHolds writing)
-unfolding marked tied further format writing written noAcks equal conflict hasMost mostAcked openReply openLedger lowestAffordable apply settleAtMost settle step checkBundle
-facts = (tt, tt, tt, tt, tt)
+unfolding marked tied selfPaid switching further format writing written noAcks equal conflict hasMost mostAcked openReply openLedger lowestAffordable apply settleAtMost settle step stepUnder checkBundle
+facts = (tt, tt, tt, tt, tt, tt, tt)

@@ -9,6 +9,7 @@ pub mod Proposals
 pub mod Booking
 pub mod Settles
 pub mod Refusing
+pub mod Switching
 pub mod Opened
 pub mod Steps
 pub mod Listing

@@ -1,8 +1,9 @@
--- A refusal changes nothing, for every ledger and every call; and a call is refused exactly by the first rule that holds.
+-- A refusal changes nothing, for every ledger and every call; and a call is refused exactly by the first rule that holds. Of messages, under every set of
+-- rules at once; and today's step is the step under the newest.
 use Prim.Native.Nat.{ℕ, _+_}
 use native.Mathlib.Omega.{arith}
 use borrow.Author.Tests.{leb-false, ltb-false}
-use mathlib.Core.Path.{_≡_, refl, ap}
+use mathlib.Core.Path.{_≡_, refl, ap, sym, _∙_}
 use mathlib.Core.Logic.{_⊎_, inl, inr}
 use mathlib.Core.Bool.{Bool, true, false, cond}
 use mathlib.Core.List.{List, [], _∷_}
@@ -10,10 +11,11 @@ use mathlib.Core.Option.{Option, none, some}
 use lib.Dec.{leb·zero}
 use Rattle.model.specs.Types.{Account, Transfer, Entry, Ledger, Outcome, Opening, Refusal, UnknownSeat, OutOfRange, Message, Request, Circulated, Ack, Decision, Inquiry, Reply, Propose, Note, Refuse, OpenRefused, ListRefused}
 use Rattle.model.specs.Records.{freshLedger, noLedger, withAck, withProposed, entryOf}
-use Rattle.model.specs.Refusals.{Rule, firstRefusal, pastNumber, futureNumber, rulesOf, listRules}
+use Rattle.model.specs.Refusals.{Rule, firstRefusal, pastNumber, futureNumber, listRules}
 use Rattle.model.specs.Openings.{openRules, openReplyBy, openReply, openLedgerBy, openLedger}
 use Rattle.model.specs.Acks.{acksFor, acksRecorded, enough, mustPropose, mostAcked}
-use Rattle.model.specs.Calls.{payerOf, Effect, replies, waits, tallied, effect, unlessRefused, finished, step, Lists, ListsUnlessRefused}
+use Rattle.model.specs.Calls.{payerOf, Effect, replies, waits, tallied, effect, unlessRefused, finished, rulesIn, step, Lists, ListsUnlessRefused}
+use Rattle.model.specs.Switches.{Rules, newest, rulesUnder, stepUnder}
 use Rattle.model.proofs.Sums.{impossible}
 use Rattle.model.proofs.Access.{with-entry-read}
 
@@ -78,20 +80,21 @@ effect-never l a e (Ack s t) r h = tallied-never l a (withAck e s t) t r h
 effect-never l a e (Decision t) r h = impossible (cc)
 effect-never l a e (Inquiry b) r h = impossible (cc)
 
--- the rules that a message meets in a ledger, its outcome where none holds, and the outcome of a refusal
-abbrev pub rulesIn : Ledger → Message → List Rule
-rulesIn l m = rulesOf l (entryOf l (payerOf m)) m
-
+-- the outcome of a message where none of its rules holds, and the outcome of a refusal
 abbrev pub effectIn : Ledger → Message → Outcome
 effectIn l m = finished l (payerOf m) (effect l (entryOf l (payerOf m)) m)
 
 abbrev pub refusal : Refusal → Ledger → Outcome
 refusal r l = record { reply = Refuse r; next = l }
 
+-- the rules that a message meets in a ledger under rules v
+abbrev pub rulesThere : Rules → Ledger → Message → List Rule
+rulesThere v l m = rulesUnder v (rulesIn l m)
+
 -- a reply R names the first rule that holds
-pub refused-by : (l : Ledger) (m : Message) (r : Refusal) → step l m .reply ≡ Refuse r → firstRefusal (rulesIn l m) ≡ some r
-unfolding step
-refused-by l m r h = go (firstRefusal (rulesIn l m)) h
+pub refused-by : (v : Rules) (l : Ledger) (m : Message) (r : Refusal) → stepUnder v l m .reply ≡ Refuse r → firstRefusal (rulesThere v l m) ≡ some r
+unfolding stepUnder
+refused-by v l m r h = go (firstRefusal (rulesThere v l m)) h
   where
     a : Account
     a = payerOf m
@@ -104,18 +107,23 @@ refused-by l m r h = go (firstRefusal (rulesIn l m)) h
     go (some q) h = cc
 
 -- a message that a rule refuses replies its code and changes nothing
-pub refuses : (l : Ledger) (m : Message) (r : Refusal) → firstRefusal (rulesIn l m) ≡ some r → step l m ≡ refusal r l
-unfolding step
-refuses l m r e = rw e (ap (refusal r) (with-entry-read l (payerOf m)))
+pub refuses : (v : Rules) (l : Ledger) (m : Message) (r : Refusal) → firstRefusal (rulesThere v l m) ≡ some r → stepUnder v l m ≡ refusal r l
+unfolding stepUnder
+refuses v l m r e = rw e (ap (refusal r) (with-entry-read l (payerOf m)))
 
 -- a refusal changes nothing
-pub refusal-keeps : (l : Ledger) (m : Message) (r : Refusal) → step l m .reply ≡ Refuse r → step l m .next ≡ l
-refusal-keeps l m r h = rw (refuses l m r (refused-by l m r h))
+pub refusal-keeps : (v : Rules) (l : Ledger) (m : Message) (r : Refusal) → stepUnder v l m .reply ≡ Refuse r → stepUnder v l m .next ≡ l
+refusal-keeps v l m r h = rw (refuses v l m r (refused-by v l m r h))
 
 -- a message that no rule refuses has its effect
-pub not-refused : (l : Ledger) (m : Message) → firstRefusal (rulesIn l m) ≡ none → step l m ≡ effectIn l m
-unfolding step
-not-refused l m e = rw e
+pub not-refused : (v : Rules) (l : Ledger) (m : Message) → firstRefusal (rulesThere v l m) ≡ none → stepUnder v l m ≡ effectIn l m
+unfolding stepUnder
+not-refused v l m e = rw e
+
+-- today's step is the step under the newest rules
+pub newest-step : (l : Ledger) (m : Message) → stepUnder newest l m ≡ step l m
+unfolding stepUnder step
+newest-step l m = refl
 
 -- a refused opening leaves any ledger as it was
 pub open-refused : (o : Opening) (r : Refusal) → openReply o ≡ OpenRefused r → (l : Ledger) → openLedger o l ≡ l
@@ -128,7 +136,7 @@ open-refused o r h l = go (firstRefusal (openRules o)) h
 
 -- the ledger with no seats and no accounts, which words that are all 0 are, refuses every message: acks with 4, all others with 5
 pub no-ledger-refuses : (m : Message) → (r : Refusal) × (step noLedger m ≡ refusal r noLedger)
-no-ledger-refuses m = (first m .0, refuses noLedger m (first m .0) (first m .1))
+no-ledger-refuses m = (first m .0, sym (newest-step noLedger m) ∙ refuses newest noLedger m (first m .0) (first m .1))
   where
     first : (m : Message) → (r : Refusal) × (firstRefusal (rulesIn noLedger m) ≡ some r)
     first (Request t) = (OutOfRange, rw (leb·zero (t .account .0)))

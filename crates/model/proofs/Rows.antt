@@ -5,13 +5,14 @@ use mathlib.Core.List.{List, [], _∷_, _++_, map}
 use mathlib.Core.Option.{Option, none, some}
 use lib.Dec.{eqb}
 use lib.ListN.{length, take, replicate}
-use Rattle.model.specs.Types.{Transfer, Slot, Ledger, Opening, Refusal, Message, Request, Circulated, Ack, Decision, Inquiry, Reply, ListReply, Listed, ListRefused}
+use Rattle.model.specs.Types.{Transfer, Slot, Ledger, Outcome, Opening, Refusal, Message, Request, Circulated, Ack, Decision, Inquiry, Reply, ListReply, Listed, ListRefused}
 use Rattle.model.specs.Records.{seatOf, accountOf, noLedger}
 use Rattle.model.specs.Replies.{letterOf, valuesOf, valuesOfTransfer, valuesOfOpen, valuesOfList, valuesOfBundle, valuesOfWrite}
 use Rattle.model.specs.Refusals.{firstRefusal, listRules}
 use Rattle.model.specs.Openings.{openReply, openLedger}
 use Rattle.model.specs.Acks.{enough, mostAcked}
 use Rattle.model.specs.Calls.{step}
+use Rattle.model.specs.Switches.{Rules, nextRules, switched, stepUnder}
 use Rattle.model.specs.Bundles.{bodySum, badCount, checkBundle, pageAt, messageOf, openingOf, Reading, taken, noMore, readNext}
 use Rattle.model.specs.Writing.{written, writeFaults, writeReply, bufferAfter}
 
@@ -61,6 +62,10 @@ m gives said = (m, said)
 abbrev pub everyKind : Transfer → List ℕ → List Asked
 everyKind t said = Request t gives said ∷ Circulated t gives said ∷ ackBy 0 t gives said ∷ Decision t gives said ∷ []
 
+-- a slip that a request and a circulated slip answer alike
+abbrev pub offered : Transfer → List ℕ → List Asked
+offered t said = Request t gives said ∷ Circulated t gives said ∷ []
+
 -- One fact.
 pub data Row : Type 0 where
   -- n, f and how many acks are needed
@@ -69,6 +74,8 @@ pub data Row : Type 0 where
   opens : Opening → List ℕ → Row
   -- n, f, balances; the messages with their answers; the balances at the end
   runs : ℕ → ℕ → List ℕ → List Asked → List ℕ → Row
+  -- the same under a set of rules, and then, on the ledger that is held after a switch from these to the next, under those
+  runsAcross : Rules → ℕ → ℕ → List ℕ → List Asked → List Asked → List ℕ → Row
   -- each seat's ack, seat by seat from 0, and the slip that is put forward
   putsForward : List Slot → Transfer → Row
   -- the length of a waiting list's buffer, and the values of its answer where nothing waits
@@ -103,10 +110,14 @@ same (x ∷ xs) (y ∷ ys) = eqb x y && same xs ys
 abbrev pub answered : Reply → List ℕ → Bool
 answered r said = same (letterOf r ∷ valuesOf r) said
 
--- each message is answered as it is to be, and the balances at the end are these
-abbrev pub allAnswered : Ledger → List Asked → List ℕ → Bool
-allAnswered l [] balances = same (take (length balances) (map (λ e. e .balance) (l .entries))) balances
-allAnswered l (q ∷ qs) balances = answered (step l (q .0) .reply) (q .1) && allAnswered (step l (q .0) .next) qs balances
+-- each message is answered as it is to be by these steps, and what is to hold of the ledger at the end does
+abbrev pub allAnswered : (Ledger → Message → Outcome) → Ledger → List Asked → (Ledger → Bool) → Bool
+allAnswered steps l [] then = then l
+allAnswered steps l (q ∷ qs) then = answered (steps l (q .0) .reply) (q .1) && allAnswered steps (steps l (q .0) .next) qs then
+
+-- the balances are these
+abbrev pub hasBalances : List ℕ → Ledger → Bool
+hasBalances balances l = same (take (length balances) (map (λ e. e .balance) (l .entries))) balances
 
 -- the waiting list's reply where nothing waits
 abbrev pub listReply : Option Refusal → ListReply
@@ -135,7 +146,10 @@ took (noMore stays) kinds place = same [] kinds && eqb stays place
 abbrev pub rowHolds : Row → Bool
 rowHolds (acksNeeded n f c) = enough n f c && not (enough n f (c - 1))
 rowHolds (opens o said) = same (valuesOfOpen (openReply o)) said
-rowHolds (runs n f balances asked final) = allAnswered (openLedger (pageWith n f balances) noLedger) asked final
+rowHolds (runs n f balances asked final) = allAnswered step (openLedger (pageWith n f balances) noLedger) asked (hasBalances final)
+rowHolds (runsAcross v n f balances asked later final) =
+    allAnswered (stepUnder v) (openLedger (pageWith n f balances) noLedger) asked
+    (λ l. allAnswered (stepUnder (nextRules v)) (switched v l) later (hasBalances final))
 rowHolds (putsForward places t) = same (valuesOfTransfer (mostAcked (map (λ s. record { slot = s }) places))) (valuesOfTransfer t)
 rowHolds (lists size said) = same (valuesOfList (listReply (firstRefusal (listRules (replicate size 0))))) said
 rowHolds (sums bytes s) = eqb (bodySum bytes) s

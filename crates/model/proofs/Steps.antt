@@ -1,23 +1,25 @@
--- What a call does, as one case per outcome with its evidence, for every ledger and message. Proofs about runs use `happens` and the
+-- What a call does, as one case per outcome with its evidence, for every set of rules, ledger and message. Proofs about runs use `happens` and the
 -- laws after it in place of the definitions' text.
-use Prim.Native.Nat.{_+_, _<_}
+use Prim.Native.Nat.{ℕ, _+_, _<_}
 use native.Mathlib.Omega.{arith}
 use mathlib.Core.Path.{_≡_, refl}
-use mathlib.Core.Bool.{Bool, true, false, _||_}
-use mathlib.Core.List.{List}
+use mathlib.Core.Bool.{Bool, true, false, cond, _||_}
+use mathlib.Core.List.{List, [], _∷_}
 use mathlib.Core.Option.{Option, none, some}
 use lib.Dec.{eqb, ltb}
 use borrow.Author.Tests.{leb-false}
 use Rattle.model.specs.Types.{Seat, Account, Transfer, Entry, Ledger, Refusal, Message, Request, Circulated, Ack, Decision, Inquiry, Reply, Circulate, Acknowledge, Accept, Propose, Note, Balance, Refuse}
 use Rattle.model.specs.Records.{entryOf, setEntry, withEntry, withEntries, withAcked, withAck, withProposed, withPending}
-use Rattle.model.specs.Refusals.{firstRefusal, waitsAlready, ackFrom, outOfRange, unknownAccount}
+use Rattle.model.specs.Replies.{codeOf}
+use Rattle.model.specs.Refusals.{Rule, firstRefusal, waitsAlready, ackFrom, outOfRange, unknownAccount}
 use Rattle.model.specs.Acks.{holds, conflicts, acksFor, acksRecorded, enough, mustPropose, hasMost, mostAcked}
 use Rattle.model.specs.Settling.{Settled, settle}
-use Rattle.model.specs.Calls.{tallied, finished, step}
+use Rattle.model.specs.Calls.{tallied, finished, rulesIn}
+use Rattle.model.specs.Switches.{Rules, firstRules, sinceRequest3, without, stepUnder}
 use Rattle.model.proofs.Sums.{impossible, neither}
 use Rattle.model.proofs.Proposals.{most-acked-most}
 use Rattle.model.proofs.Access.{SameGroup, with-entries, with-entry-read}
-use Rattle.model.proofs.Refusing.{AllFail, none-holds, next-number, rulesIn, effectIn, by-tally, refuses, not-refused}
+use Rattle.model.proofs.Refusing.{AllFail, none-holds, next-number, rulesThere, effectIn, by-tally, refuses, not-refused}
 
 -- what a slip is that 5 to 8 do not refuse
 pub record Eligible (l : Ledger) (t : Transfer) : Type 0 where
@@ -111,8 +113,22 @@ tally-happens l s t ok new = go (enough (l .seats) (l .faults) (acksFor t (e .ac
         proposed s t (mostAcked (e .acks)) refl (rw (full, must)) ok new full must (most-acked-most (e .acks)) (rw (full, must))
     go false full false must = noted s t refl (rw (full, must)) ok new full (rw (full, must))
 
--- what a message does that no rule refuses
-effect-happens : (l : Ledger) (m : Message) → AllFail (rulesIn l m) → Happens l m (effectIn l m .reply) (effectIn l m .next)
+-- where every test fails, so do those that are left when one is left out
+fail-without : (code : ℕ) (rules : List Rule) → AllFail rules → AllFail (without code rules)
+fail-without code [] fail = tt
+fail-without code (r ∷ rs) fail = go (eqb (codeOf (r .1)) code) (fail-without code rs (fail .1))
+  where
+    go : (b : Bool) → AllFail (without code rs) → AllFail (cond b (without code rs) (r ∷ without code rs))
+    go true rest = rest
+    go false rest = (fail .0, rest)
+
+-- what no later rule refuses, no first rule does
+first-fail : (v : Rules) (l : Ledger) (m : Message) → AllFail (rulesThere v l m) → AllFail (rulesThere firstRules l m)
+first-fail firstRules l m fail = fail
+first-fail sinceRequest3 l m fail = fail-without 20 (rulesIn l m) fail
+
+-- what a message does that not even the first rules refuse
+effect-happens : (l : Ledger) (m : Message) → AllFail (rulesThere firstRules l m) → Happens l m (effectIn l m .reply) (effectIn l m .next)
 effect-happens l (Request t) fail = circulated t refl refl (with-entry-read l (t .account))
 effect-happens l (Circulated t) fail =
     let next = next-number (entryOf l (t .account)) t (fail .1 .0) (fail .1 .1 .0) in
@@ -131,17 +147,17 @@ effect-happens l (Decision t) fail =
     accepted-by-ruling t refl refl (eligible l t (fail .0) next (fail .1 .1 .1 .0)) refl
 effect-happens l (Inquiry a) fail = told a refl refl (with-entry-read l a)
 
--- every message, whatever the ledger
-pub happens : (l : Ledger) (m : Message) → Happens l m (step l m .reply) (step l m .next)
-happens l m = go (firstRefusal (rulesIn l m)) refl
+-- every message, whatever the ledger, under every set of rules
+pub happens : (v : Rules) (l : Ledger) (m : Message) → Happens l m (stepUnder v l m .reply) (stepUnder v l m .next)
+happens v l m = go (firstRefusal (rulesThere v l m)) refl
   where
-    go : (o : Option Refusal) → firstRefusal (rulesIn l m) ≡ o → Happens l m (step l m .reply) (step l m .next)
-    go none e = rw (not-refused l m e) (effect-happens l m (none-holds (rulesIn l m) e))
-    go (some q) e = rw (refuses l m q e) (refused q refl refl)
+    go : (o : Option Refusal) → firstRefusal (rulesThere v l m) ≡ o → Happens l m (stepUnder v l m .reply) (stepUnder v l m .next)
+    go none e = rw (not-refused v l m e) (effect-happens l m (first-fail v l m (none-holds (rulesThere v l m) e)))
+    go (some q) e = rw (refuses v l m q e) (refused q refl refl)
 
 -- no message changes n, f, k or the opening sum
-pub step-group : (l : Ledger) (m : Message) → SameGroup (step l m .next) l
-step-group l m = go (happens l m)
+pub step-group : (v : Rules) (l : Ledger) (m : Message) → SameGroup (stepUnder v l m .next) l
+step-group v l m = go (happens v l m)
   where
     kept : {next : Ledger} (es : List Entry) → next ≡ withEntries l es → SameGroup next l
     kept es e = rw e (with-entries l es .1)
@@ -160,8 +176,8 @@ step-group l m = go (happens l m)
 abbrev pub CarriesMost : Ledger → Message → Transfer → Type 0
 CarriesMost l m u = (s : Seat) × (t : Transfer) × (m ≡ Ack s t) × (u ≡ mostAcked (entryWithAck l s t .acks))
 
-pub carries-most : (l : Ledger) (m : Message) (u : Transfer) → step l m .reply ≡ Propose u → CarriesMost l m u
-carries-most l m u h = go (firstRefusal (rulesIn l m)) refl
+pub carries-most : (v : Rules) (l : Ledger) (m : Message) (u : Transfer) → stepUnder v l m .reply ≡ Propose u → CarriesMost l m u
+carries-most v l m u h = go (firstRefusal (rulesThere v l m)) refl
   where
     taken : (m : Message) → effectIn l m .reply ≡ Propose u → CarriesMost l m u
     taken (Request t) h = impossible (cc)
@@ -172,6 +188,6 @@ carries-most l m u h = go (firstRefusal (rulesIn l m)) refl
     taken (Decision t) h = impossible (cc)
     taken (Inquiry a) h = impossible (cc)
 
-    go : (o : Option Refusal) → firstRefusal (rulesIn l m) ≡ o → CarriesMost l m u
-    go none e = taken m (rw (not-refused l m e) at h)
-    go (some q) e = impossible (let z : Refuse q ≡ Propose u = rw (refuses l m q e) at h in cc)
+    go : (o : Option Refusal) → firstRefusal (rulesThere v l m) ≡ o → CarriesMost l m u
+    go none e = taken m (rw (not-refused v l m e) at h)
+    go (some q) e = impossible (let z : Refuse q ≡ Propose u = rw (refuses v l m q e) at h in cc)

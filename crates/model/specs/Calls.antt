@@ -1,5 +1,6 @@
 -- Document 01, "What each message does": for each kind of call the reply and the ledger after it. A message is about one account. What it comes to
--- is said of that account's entry (`turnAt`), which is then stored; and where its slip is accepted, settling begins (`step`).
+-- is said of that account's entry (`turnBy`), which is then stored; and where its slip is accepted, settling begins (`stepBy`). `step` is by today's
+-- rules; how earlier rules differ is in Switches.antt.
 use Prim.Native.Nat.{ℕ}
 use mathlib.Core.Path.{_≡_}
 use mathlib.Core.Bool.{cond}
@@ -10,7 +11,7 @@ use lib.ListN.{length, drop}
 use Rattle.model.specs.Types.{Account, Transfer, Entry, Ledger, Outcome, Refusal, Message, Request, Circulated, Ack, Decision, Inquiry, Reply, Circulate, Acknowledge, Accept, Propose, Note, Balance, Refuse, ListReply, Listed, ListRefused}
 use Rattle.model.specs.Basics.{bit, count}
 use Rattle.model.specs.Records.{accountOf, entryOf, setEntry, withEntry, withEntries, withAcked, withAck, withProposed, withPending}
-use Rattle.model.specs.Refusals.{firstRefusal, rulesOf, listRules}
+use Rattle.model.specs.Refusals.{Rule, firstRefusal, rulesOf, listRules}
 use Rattle.model.specs.Acks.{acksFor, acksRecorded, enough, mustPropose, mostAcked}
 use Rattle.model.specs.Settling.{isWaiting, Settled, settle}
 
@@ -70,9 +71,9 @@ abbrev pub unlessRefused : Option Refusal → Entry → Effect → Effect
 unlessRefused none e x = x
 unlessRefused (some r) e x = replies (Refuse r) e
 
--- Any message at the entry of its account.
-abbrev pub turnAt : Ledger → Entry → Message → Effect
-turnAt l e m = unlessRefused (firstRefusal (rulesOf l e m)) e (effect l e m)
+-- Any message at the entry of its account, by the rules that it meets.
+abbrev pub turnBy : List Rule → Ledger → Entry → Message → Effect
+turnBy rules l e m = unlessRefused (firstRefusal rules) e (effect l e m)
 
 -- "K carries how many slips this call booked"
 abbrev pub accepted : Ledger → Settled → Outcome
@@ -86,9 +87,17 @@ finishedBy l a accepts e = accepted l (settle (setEntry (l .entries) a e))
 abbrev pub finished : Ledger → Account → Effect → Outcome
 finished l a x = finishedBy l a (x .due) (x .entry)
 
+-- The outcome of a message, by the rules that it meets.
+abbrev pub stepBy : List Rule → Ledger → Message → Outcome
+stepBy rules l m = finished l (payerOf m) (turnBy rules l (entryOf l (payerOf m)) m)
+
+-- the rules that a message meets in a ledger
+abbrev pub rulesIn : Ledger → Message → List Rule
+rulesIn l m = rulesOf l (entryOf l (payerOf m)) m
+
 -- The outcome of a message, for every ledger and every message.
 unfoldable pub step : Ledger → Message → Outcome
-step l m = finished l (payerOf m) (turnAt l (entryOf l (payerOf m)) m)
+step l m = stepBy (rulesIn l m) l m
 
 -- Waiting list: the accounts with a waiting slip, each once. Their order is left free.
 abbrev pub WaitingAccounts : Ledger → List ℕ → Type 0

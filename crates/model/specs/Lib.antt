@@ -9,5 +9,6 @@ pub mod Replies
 pub mod Openings
 pub mod Settling
 pub mod Calls
+pub mod Switches
 pub mod Bundles
 pub mod Writing

@@ -1,12 +1,13 @@
--- Document 01, "Refusal codes": the tests, and for each kind of call their order. "Codes rise, save that 12 comes before 11."
+-- Document 01, "Refusal codes": the tests, and for each kind of call their order. "Codes rise, save that 12 comes before 11." And document 02, request 3:
+-- "20 for such a request or slip, after 5 and before 6."
 use Prim.Native.Nat.{ℕ, _+_}
 use mathlib.Core.Bool.{Bool, false, cond, _||_}
 use mathlib.Core.List.{List, [], _∷_, _++_}
 use mathlib.Core.Option.{Option, none, some}
 use lib.Dec.{leb, ltb, eqb}
 use lib.ListN.{length}
-use Rattle.model.specs.Types.{Seat, Account, Transfer, Slot, Empty, Full, Entry, Ledger, Message, Request, Circulated, Ack, Decision, Inquiry, Refusal, UnknownSeat, OutOfRange, PastNumber, FutureNumber, AlreadyAccepted, AckRepeated, AckConflicting, InsufficientFunds, AlreadyAcked, ShortBuffer}
-use Rattle.model.specs.Transfers.{sameNumber}
+use Rattle.model.specs.Types.{Seat, Account, Transfer, Slot, Empty, Full, Entry, Ledger, Message, Request, Circulated, Ack, Decision, Inquiry, Refusal, UnknownSeat, OutOfRange, PastNumber, FutureNumber, AlreadyAccepted, AckRepeated, AckConflicting, InsufficientFunds, AlreadyAcked, ShortBuffer, SelfPayment}
+use Rattle.model.specs.Transfers.{sameAccount, sameNumber}
 use Rattle.model.specs.Acks.{ackAt, holds, conflicts}
 
 -- a test, and the refusal if it holds
@@ -32,6 +33,10 @@ outOfRange l t =
     unknownAccount l (t .account) || unknownAccount l (t .recipient) || eqb (t .number) 0 || eqb (t .value) 0
     || ltb (l .total) (t .value)
 
+-- 20: "Requests and slips whose recipient is the payer"
+abbrev pub paysItself : Transfer → Bool
+paysItself t = sameAccount (t .recipient) (t .account)
+
 -- 6: number at or below current
 abbrev pub pastNumber : Entry → Transfer → Bool
 pastNumber e t = leb (t .number) (e .current)
@@ -53,22 +58,26 @@ ackFrom e s = ackAt (e .acks) (s .0)
 abbrev pub aboveBalance : Entry → Transfer → Bool
 aboveBalance e t = ltb (e .balance) (t .value)
 
--- 5 to 8: what every slip meets, whichever call brings it
+-- 6 to 8: what the number of every slip meets, whichever call brings it
+abbrev pub numberRules : Entry → Transfer → List Rule
+numberRules e t =
+    (pastNumber e t, PastNumber) ∷ (futureNumber e t, FutureNumber) ∷ (waitsAlready (e .pending) t, AlreadyAccepted) ∷ []
+
+-- 5 to 8: what the slip of an ack or ruling meets. "Acks and rulings for such slips are still taken": never 20
 abbrev pub transferRules : Ledger → Entry → Transfer → List Rule
-transferRules l e t =
-    (outOfRange l t, OutOfRange)
-    ∷ (pastNumber e t, PastNumber)
-    ∷ (futureNumber e t, FutureNumber)
-    ∷ (waitsAlready (e .pending) t, AlreadyAccepted)
-    ∷ []
+transferRules l e t = (outOfRange l t, OutOfRange) ∷ numberRules e t
 
--- requests: 5 6 7 8 11
+-- 5 20 6 7 8: what a request or slip meets first
+abbrev pub offerRules : Ledger → Entry → Transfer → List Rule
+offerRules l e t = (outOfRange l t, OutOfRange) ∷ (paysItself t, SelfPayment) ∷ numberRules e t
+
+-- requests: 5 20 6 7 8 11
 abbrev pub requestRules : Ledger → Entry → Transfer → List Rule
-requestRules l e t = transferRules l e t ++ ((aboveBalance e t, InsufficientFunds) ∷ [])
+requestRules l e t = offerRules l e t ++ ((aboveBalance e t, InsufficientFunds) ∷ [])
 
--- slips: 5 6 7 8 12 11. 12: slip for a number that this seat has acked
+-- slips: 5 20 6 7 8 12 11. 12: slip for a number that this seat has acked
 abbrev pub circulatedRules : Ledger → Entry → Transfer → List Rule
-circulatedRules l e t = transferRules l e t ++ ((e .acked, AlreadyAcked) ∷ (aboveBalance e t, InsufficientFunds) ∷ [])
+circulatedRules l e t = offerRules l e t ++ ((e .acked, AlreadyAcked) ∷ (aboveBalance e t, InsufficientFunds) ∷ [])
 
 -- acks: 4 to 10. 9, 10: an ack from the ack's seat is recorded for this number and its slip is equal, or conflicts
 abbrev pub ackRules : Ledger → Entry → Seat → Transfer → List Rule

@@ -1,7 +1,7 @@
 -- The documents' letter, number and values of each answer.
 use Prim.Native.Nat.{ℕ}
 use mathlib.Core.List.{List, [], _∷_}
-use Rattle.model.specs.Types.{Transfer, Refusal, BadGroup, BadAccounts, SumTooLarge, UnknownSeat, OutOfRange, PastNumber, FutureNumber, AlreadyAccepted, AckRepeated, AckConflicting, InsufficientFunds, AlreadyAcked, BadHeader, BadContents, BadEnd, BadSum, ShortBuffer, TooManyMessages, NoRoom, Reply, Circulate, Acknowledge, Accept, Propose, Note, Balance, Refuse, OpenReply, Opened, OpenRefused, ListReply, Listed, ListRefused, BundleReply, Sound, BundleRefused, WriteReply, Written, WriteRefused}
+use Rattle.model.specs.Types.{Transfer, Refusal, BadGroup, BadAccounts, SumTooLarge, UnknownSeat, OutOfRange, PastNumber, FutureNumber, AlreadyAccepted, AckRepeated, AckConflicting, InsufficientFunds, AlreadyAcked, BadHeader, BadContents, BadEnd, BadSum, ShortBuffer, TooManyMessages, NoRoom, SelfPayment, Reply, Circulate, Acknowledge, Accept, Propose, Note, Balance, Refuse, OpenReply, Opened, OpenRefused, ListReply, Listed, ListRefused, BundleReply, Sound, BundleRefused, WriteReply, Written, WriteRefused}
 
 -- the refusal codes
 abbrev pub codeOf : Refusal → ℕ
@@ -24,6 +24,7 @@ codeOf BadSum = 16
 codeOf ShortBuffer = 17
 codeOf TooManyMessages = 18
 codeOf NoRoom = 19
+codeOf SelfPayment = 20
 
 -- the letter of a reply, in ASCII: C, A, K, P, N, B, R
 abbrev pub letterOf : Reply → ℕ

@@ -10,7 +10,7 @@ pub use Rattle.model.specs.declared.Slot.{Slot}
 pub use Rattle.model.specs.declared.Slot.the-variants.{Empty, Full}
 pub use Rattle.model.specs.declared.Opening.{Opening}
 pub use Rattle.model.specs.declared.Refusal.{Refusal}
-pub use Rattle.model.specs.declared.Refusal.the-variants.{BadGroup, BadAccounts, SumTooLarge, UnknownSeat, OutOfRange, PastNumber, FutureNumber, AlreadyAccepted, AckRepeated, AckConflicting, InsufficientFunds, AlreadyAcked, BadHeader, BadContents, BadEnd, BadSum, ShortBuffer, TooManyMessages, NoRoom}
+pub use Rattle.model.specs.declared.Refusal.the-variants.{BadGroup, BadAccounts, SumTooLarge, UnknownSeat, OutOfRange, PastNumber, FutureNumber, AlreadyAccepted, AckRepeated, AckConflicting, InsufficientFunds, AlreadyAcked, BadHeader, BadContents, BadEnd, BadSum, ShortBuffer, TooManyMessages, NoRoom, SelfPayment}
 pub use Rattle.model.specs.declared.Message.{Message}
 pub use Rattle.model.specs.declared.Message.the-variants.{Request, Circulated, Ack, Decision, Inquiry}
 pub use Rattle.model.specs.declared.Reply.{Reply}

@@ -30,7 +30,7 @@ pub struct Opening {
     pub balances: [u32; 32],
 }
 
-// The refusals, in the order of their codes, 1 to 19.
+// The refusals, in the order of their codes, 1 to 20.
 pub enum Refusal {
     BadGroup,
     BadAccounts,
@@ -51,6 +51,7 @@ pub enum Refusal {
     ShortBuffer,
     TooManyMessages,
     NoRoom,
+    SelfPayment,
 }
 
 // What a message asks for.

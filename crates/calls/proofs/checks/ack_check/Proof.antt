@@ -1,4 +1,4 @@
--- The seat comes first, then what every transfer meets, then the ack that this seat has recorded.
+-- The seat comes first, then what the transfer of an ack or a decision meets, then the ack that this seat has recorded.
 use mathlib.Core.Path.{sym, _∙_}
 use mathlib.Core.List.{List, [], _∷_}
 use borrow.Author.Needs.{needs}
@@ -17,7 +17,7 @@ use Rattle.calls.proofs.Ranges.{fits, seat-place}
 use Rattle.calls.proofs.checks.ack_check.Statement.{statement}
 use Rattle.calls.proofs.checks.ack_check.Tie as tie
 
--- the rules after those that every transfer meets
+-- the rules after those that the transfer meets
 abbrev after : Entry → Seat → Transfer → List Rule
 after e s t = (holds t (ackFrom e s), AckRepeated) ∷ (conflicts t (ackFrom e s), AckConflicting) ∷ []
 

@@ -1,0 +1,46 @@
+-- Document 02, request 3 and later: seats "switch on different days". The sets of rules in the order of time; what a held ledger becomes at a switch; and
+-- the step under earlier rules, told by how it differs from today's. A request that changes the rules adds a set, and says here what those before it lack.
+use Prim.Native.Nat.{ℕ}
+use mathlib.Core.Bool.{cond}
+use mathlib.Core.List.{List, [], _∷_}
+use lib.Dec.{eqb}
+use Rattle.model.specs.Types.{Ledger, Outcome, Message}
+use Rattle.model.specs.Replies.{codeOf}
+use Rattle.model.specs.Refusals.{Rule}
+use Rattle.model.specs.Calls.{rulesIn, stepBy}
+
+-- The sets of rules, in the order of time.
+pub data Rules : Type 0 where
+  -- document 01 as it was
+  firstRules : Rules
+  -- since request 3 of document 02
+  sinceRequest3 : Rules
+
+abbrev pub newest : Rules
+newest = sinceRequest3
+
+-- the rules to which a seat switches: the next in time. Under the newest, a switch changes nothing
+abbrev pub nextRules : Rules → Rules
+nextRules firstRules = sinceRequest3
+nextRules sinceRequest3 = sinceRequest3
+
+-- What the ledger becomes that a seat holds when it switches from these rules to the next: "At this and every later switch a seat goes on with the book it
+-- holds, marks included".
+abbrev pub switched : Rules → Ledger → Ledger
+switched firstRules l = l
+switched sinceRequest3 l = l
+
+-- the rules without the one of this code
+abbrev pub without : ℕ → List Rule → List Rule
+without code [] = []
+without code (r ∷ rs) = cond (eqb (codeOf (r .1)) code) (without code rs) (r ∷ without code rs)
+
+-- What a message meets under a set of rules, given what it meets today. Under the first rules, 20 is left out: "Requests and slips whose recipient is the
+-- payer were accepted so far".
+abbrev pub rulesUnder : Rules → List Rule → List Rule
+rulesUnder firstRules rules = without 20 rules
+rulesUnder sinceRequest3 rules = rules
+
+-- The outcome of a message under a set of rules.
+unfoldable pub stepUnder : Rules → Ledger → Message → Outcome
+stepUnder v l m = stepBy (rulesUnder v (rulesIn l m)) l m

@@ -17,6 +17,8 @@ pub mod Demand3
 pub mod Reasons
 pub mod Always
 pub mod Theorem1
+pub mod Switching
 pub mod Examples
 pub mod Ties
+pub mod SwitchesTried
 pub mod FactsTried

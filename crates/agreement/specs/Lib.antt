@@ -1,4 +1,5 @@
--- Demand 3 as a statement, in reading order. `Claims.Demand3` is the whole of it; beside it Facts, Undisputed, and Proposals: request 2 of document 02.
+-- Demand 3 as a statement, in reading order. `Claims.Demand3` is the whole of it; beside it Facts, Undisputed, and of document 02 Proposals, request 2, and
+-- Switching, request 3.
 pub mod Types
 pub mod Runs
 pub mod Premises
@@ -7,3 +8,4 @@ pub mod Claims
 pub mod Facts
 pub mod Undisputed
 pub mod Proposals
+pub mod Switching

@@ -1,0 +1,167 @@
+-- Document 02, request 3, tried: a run in which seats switch on different days keeps the premises, and what demand 3 says of it; a mark that stands; and
+-- running an old bundle again, which is no switch. All is computed.
+use Prim.Native.Nat.{ℕ}
+use mathlib.Core.Path.{_≡_, refl, ap}
+use mathlib.Core.Bool.{Bool, true, false, not, _&&_, false≢true}
+use mathlib.Core.List.{List, [], _∷_}
+use lib.Dec.{lit≤, lit<}
+use Rattle.agreement.specs.Types.{Seat, Transfer, Entry, Ledger, Opening, Circulated, Reply, Acknowledge, Accept, Propose, Note, Refuse}
+use Rattle.agreement.specs.Runs.{Opens, FewBad, switch, Event, Run, start, _▹_, Within, at-end, sooner, happened, atHonest, rulesAt, ledgerAt, Obeys}
+use Rattle.agreement.specs.Premises.{Premises}
+use Rattle.agreement.specs.Slates.{leaveAtMost, leaveAll, slateAt}
+use Rattle.agreement.specs.Claims.{Claim}
+use Rattle.agreement.specs.Switching.{MarkStands}
+use Rattle.agreement.proofs.Demand3.{demand3}
+use Rattle.agreement.proofs.Switching.{marks-stand}
+use Rattle.agreement.proofs.Examples.{page, t, bad, today, asked, acks, ack, ruling, _then_, putsForward, takes, isRuling, slate}
+use Rattle.model.specs.declared.Refusal.the-variants.{AlreadyAcked, SelfPayment}
+use Rattle.model.specs.Records.{seatOf, accountOf, entryOf, noAcks}
+use Rattle.model.specs.Transfers.{equal, conflict}
+use Rattle.model.specs.Openings.{openReply}
+use Rattle.model.specs.Acks.{hasMost, mostAcked}
+use Rattle.model.specs.Settling.{lowestAffordable, apply, settleAtMost, settle}
+use Rattle.model.specs.Calls.{step}
+use Rattle.model.specs.Switches.{Rules, firstRules, newest, stepUnder}
+use Rattle.model.proofs.Rows.{slip}
+
+-- a home pays itself; and three slips of its next number that conflict
+abbrev w : Transfer
+w = slip 0 1 4 0
+
+abbrev x : Transfer
+x = slip 0 2 4 1
+
+abbrev y : Transfer
+y = slip 0 2 5 1
+
+abbrev z : Transfer
+z = slip 0 2 6 1
+
+-- every seat starts under the first rules
+abbrev asItWas : Run
+asItWas = start (λ s. firstRules)
+
+-- seat s switches
+abbrev switches : ℕ → Event
+switches s = record { at = seatOf s; call = switch }
+
+-- Seat 0 switches before it could ack w, which it then refuses. Seats 1 to 4 ack w. Seats 1 and 2 switch: the mark stands, the same slip meets 20 and
+-- another of that number 12. Then acks of w from seats 1 to 4 and from the bad seat reach each honest seat, five are enough, and w is booked: at seats that
+-- have switched, at seat 3, which switches between these acks, and at seat 4, which never does.
+abbrev booked : Run
+booked =
+    asItWas
+    ▹ switches 0 ▹ asked 0 (Circulated w) (Refuse SelfPayment)
+    ▹ acks 1 w ▹ acks 2 w ▹ acks 3 w ▹ acks 4 w
+    ▹ switches 1 ▹ asked 1 (Circulated w) (Refuse SelfPayment)
+    ▹ switches 2 ▹ asked 2 (Circulated t) (Refuse AlreadyAcked)
+    ▹ ack 0 1 w Note ▹ ack 0 2 w Note ▹ ack 0 3 w Note ▹ ack 0 4 w Note ▹ ack 0 5 w (Accept 1)
+    ▹ ack 1 1 w Note ▹ ack 1 2 w Note ▹ ack 1 3 w Note ▹ ack 1 4 w Note ▹ ack 1 5 w (Accept 1)
+    ▹ ack 2 1 w Note ▹ ack 2 2 w Note ▹ ack 2 3 w Note ▹ ack 2 4 w Note ▹ ack 2 5 w (Accept 1)
+    ▹ ack 3 1 w Note ▹ ack 3 2 w Note ▹ ack 3 3 w Note ▹ switches 3 ▹ ack 3 4 w Note ▹ ack 3 5 w (Accept 1)
+    ▹ ack 4 1 w Note ▹ ack 4 2 w Note ▹ ack 4 3 w Note ▹ ack 4 4 w Note ▹ ack 4 5 w (Accept 1)
+
+-- Of the next number, seats 0 and 1 ack x, seats 3 and 4 ack y, and the bad seat z. Seat 1 has switched and puts x forward, the first by its lowest seat;
+-- seat 4 has not, and puts y forward. Seat 2 switches once more between these acks, which changes nothing. The council rules for x, at all five.
+abbrev pub across : Run
+across =
+    booked
+    ▹ acks 0 x ▹ acks 1 x ▹ acks 3 y ▹ acks 4 y
+    ▹ ack 1 0 x Note ▹ ack 1 1 x Note ▹ ack 1 3 y Note ▹ ack 1 4 y Note ▹ ack 1 5 z (Propose x)
+    ▹ ack 4 0 x Note ▹ ack 4 1 x Note ▹ ack 4 3 y Note ▹ ack 4 4 y Note ▹ ack 4 5 z (Propose y)
+    ▹ ack 2 0 x Note ▹ ack 2 1 x Note ▹ switches 2 ▹ ack 2 3 y Note ▹ ack 2 4 y Note ▹ ack 2 5 z (Propose x)
+    ▹ ruling 0 x (Accept 1) ▹ ruling 1 x (Accept 1) ▹ ruling 2 x (Accept 1) ▹ ruling 3 x (Accept 1) ▹ ruling 4 x (Accept 1)
+
+across-obeys : Obeys page across
+unfolding rulesAt ledgerAt noAcks equal conflict hasMost mostAcked lowestAffordable apply settleAtMost settle stepUnder
+across-obeys =
+    tt
+    then tt then refl
+    then refl then refl then refl then refl
+    then tt then refl
+    then tt then refl
+    then refl then refl then refl then refl then refl
+    then refl then refl then refl then refl then refl
+    then refl then refl then refl then refl then refl
+    then refl then refl then refl then tt then refl then refl
+    then refl then refl then refl then refl then refl
+    then refl then refl then refl then refl
+    then refl then refl then refl then refl then refl
+    then refl then refl then refl then refl then (y, refl, refl)
+    then refl then refl then tt then refl then refl then refl
+    then refl then refl then refl then refl then refl
+
+-- It is a run as demand 3 means it, and keeps the premises.
+pub across-keeps : Opens page × FewBad page bad × (atHonest page bad across ≡ true) × Obeys page across × Premises page bad across
+unfolding equal conflict openReply
+across-keeps = (
+  record { full-page = refl; not-refused = refl },
+  lit≤ tt,
+  refl,
+  across-obeys,
+  record { acks-genuine = refl; rulings-rightful = refl },
+)
+
+-- So demand 3 holds of it.
+pub across-claim : Claim page bad across
+across-claim = demand3 page bad across (across-keeps .0) (across-keeps .1) (across-keeps .2) (across-keeps .3) (across-keeps .4)
+
+-- each honest seat accepts the slip
+abbrev acceptedByAll : Transfer → Run → Bool
+acceptedByAll v run =
+    happened (takes 0 v) run && happened (takes 1 v) run && happened (takes 2 v) run && happened (takes 3 v) run && happened (takes 4 v) run
+
+-- It has in it what the request is about: w is accepted by acks at all five honest seats, x by rulings; both x and y were put forward; seat 4 has not
+-- switched, the others have; and all five slates say the same.
+pub across-has :
+    (acceptedByAll w across ≡ true)
+    × (happened (λ e. takes 0 w e && isRuling e) across ≡ false)
+    × (acceptedByAll x across ≡ true)
+    × (happened (putsForward x) across && happened (putsForward y) across ≡ true)
+    × (rulesAt (seatOf 0) booked ≡ newest)
+    × (rulesAt (seatOf 3) booked ≡ newest)
+    × (rulesAt (seatOf 2) across ≡ newest)
+    × (rulesAt (seatOf 4) across ≡ firstRules)
+unfolding rulesAt equal
+across-has = (refl, refl, refl, refl, refl, refl, refl, refl)
+
+pub across-slates :
+    (slate page 0 booked ≡ (10, 1) ∷ (3, 0) ∷ [])
+    × (slate page 0 across ≡ (6, 2) ∷ (7, 0) ∷ [])
+    × (slate page 2 across ≡ (6, 2) ∷ (7, 0) ∷ [])
+    × (slate page 3 across ≡ (6, 2) ∷ (7, 0) ∷ [])
+    × (slate page 4 across ≡ (6, 2) ∷ (7, 0) ∷ [])
+unfolding slateAt leaveAll leaveAtMost equal
+across-slates = (refl, refl, refl, refl, refl)
+
+-- "running an old bundle again is no switch, since a slip acked in it could now meet 20 and leave no mark." The old bundle has the slip w. One seat played
+-- it under the first rules, and switched; another plays it again under today's.
+abbrev heldOn : Run
+heldOn = asItWas ▹ acks 0 w ▹ switches 0
+
+abbrev ranAgain : Run
+ranAgain = today ▹ asked 0 (Circulated w) (Refuse SelfPayment)
+
+-- both obey, each by its rules, which are in the end the same
+pub no-switch-obeys : Obeys page heldOn × Obeys page ranAgain × (rulesAt (seatOf 0) heldOn ≡ rulesAt (seatOf 0) ranAgain)
+unfolding rulesAt ledgerAt noAcks equal conflict lowestAffordable apply settleAtMost settle stepUnder
+no-switch-obeys = (tt then refl then tt, tt then refl, refl)
+
+abbrev mark : Ledger → Bool
+mark l = entryOf l (accountOf 0) .acked
+
+-- The ledgers that they hold differ in the mark: the one that ran it again would now ack a second slip of that number.
+pub no-switch :
+    (mark (ledgerAt page (seatOf 0) heldOn) ≡ true)
+    × (mark (ledgerAt page (seatOf 0) ranAgain) ≡ false)
+    × (ledgerAt page (seatOf 0) ranAgain ≡ ledgerAt page (seatOf 0) heldOn → ⊥)
+    × (step (ledgerAt page (seatOf 0) heldOn) (Circulated w) .reply ≡ Refuse SelfPayment)
+    × (step (ledgerAt page (seatOf 0) heldOn) (Circulated t) .reply ≡ Refuse AlreadyAcked)
+    × (step (ledgerAt page (seatOf 0) ranAgain) (Circulated t) .reply ≡ Acknowledge)
+unfolding rulesAt ledgerAt noAcks equal conflict lowestAffordable apply settleAtMost settle step stepUnder
+no-switch = (refl, refl, λ same. false≢true (ap mark same), refl, refl, refl)
+
+-- what is said of every mark is said of this one
+pub mark-tried : MarkStands page (seatOf 0) heldOn w
+unfolding rulesAt ledgerAt noAcks equal conflict lowestAffordable apply settleAtMost settle stepUnder
+mark-tried = marks-stand page heldOn asItWas heldOn (acks 0 w) w (across-keeps .0) (no-switch-obeys .0) (sooner at-end) at-end refl (lit< tt)

@@ -62,14 +62,16 @@ booked =
     ▹ ack 4 1 w Note ▹ ack 4 2 w Note ▹ ack 4 3 w Note ▹ ack 4 4 w Note ▹ ack 4 5 w (Accept 1)
 
 -- Of the next number, seats 0 and 1 ack x, seats 3 and 4 ack y, and the bad seat z. Seat 1 has switched and puts x forward, the first by its lowest seat;
--- seat 4 has not, and puts y forward. Seat 2 switches once more between these acks, which changes nothing. The council rules for x, at all five.
+-- seat 4 has not, and puts y forward. Seat 2 switches once more between these acks, which changes nothing: it refuses a home that
+-- pays itself, and puts x forward too. The council rules for x, at all five.
 abbrev pub across : Run
 across =
     booked
     ▹ acks 0 x ▹ acks 1 x ▹ acks 3 y ▹ acks 4 y
     ▹ ack 1 0 x Note ▹ ack 1 1 x Note ▹ ack 1 3 y Note ▹ ack 1 4 y Note ▹ ack 1 5 z (Propose x)
     ▹ ack 4 0 x Note ▹ ack 4 1 x Note ▹ ack 4 3 y Note ▹ ack 4 4 y Note ▹ ack 4 5 z (Propose y)
-    ▹ ack 2 0 x Note ▹ ack 2 1 x Note ▹ switches 2 ▹ ack 2 3 y Note ▹ ack 2 4 y Note ▹ ack 2 5 z (Propose x)
+    ▹ ack 2 0 x Note ▹ ack 2 1 x Note ▹ switches 2 ▹ asked 2 (Circulated (slip 0 2 4 0)) (Refuse SelfPayment)
+    ▹ ack 2 3 y Note ▹ ack 2 4 y Note ▹ ack 2 5 z (Propose x)
     ▹ ruling 0 x (Accept 1) ▹ ruling 1 x (Accept 1) ▹ ruling 2 x (Accept 1) ▹ ruling 3 x (Accept 1) ▹ ruling 4 x (Accept 1)
 
 across-obeys : Obeys page across
@@ -88,7 +90,8 @@ across-obeys =
     then refl then refl then refl then refl
     then refl then refl then refl then refl then refl
     then refl then refl then refl then refl then (y, refl, refl)
-    then refl then refl then tt then refl then refl then refl
+    then refl then refl then tt then refl
+    then refl then refl then refl
     then refl then refl then refl then refl then refl
 
 -- It is a run as demand 3 means it, and keeps the premises.

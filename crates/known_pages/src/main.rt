@@ -1,4 +1,4 @@
-// Plays document 01's known pages, and request 2's, on the compiled ledger and writes each reply as a line: the letter, then the values in two digits.
+// Plays document 01's known pages, and those of document 02's requests 2 and 3, on the compiled ledger and writes each reply as a line: the letter, then the values in two digits.
 // What it must write is the file `stdout` beside src/, taken from the documents.
 use basics::codes::code_of;
 use basics::codes::letter_of;
@@ -162,6 +162,26 @@ fn split_three_three() {
     ack(&mut other, 6, transfer(0, 1, 4, 0));
 }
 
+// A home pays itself: its request and slip meet 20, after 5 and before 6, 7 and 11; acks of such a slip are taken, and it is booked.
+fn self_payment() {
+    let t = transfer(0, 1, 4, 0);
+    let mut book = [0u32; BOOK_WORDS];
+    opening(&mut book, 6, 1, 10, 5);
+    play(&mut book, Message::Request(t));
+    play(&mut book, Message::Circulated(t));
+    play(&mut book, Message::Circulated(transfer(0, 9, 4, 0)));
+    play(&mut book, Message::Circulated(transfer(0, 9, 0, 0)));
+    play(&mut book, Message::Circulated(transfer(0, 1, 11, 0)));
+    ack(&mut book, 0, t);
+    ack(&mut book, 1, t);
+    ack(&mut book, 2, t);
+    ack(&mut book, 3, t);
+    ack(&mut book, 4, t);
+    play(&mut book, Message::Circulated(t));
+    play(&mut book, Message::Decision(transfer(0, 2, 4, 0)));
+    question(&mut book, 0);
+}
+
 // "Balances 10 and 5, just opened: a first slip from account 0 of 10 gives A; one of 11 in its place gives 11; one of 16 gives 5."
 fn funds() {
     let mut book = [0u32; BOOK_WORDS];
@@ -205,6 +225,7 @@ fn main() {
     split_three_two();
     split_four_one();
     split_three_three();
+    self_payment();
     funds();
     rulings();
     whole_case();

@@ -1,5 +1,5 @@
 -- Places in a run: how they are ordered, what the tests over a run say at each of them, and how a seat's ledger gets from one to the next.
-use mathlib.Core.Path.{_≡_, refl, ap, sym}
+use mathlib.Core.Path.{_≡_, refl, ap, sym, subst}
 use mathlib.Core.Logic.{_⊎_, inl, inr}
 use mathlib.Core.Bool.{Bool, true, false, cond, or-true}
 use borrow.Author.Tests.{eq-eqb, eqb-true}
@@ -122,7 +122,9 @@ module _ (o : Opening) (s : Seat) (P : Run → Ledger → Type 0)
         → P r (ledgerAt o s r) → P (r ▹ record { at = s; call = c }) (nextLedger (rulesAt s r) (ledgerAt o s r) c)
     at-seat r (message m q) obeys ok yet = answered r (rulesAt s r) m q (ledgerAt o s r) refl obeys ok yet
     at-seat r (waitingList b q a) obeys ok yet = listed r b a q (ledgerAt o s r) yet
-    at-seat r switch obeys ok yet = rw (switched-same (rulesAt s r) (ledgerAt o s r)) (switches r (ledgerAt o s r) yet)
+    at-seat r switch obeys ok yet =
+        subst (λ (l : Ledger). P (r ▹ record { at = s; call = switch }) l) (sym (switched-same (rulesAt s r) (ledgerAt o s r)))
+        (switches r (ledgerAt o s r) yet)
 
     pub one-event : (r : Run) (e : Event) → Obeys o (r ▹ e) → P r (ledgerAt o s r) → P (r ▹ e) (ledgerAt o s (r ▹ e))
     unfolding ledgerAt

@@ -2,11 +2,11 @@
 -- running an old bundle again, which is no switch. All is computed.
 use Prim.Native.Nat.{ℕ}
 use mathlib.Core.Path.{_≡_, refl, ap}
-use mathlib.Core.Bool.{Bool, true, false, not, _&&_, false≢true}
-use mathlib.Core.List.{List, [], _∷_}
+use mathlib.Core.Bool.{Bool, true, false, _&&_, false≢true}
+use mathlib.Core.List.{[], _∷_}
 use lib.Dec.{lit≤, lit<}
-use Rattle.agreement.specs.Types.{Seat, Transfer, Entry, Ledger, Opening, Circulated, Reply, Acknowledge, Accept, Propose, Note, Refuse}
-use Rattle.agreement.specs.Runs.{Opens, FewBad, switch, Event, Run, start, _▹_, Within, at-end, sooner, happened, atHonest, rulesAt, ledgerAt, Obeys}
+use Rattle.agreement.specs.Types.{Transfer, Ledger, Circulated, Acknowledge, Accept, Propose, Note, Refuse}
+use Rattle.agreement.specs.Runs.{Opens, FewBad, switch, Event, Run, start, _▹_, at-end, sooner, happened, atHonest, rulesAt, ledgerAt, Obeys}
 use Rattle.agreement.specs.Premises.{Premises}
 use Rattle.agreement.specs.Slates.{leaveAtMost, leaveAll, slateAt}
 use Rattle.agreement.specs.Claims.{Claim}
@@ -21,7 +21,7 @@ use Rattle.model.specs.Openings.{openReply}
 use Rattle.model.specs.Acks.{hasMost, mostAcked}
 use Rattle.model.specs.Settling.{lowestAffordable, apply, settleAtMost, settle}
 use Rattle.model.specs.Calls.{step}
-use Rattle.model.specs.Switches.{Rules, firstRules, newest, stepUnder}
+use Rattle.model.specs.Switches.{firstRules, newest, stepUnder}
 use Rattle.model.proofs.Rows.{slip}
 
 -- a home pays itself; and three slips of its next number that conflict

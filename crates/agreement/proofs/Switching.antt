@@ -2,17 +2,17 @@
 use Prim.Native.Nat.{_+_, _<_}
 use native.Mathlib.Omega.{arith}
 use mathlib.Core.Path.{_≡_, refl, ap, sym, _∙_}
-use mathlib.Core.Logic.{_⊎_, inl, inr}
+use mathlib.Core.Logic.{inl, inr}
 use mathlib.Core.Bool.{Bool, true, false}
 use mathlib.Core.Option.{Option, none, some}
 use borrow.Author.Tests.{lt-leb, le-ltb}
-use Rattle.agreement.specs.Types.{Seat, Account, Transfer, Slot, Empty, Full, Entry, Ledger, Opening, Message, Request, Circulated, Ack, Decision, Inquiry, Reply, Acknowledge, Propose}
-use Rattle.agreement.specs.Runs.{Opens, Event, Run, _▹_, Within, rulesAt, ledgerAt, acksWith, freeSlip, StandsFor, MayReply, Obeys, acked}
-use Rattle.agreement.specs.Switching.{isAckOrRuling, SameSaveTies, TakenAlike, MarkStands, MarksStand}
-use Rattle.agreement.proofs.Places.{before, within-trans, obeys-before, obeys-at}
+use Rattle.agreement.specs.Types.{Seat, Account, Transfer, Empty, Entry, Ledger, Message, Request, Circulated, Ack, Decision, Inquiry, Reply, Acknowledge}
+use Rattle.agreement.specs.Runs.{rulesAt, ledgerAt, acksWith, freeSlip, StandsFor, MayReply, Obeys, acked}
+use Rattle.agreement.specs.Switching.{isAckOrRuling, SameSaveTies, TakenAlike, MarksStand}
+use Rattle.agreement.proofs.Places.{before, obeys-before, obeys-at}
 use Rattle.agreement.proofs.Proposals.{free-carried, most-with, happens-in-run}
 use Rattle.agreement.proofs.Deeds.{acked-is}
-use Rattle.agreement.proofs.Soundness.{group, Sound, same-range}
+use Rattle.agreement.proofs.Soundness.{group, same-range}
 use Rattle.agreement.proofs.StepLaws.{answer-acknowledge}
 use Rattle.agreement.proofs.Reachable.{sound}
 use Rattle.agreement.proofs.Acked.{acked-so-far}
@@ -20,10 +20,9 @@ use Rattle.model.specs.declared.Refusal.the-variants.{AlreadyAcked, SelfPayment
 use Rattle.model.specs.Types.{Outcome}
 use Rattle.model.specs.Basics.{bit}
 use Rattle.model.specs.Records.{entryOf}
-use Rattle.model.specs.Acks.{hasMost}
-use Rattle.model.specs.Refusals.{firstRefusal, outOfRange, paysItself, waitsAlready}
-use Rattle.model.specs.Calls.{rulesIn, stepBy, step}
-use Rattle.model.specs.Switches.{Rules, newest, rulesUnder, stepUnder}
+use Rattle.model.specs.Refusals.{outOfRange, paysItself}
+use Rattle.model.specs.Calls.{stepBy, step}
+use Rattle.model.specs.Switches.{Rules, newest, stepUnder}
 use Rattle.model.proofs.Sums.{impossible}
 use Rattle.model.proofs.Proposals.{most-acked-most}
 use Rattle.model.proofs.Refusing.{refusal, refuses, newest-step}

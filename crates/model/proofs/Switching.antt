@@ -1,8 +1,20 @@
--- What does not differ between the sets of rules: the ledger that a seat goes on with, and what acks and rulings meet.
+-- The sets of rules: that the first are document 01's; and what does not differ between them, the ledger that a seat goes on with, and what acks and rulings
+-- meet.
 use mathlib.Core.Path.{_≡_, refl}
-use Rattle.model.specs.Types.{Seat, Transfer, Ledger, Ack, Decision}
+use mathlib.Core.List.{[], _∷_, _++_}
+use Rattle.model.specs.Types.{Seat, Transfer, Entry, Ledger, InsufficientFunds, AlreadyAcked, Request, Circulated, Ack, Decision}
+use Rattle.model.specs.Refusals.{aboveBalance, transferRules, rulesOf}
 use Rattle.model.specs.Calls.{rulesIn}
 use Rattle.model.specs.Switches.{Rules, firstRules, sinceRequest3, switched, rulesUnder}
+
+-- under the first rules a request meets 5 6 7 8 11 and a slip 5 6 7 8 12 11, as in document 01
+pub first-request : (l : Ledger) (e : Entry) (t : Transfer)
+    → rulesUnder firstRules (rulesOf l e (Request t)) ≡ transferRules l e t ++ ((aboveBalance e t, InsufficientFunds) ∷ [])
+first-request l e t = refl
+
+pub first-circulated : (l : Ledger) (e : Entry) (t : Transfer)
+    → rulesUnder firstRules (rulesOf l e (Circulated t)) ≡ transferRules l e t ++ ((e .acked, AlreadyAcked) ∷ (aboveBalance e t, InsufficientFunds) ∷ [])
+first-circulated l e t = refl
 
 -- a switch leaves the ledger
 pub switched-same : (v : Rules) (l : Ledger) → switched v l ≡ l

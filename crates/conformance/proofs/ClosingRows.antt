@@ -6,11 +6,10 @@ use mathlib.Core.List.{List, [], _∷_, _++_, map}
 use lib.ListN.{length, take, drop, length-map, List·getD-map}
 use lib.Seq.{length-take-le, drop-cons, getD-take}
 use Rattle.model.specs.Basics.{sumOf}
-use Rattle.model.specs.Switches.{newest}
 use Rattle.model.specs.Records.{accountOf, freshEntry, sumCurrents, entryOf}
 use Rattle.model.proofs.Sums.{sum-front, sum-map}
 use Rattle.agreement.specs.Types.{Seat, Account, Entry, Ledger, Opening, Inquiry, Balance}
-use Rattle.agreement.specs.Runs.{Opens, Run, start, _▹_, Within, at-end, ledgerAt, Obeys}
+use Rattle.agreement.specs.Runs.{Opens, Run, _▹_, Within, at-end, ledgerAt, Obeys}
 use Rattle.agreement.specs.Slates.{slateAt}
 use Rattle.agreement.specs.Facts.{countOf, Facts}
 use Rattle.agreement.proofs.Places.{obeys-before}
@@ -20,12 +19,8 @@ use Rattle.agreement.proofs.Slated.{told-slate}
 use Rattle.agreement.proofs.Always.{always}
 use Rattle.layout.specs.Layout.{tableFrom}
 use Rattle.replay.specs.Text.{Row, rowOf}
-use Rattle.conformance.specs.Texts.{Exchange, eventOf, runFrom, runOf, lastRows, Accounted}
+use Rattle.conformance.specs.Texts.{Exchange, eventOf, runFrom, begins, runOf, lastRows, Accounted}
 use Rattle.conformance.proofs.EntryRuns.{from-within, call-within}
-
--- before the first entry
-abbrev begins : Run
-begins = start (λ z. newest)
 
 -- The current numbers add up to the counts.
 module _ (o : Opening) (opens : Opens o) (s : Seat) where

@@ -11,6 +11,7 @@ use Rattle.agreement.proofs.Proposals.{refused-due}
 use Rattle.agreement.proofs.Demand3.{demand3}
 use Rattle.agreement.proofs.Always.{always}
 use Rattle.model.proofs.Sums.{impossible}
+use Rattle.model.specs.Types.{Outcome}
 use Rattle.model.specs.Switches.{Rules}
 use Rattle.model.proofs.Refusing.{refusal-keeps, newest-step}
 use Rattle.model.proofs.Switching.{switched-same}
@@ -26,8 +27,8 @@ use Rattle.conformance.proofs.Reached.{reached-told}
 pub contract-serves : ContractServes
 contract-serves words m r next done =
     record {
-      replied = rw (newest-step (ledgerIn words) m) (done .reply);
-      ledger = rw (newest-step (ledgerIn words) m) (done .ledger);
+      replied = done .reply ∙ ap (λ (x : Outcome). x .reply) (sym (newest-step (ledgerIn words) m));
+      ledger = done .ledger ∙ ap (λ (x : Outcome). x .next) (sym (newest-step (ledgerIn words) m));
       kept = done .kept;
     }
 

@@ -6,16 +6,15 @@ use mathlib.Core.List.{List}
 use mathlib.Core.Option.{some}
 use Rattle.model.specs.declared.BundleReply.the-variants.{Sound}
 use Rattle.model.specs.Records.{freshLedger}
-use Rattle.model.specs.Switches.{newest}
 use Rattle.model.specs.Bundles.{entryCount, pageAt, messageOf, checkBundle}
 use Rattle.agreement.specs.Types.{Message}
-use Rattle.agreement.specs.Runs.{Opens, Run, start, rulesAt, ledgerAt}
+use Rattle.agreement.specs.Runs.{Opens, rulesAt, ledgerAt}
 use Rattle.agreement.proofs.Always.{always}
 use Rattle.ledger.specs.Promises.{ListedAs}
 use Rattle.bundle.proofs.Asking.{all-ask}
 use Rattle.replay.specs.Text.{ledgerFrom, openingPage}
 use Rattle.replay.proofs.Sound.{sound-count}
-use Rattle.conformance.specs.Texts.{runOf, RunOfBundle, EveryText, EveryRun, EveryList}
+use Rattle.conformance.specs.Texts.{begins, runOf, RunOfBundle, EveryText, EveryRun, EveryList}
 use Rattle.conformance.proofs.EntryRuns.{goes-on, told-lines, ledger-left}
 use Rattle.conformance.proofs.ClosingRows.{accounted}
 
@@ -24,10 +23,6 @@ each-asks : (bytes : List ℕ) (m : ℕ) → checkBundle bytes ≡ Sound m
     → (j : ℕ) → 1 ≤ j → j < 1 + (entryCount bytes - 1) → (q : Message) × (messageOf (pageAt bytes j) ≡ some q)
 each-asks bytes m right zero from to = absurd (omega arith)
 each-asks bytes m right (suc j) from to = all-ask bytes m right j (omega (arith, sound-count bytes m right .1))
-
--- before its first entry
-abbrev begins : Run
-begins = start (λ z. newest)
 
 pub every-run : EveryRun
 unfolding rulesAt ledgerAt

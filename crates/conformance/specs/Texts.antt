@@ -24,13 +24,16 @@ pub record Exchange : Type 0 where
 abbrev pub eventOf : Seat → Exchange → Event
 eventOf s x = record { at = s; call = message (x .asked) (x .reply) }
 
--- the run that goes on with these exchanges at one seat, in their order; and the run of nothing else, under the newest rules from the start
+-- the run that goes on with these exchanges at one seat, in their order; and the run of nothing else, with every seat under the newest rules from the start
 abbrev pub runFrom : Seat → Run → List Exchange → Run
 runFrom s run [] = run
 runFrom s run (x ∷ xs) = runFrom s (run ▹ eventOf s x) xs
 
+abbrev pub begins : Run
+begins = start (λ s. newest)
+
 abbrev pub runOf : Seat → List Exchange → Run
-runOf s xs = runFrom s (start (λ z. newest)) xs
+runOf s xs = runFrom s begins xs
 
 -- these exchanges have the messages of the `left` entries from i on, one for each
 abbrev pub AskedFrom : List ℕ → ℕ → ℕ → List Exchange → Type 0

@@ -45,33 +45,32 @@ asItWas = start (λ s. firstRules)
 abbrev switches : ℕ → Event
 switches s = record { at = seatOf s; call = switch }
 
--- Seat 0 switches before it could ack w, which it then refuses. Seats 1 to 4 ack w. Seats 1 and 2 switch: the mark stands, the same slip meets 20 and
--- another of that number 12. Then acks of w from seats 1 to 4 and from the bad seat reach each honest seat, five are enough, and w is booked: at seats that
--- have switched, at seat 3, which switches between these acks, and at seat 4, which never does.
+-- Seat 0 switches before it could ack w, which it then refuses. Seats 1 to 4 ack w, and then seat 1 switches: the mark stands, the same slip meets 20 and
+-- another of that number 12. Acks of w from seats 1 to 4 and from the bad seat reach each honest seat, five are enough, and w is booked: at seats 0 and 1,
+-- which have switched, at seat 3, which switches between these acks, and at seats 2 and 4, which have not.
 abbrev booked : Run
 booked =
     asItWas
     ▹ switches 0 ▹ asked 0 (Circulated w) (Refuse SelfPayment)
     ▹ acks 1 w ▹ acks 2 w ▹ acks 3 w ▹ acks 4 w
-    ▹ switches 1 ▹ asked 1 (Circulated w) (Refuse SelfPayment)
-    ▹ switches 2 ▹ asked 2 (Circulated t) (Refuse AlreadyAcked)
+    ▹ switches 1 ▹ asked 1 (Circulated w) (Refuse SelfPayment) ▹ asked 1 (Circulated t) (Refuse AlreadyAcked)
     ▹ ack 0 1 w Note ▹ ack 0 2 w Note ▹ ack 0 3 w Note ▹ ack 0 4 w Note ▹ ack 0 5 w (Accept 1)
     ▹ ack 1 1 w Note ▹ ack 1 2 w Note ▹ ack 1 3 w Note ▹ ack 1 4 w Note ▹ ack 1 5 w (Accept 1)
     ▹ ack 2 1 w Note ▹ ack 2 2 w Note ▹ ack 2 3 w Note ▹ ack 2 4 w Note ▹ ack 2 5 w (Accept 1)
     ▹ ack 3 1 w Note ▹ ack 3 2 w Note ▹ ack 3 3 w Note ▹ switches 3 ▹ ack 3 4 w Note ▹ ack 3 5 w (Accept 1)
     ▹ ack 4 1 w Note ▹ ack 4 2 w Note ▹ ack 4 3 w Note ▹ ack 4 4 w Note ▹ ack 4 5 w (Accept 1)
 
--- Of the next number, seats 0 and 1 ack x, seats 3 and 4 ack y, and the bad seat z. Seat 1 has switched and puts x forward, the first by its lowest seat;
--- seat 4 has not, and puts y forward. Seat 2 switches once more between these acks, which changes nothing: it refuses a home that
--- pays itself, and puts x forward too. The council rules for x, at all five.
+-- Of the next number, seats 0 and 1 ack x, seats 3 and 4 ack y, and the bad seat z. Seat 1 switches once more, which changes nothing: it refuses a home that
+-- pays itself, and puts x forward, the first by its lowest seat. Seat 4 never switches, and puts y forward. Seat 2 switches between these acks. The council
+-- rules for x, at all five.
 abbrev pub across : Run
 across =
     booked
     ▹ acks 0 x ▹ acks 1 x ▹ acks 3 y ▹ acks 4 y
+    ▹ switches 1 ▹ asked 1 (Circulated (slip 0 2 4 0)) (Refuse SelfPayment)
     ▹ ack 1 0 x Note ▹ ack 1 1 x Note ▹ ack 1 3 y Note ▹ ack 1 4 y Note ▹ ack 1 5 z (Propose x)
     ▹ ack 4 0 x Note ▹ ack 4 1 x Note ▹ ack 4 3 y Note ▹ ack 4 4 y Note ▹ ack 4 5 z (Propose y)
-    ▹ ack 2 0 x Note ▹ ack 2 1 x Note ▹ switches 2 ▹ asked 2 (Circulated (slip 0 2 4 0)) (Refuse SelfPayment)
-    ▹ ack 2 3 y Note ▹ ack 2 4 y Note ▹ ack 2 5 z (Propose x)
+    ▹ ack 2 0 x Note ▹ ack 2 1 x Note ▹ switches 2 ▹ ack 2 3 y Note ▹ ack 2 4 y Note ▹ ack 2 5 z (Propose x)
     ▹ ruling 0 x (Accept 1) ▹ ruling 1 x (Accept 1) ▹ ruling 2 x (Accept 1) ▹ ruling 3 x (Accept 1) ▹ ruling 4 x (Accept 1)
 
 across-obeys : Obeys page across
@@ -80,18 +79,17 @@ across-obeys =
     tt
     then tt then refl
     then refl then refl then refl then refl
-    then tt then refl
-    then tt then refl
+    then tt then refl then refl
     then refl then refl then refl then refl then refl
     then refl then refl then refl then refl then refl
     then refl then refl then refl then refl then refl
     then refl then refl then refl then tt then refl then refl
     then refl then refl then refl then refl then refl
     then refl then refl then refl then refl
+    then tt then refl
     then refl then refl then refl then refl then refl
     then refl then refl then refl then refl then (y, refl, refl)
-    then refl then refl then tt then refl
-    then refl then refl then refl
+    then refl then refl then tt then refl then refl then refl
     then refl then refl then refl then refl then refl
 
 -- It is a run as demand 3 means it, and keeps the premises.
@@ -114,28 +112,30 @@ abbrev acceptedByAll : Transfer → Run → Bool
 acceptedByAll v run =
     happened (takes 0 v) run && happened (takes 1 v) run && happened (takes 2 v) run && happened (takes 3 v) run && happened (takes 4 v) run
 
--- It has in it what the request is about: w is accepted by acks at all five honest seats, x by rulings; both x and y were put forward; seat 4 has not
--- switched, the others have; and all five slates say the same.
+-- It has in it what the request is about: w is accepted by acks at all five honest seats, x by rulings; both x and y were put forward; who had switched when
+-- w was booked, and who in the end; and all five slates say the same.
 pub across-has :
     (acceptedByAll w across ≡ true)
     × (happened (λ e. takes 0 w e && isRuling e) across ≡ false)
     × (acceptedByAll x across ≡ true)
     × (happened (putsForward x) across && happened (putsForward y) across ≡ true)
     × (rulesAt (seatOf 0) booked ≡ newest)
-    × (rulesAt (seatOf 3) booked ≡ newest)
+    × (rulesAt (seatOf 2) booked ≡ firstRules)
+    × (rulesAt (seatOf 1) across ≡ newest)
     × (rulesAt (seatOf 2) across ≡ newest)
     × (rulesAt (seatOf 4) across ≡ firstRules)
 unfolding rulesAt equal
-across-has = (refl, refl, refl, refl, refl, refl, refl, refl)
+across-has = (refl, refl, refl, refl, refl, refl, refl, refl, refl)
 
 pub across-slates :
     (slate page 0 booked ≡ (10, 1) ∷ (3, 0) ∷ [])
     × (slate page 0 across ≡ (6, 2) ∷ (7, 0) ∷ [])
+    × (slate page 1 across ≡ (6, 2) ∷ (7, 0) ∷ [])
     × (slate page 2 across ≡ (6, 2) ∷ (7, 0) ∷ [])
     × (slate page 3 across ≡ (6, 2) ∷ (7, 0) ∷ [])
     × (slate page 4 across ≡ (6, 2) ∷ (7, 0) ∷ [])
 unfolding slateAt leaveAll leaveAtMost equal
-across-slates = (refl, refl, refl, refl, refl)
+across-slates = (refl, refl, refl, refl, refl, refl)
 
 -- "running an old bundle again is no switch, since a slip acked in it could now meet 20 and leave no mark." The old bundle has the slip w. One seat played
 -- it under the first rules, and switched; another plays it again under today's.

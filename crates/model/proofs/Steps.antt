@@ -15,7 +15,7 @@ use Rattle.model.specs.Refusals.{Rule, firstRefusal, waitsAlready, ackFr
 use Rattle.model.specs.Acks.{holds, conflicts, acksFor, acksRecorded, enough, mustPropose, hasMost, mostAcked}
 use Rattle.model.specs.Settling.{Settled, settle}
 use Rattle.model.specs.Calls.{tallied, finished, rulesIn}
-use Rattle.model.specs.Switches.{Rules, firstRules, sinceRequest3, without, stepUnder}
+use Rattle.model.specs.Switches.{Rules, firstRules, sinceRequest3, withoutCode, stepUnder}
 use Rattle.model.proofs.Sums.{impossible, neither}
 use Rattle.model.proofs.Proposals.{most-acked-most}
 use Rattle.model.proofs.Access.{SameGroup, with-entries, with-entry-read}
@@ -114,11 +114,11 @@ tally-happens l s t ok new = go (enough (l .seats) (l .faults) (acksFor t (e .ac
     go false full false must = noted s t refl (rw (full, must)) ok new full (rw (full, must))
 
 -- where every test fails, so do those that are left when one is left out
-fail-without : (code : ℕ) (rules : List Rule) → AllFail rules → AllFail (without code rules)
+fail-without : (code : ℕ) (rules : List Rule) → AllFail rules → AllFail (withoutCode code rules)
 fail-without code [] fail = tt
 fail-without code (r ∷ rs) fail = go (eqb (codeOf (r .1)) code) (fail-without code rs (fail .1))
   where
-    go : (b : Bool) → AllFail (without code rs) → AllFail (cond b (without code rs) (r ∷ without code rs))
+    go : (b : Bool) → AllFail (withoutCode code rs) → AllFail (cond b (withoutCode code rs) (r ∷ withoutCode code rs))
     go true rest = rest
     go false rest = (fail .0, rest)
 

@@ -31,14 +31,14 @@ switched firstRules l = l
 switched sinceRequest3 l = l
 
 -- the rules without the one of this code
-abbrev pub without : ℕ → List Rule → List Rule
-without code [] = []
-without code (r ∷ rs) = cond (eqb (codeOf (r .1)) code) (without code rs) (r ∷ without code rs)
+abbrev pub withoutCode : ℕ → List Rule → List Rule
+withoutCode code [] = []
+withoutCode code (r ∷ rs) = cond (eqb (codeOf (r .1)) code) (withoutCode code rs) (r ∷ withoutCode code rs)
 
 -- What a message meets under a set of rules, given what it meets today. Under the first rules, 20 is left out: "Requests and slips whose recipient is the
 -- payer were accepted so far".
 abbrev pub rulesUnder : Rules → List Rule → List Rule
-rulesUnder firstRules rules = without 20 rules
+rulesUnder firstRules rules = withoutCode 20 rules
 rulesUnder sinceRequest3 rules = rules
 
 -- The outcome of a message under a set of rules.

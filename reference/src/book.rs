@@ -1,5 +1,6 @@
 //! One seat's book, changed in place by each message.
 
+use crate::rules::Rules;
 use std::fmt;
 
 /// The most seats that a book can have.
@@ -24,6 +25,13 @@ impl fmt::Display for Slip {
             "({}, {}, {}, {})",
             self.account, self.number, self.value, self.recipient
         )
+    }
+}
+
+impl Slip {
+    /// Whether the recipient is the payer.
+    pub fn pays_itself(&self) -> bool {
+        self.recipient == self.account
     }
 }
 
@@ -80,7 +88,8 @@ pub enum Reply {
     Ack,
     /// K: the slip is accepted, and this call booked so many slips
     Accepted { booked: u32 },
-    /// P: the slip with the most acks, or of several such the first by its lowest acknowledging seat
+    /// P: the slip with the most acks, or of several such the first by its lowest acknowledging seat; under the first
+    /// rules any of them
     PutForward { slip: Slip },
     /// N: the ack is recorded, and that is all
     Noted,
@@ -128,18 +137,19 @@ impl Account {
         self.acks.iter().flatten().filter(|acked| *acked == slip).count()
     }
 
-    /// Among the slips with the most acks the first by its lowest acknowledging seat. The list of acks begins with seat
-    /// 0, in whatever order they came.
-    fn most_acked(&self) -> Option<Slip> {
+    /// The acks of the slips with the most acks, by their seats. The list of acks begins with seat 0, in whatever order
+    /// they came.
+    fn most_acked(&self) -> impl Iterator<Item = Slip> + '_ {
         let acked = || self.acks.iter().flatten();
-        let most = acked().map(|slip| self.acks_for(slip)).max()?;
-        acked().find(|slip| self.acks_for(slip) == most).copied()
+        let most = acked().map(|slip| self.acks_for(slip)).max();
+        acked().filter(move |slip| Some(self.acks_for(slip)) == most).copied()
     }
 }
 
-/// One seat's record.
+/// One seat's record, and the rules that the seat answers by.
 #[derive(Clone, PartialEq, Eq, Debug)]
 pub struct Book {
+    rules: Rules,
     n: usize,
     f: usize,
     opening_sum: u32,
@@ -147,7 +157,7 @@ pub struct Book {
 }
 
 impl Book {
-    /// Opens a book, or refuses with 1, 2 or 3.
+    /// Opens a book under the newest rules, or refuses with 1, 2 or 3.
     pub fn open(page: &OpeningPage) -> Result<Book, u8> {
         let (n, f, k) = (usize::from(page.n), usize::from(page.f), usize::from(page.k));
         if !(1..=MOST_SEATS).contains(&n) || 5 * f >= n {
@@ -162,6 +172,7 @@ impl Book {
             .map(|balance| Account::open(*balance))
             .collect();
         Ok(Book {
+            rules: Rules::NEWEST,
             n,
             f,
             opening_sum,
@@ -169,12 +180,31 @@ impl Book {
         })
     }
 
+    /// All that it holds, at a seat that answers by these rules.
+    pub fn under(self, rules: Rules) -> Book {
+        Book { rules, ..self }
+    }
+
+    /// The seat switches to the next rules, and goes on with the book that it holds, marks included.
+    pub fn switch(&mut self) {
+        self.rules = self.rules.next();
+    }
+
+    pub fn rules(&self) -> Rules {
+        self.rules
+    }
+
     /// Does what the message says and replies; a refusal changes nothing.
     pub fn call(&mut self, message: &Message) -> Reply {
+        self.call_choosing(message, |tied| tied[0])
+    }
+
+    /// The same, with the choice of the slip that P carries, where the rules leave it free: any of these.
+    pub fn call_choosing(&mut self, message: &Message, choose: impl FnOnce(&[Slip]) -> Slip) -> Reply {
         let reply = match *message {
             Message::Request(slip) => self.request(slip),
             Message::Slip(slip) => self.slip(slip),
-            Message::Ack { seat, slip } => self.ack(usize::from(seat), slip),
+            Message::Ack { seat, slip } => self.ack(usize::from(seat), slip, choose),
             Message::Ruling(slip) => self.ruling(slip),
             Message::Question { account } => self.question(usize::from(account)),
         };
@@ -218,13 +248,13 @@ impl Book {
     }
 
     fn request(&self, slip: Slip) -> Result<Reply, u8> {
-        let account = self.check_slip(&slip)?;
+        let account = self.check_new(&slip)?;
         self.check_funds(account, &slip)?;
         Ok(Reply::Circulate)
     }
 
     fn slip(&mut self, slip: Slip) -> Result<Reply, u8> {
-        let account = self.check_slip(&slip)?;
+        let account = self.check_new(&slip)?;
         // 12 comes before 11
         if self.accounts[account].acked {
             return Err(12);
@@ -234,7 +264,7 @@ impl Book {
         Ok(Reply::Ack)
     }
 
-    fn ack(&mut self, seat: usize, slip: Slip) -> Result<Reply, u8> {
+    fn ack(&mut self, seat: usize, slip: Slip, choose: impl FnOnce(&[Slip]) -> Slip) -> Result<Reply, u8> {
         if seat >= self.n {
             return Err(4);
         }
@@ -255,7 +285,12 @@ impl Book {
             return Ok(Reply::Noted);
         }
         account.put_forward = true;
-        let slip = account.most_acked().expect("this ack is recorded");
+        let mut most_acked = account.most_acked();
+        let slip = if self.rules.leave_ties_free() {
+            choose(&most_acked.collect::<Vec<Slip>>())
+        } else {
+            most_acked.next().expect("this ack is recorded")
+        };
         Ok(Reply::PutForward { slip })
     }
 
@@ -269,13 +304,34 @@ impl Book {
         Ok(Reply::Balance(account.balance))
     }
 
-    /// Codes 5 to 8, which every message with a slip can meet. Returns the payer's place in `accounts`.
+    /// Codes 5, 20 and then 6 to 8, which requests and slips can meet. Returns the payer's place in `accounts`.
+    fn check_new(&self, slip: &Slip) -> Result<usize, u8> {
+        self.check_fields(slip)?;
+        if slip.pays_itself() && self.rules.turn_down_self_payments() {
+            return Err(20);
+        }
+        self.check_number(slip)
+    }
+
+    /// Codes 5 to 8, which acks and rulings can meet. Returns the payer's place in `accounts`.
     fn check_slip(&self, slip: &Slip) -> Result<usize, u8> {
+        self.check_fields(slip)?;
+        self.check_number(slip)
+    }
+
+    /// Code 5.
+    fn check_fields(&self, slip: &Slip) -> Result<(), u8> {
         let (payer, recipient) = (usize::from(slip.account), usize::from(slip.recipient));
         let k = self.accounts.len();
         if payer >= k || recipient >= k || slip.number == 0 || slip.value == 0 || slip.value > self.opening_sum {
             return Err(5);
         }
+        Ok(())
+    }
+
+    /// Codes 6 to 8, for a payer below k.
+    fn check_number(&self, slip: &Slip) -> Result<usize, u8> {
+        let payer = usize::from(slip.account);
         let account = &self.accounts[payer];
         if slip.number <= account.current {
             return Err(6);

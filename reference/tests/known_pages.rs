@@ -2,38 +2,15 @@
 
 mod common;
 
-use common::Chance;
+use common::{ack, open, slip, Chance, T};
 use reference::book::{Book, Message, OpeningPage, Reply, Slip};
 use reference::bundle::{self, Fault};
 use reference::daybook;
 
-const T: Slip = Slip {
-    account: 0,
-    number: 1,
-    value: 4,
-    recipient: 1,
-};
 const U: Slip = Slip { value: 5, ..T };
 const V: Slip = Slip { value: 6, ..T };
 const W: Slip = Slip { recipient: 0, ..T };
 const X: Slip = Slip { value: 7, ..T };
-
-fn open(n: u8, f: u8, given: &[u32]) -> Book {
-    Book::open(&OpeningPage::of(n, f, given)).expect("the page is not refused")
-}
-
-fn slip(account: u8, number: u32, value: u32, recipient: u8) -> Slip {
-    Slip {
-        account,
-        number,
-        value,
-        recipient,
-    }
-}
-
-fn ack(seat: u8, slip: Slip) -> Message {
-    Message::Ack { seat, slip }
-}
 
 /// The replies to acks of these slips from seats 0, 1, 2 and so on.
 fn acked(book: &mut Book, slips: &[Slip]) -> Vec<Reply> {
@@ -307,7 +284,13 @@ fn codes_in_their_order() {
         (Message::Ruling(slip(0, 2, 0, 0)), 5),
         (Message::Slip(slip(0, 1, 16, 0)), 5),
         (Message::Question { account: 2 }, 5),
-        (Message::Slip(slip(0, 1, 15, 0)), 6),
+        (Message::Request(slip(0, 1, 15, 0)), 20),
+        (Message::Slip(slip(0, 3, 15, 0)), 20),
+        (Message::Request(slip(1, 1, 15, 1)), 20),
+        (Message::Slip(slip(0, 2, 15, 0)), 20),
+        (Message::Request(slip(0, 2, 15, 0)), 20),
+        (Message::Slip(slip(0, 1, 15, 1)), 6),
+        (ack(1, slip(0, 1, 15, 0)), 6),
         (Message::Ruling(slip(0, 3, 15, 0)), 7),
         (Message::Request(slip(1, u32::MAX, 15, 0)), 7),
         (Message::Request(slip(1, 1, 15, 0)), 8),
@@ -418,7 +401,7 @@ fn the_longest_bundle() {
     let bytes = bundle::write(&OpeningPage::of(1, 0, &[1]), &[Message::Request(slip(0, 1, 1, 0)); 999]);
     assert_eq!(bytes.len(), bundle::LONGEST);
     assert_eq!(bundle::check(&bytes), Ok(bundle::MOST_ENTRIES));
-    assert!(daybook::printed(&bytes).ends_with("\n999 C\n= 0 1 0\n"));
+    assert!(daybook::printed(&bytes).ends_with("\n999 R 20\n= 0 1 0\n"));
 }
 
 #[test]

@@ -1,9 +1,33 @@
-//! Pseudo-random bundles from a fixed seed, for the tests.
+//! What the tests share: books and messages in few words, and pseudo-random bundles from a fixed seed.
 
 // each test file takes what it needs
 #![allow(dead_code)]
 
-use reference::book::{Message, OpeningPage, Slip};
+use reference::book::{Book, Message, OpeningPage, Slip};
+
+pub const T: Slip = Slip {
+    account: 0,
+    number: 1,
+    value: 4,
+    recipient: 1,
+};
+
+pub fn open(n: u8, f: u8, given: &[u32]) -> Book {
+    Book::open(&OpeningPage::of(n, f, given)).expect("the page is not refused")
+}
+
+pub fn slip(account: u8, number: u32, value: u32, recipient: u8) -> Slip {
+    Slip {
+        account,
+        number,
+        value,
+        recipient,
+    }
+}
+
+pub fn ack(seat: u8, slip: Slip) -> Message {
+    Message::Ack { seat, slip }
+}
 
 /// A small generator: the same numbers for the same seed.
 pub struct Chance(pub u64);

@@ -63,7 +63,7 @@ pub fn try_messages(checks: &mut Checks, seed: u64) {
         }
     }
     let letters = ["C", "A", "K", "N", "B"].iter().chain(&ties::SIZES);
-    let codes = (4..=12).map(|code| format!("R {code}"));
+    let codes = (4..=12).chain([20]).map(|code| format!("R {code}"));
     for row in letters.map(|row| row.to_string()).chain(codes) {
         let times: u64 = seen.get(&row).copied().unwrap_or(0);
         println!("{row:22} {times:>9}");
@@ -145,7 +145,8 @@ fn message(dice: &mut Dice, lent: &Lent) -> Message {
     let seat = mostly_below(dice, n);
     let own = held.acks[usize::from(seat) % 16];
     let value = *dice.pick(&[held.balance, held.balance.wrapping_add(1), 1, any]);
-    let recipient = mostly_below(dice, k);
+    let other = mostly_below(dice, k);
+    let recipient = *dice.pick(&[other, other, other, account]);
     let number = *dice.pick(&[next, next, next, next, next, held.current, next.wrapping_add(1), any]);
     let slip = Slip {
         account,
@@ -166,7 +167,7 @@ fn mostly_below(dice: &mut Dice, limit: u32) -> u8 {
     dice.below(limit.into()) as u8
 }
 
-// What is due, by document 01, of the accounts that the words are.
+// What is due, by documents 01 and 02, of the accounts that the words are.
 
 /// n, f and k; a number above its limit counts as 0.
 fn group(lent: &Lent) -> [u32; 3] {
@@ -190,6 +191,7 @@ fn refusal(lent: &Lent, message: &Message) -> Option<u8> {
     let held = lent.account(slip.account.into());
     let funds = (slip.value > held.balance).then_some(11);
     match *message {
+        Message::Request(_) | Message::Slip(_) if slip.pays_itself() => Some(20),
         _ if slip.number <= held.current => Some(6),
         _ if slip.number - held.current > 1 => Some(7),
         _ if held.waiting.map(|waiting| waiting.number) == Some(slip.number) => Some(8),

@@ -9,7 +9,7 @@ const MAX: u32 = u32::MAX;
 pub struct Edge {
     pub name: String,
     pub bytes: Vec<u8>,
-    /// what document 01 gives for it, said without the second program
+    /// what the documents give for it, said without the second program
     pub text: String,
 }
 
@@ -55,7 +55,7 @@ fn full(balance: u32, message: impl Fn(u32) -> Message) -> Vec<u8> {
     write(&OpeningPage::of(1, 0, &[balance]), &messages)
 }
 
-/// The longest bundle: bodies of 10 bytes behind the opening page.
+/// The longest bundle: bodies of 10 bytes behind the opening page. The only home pays itself.
 fn longest() -> Vec<u8> {
     full(1, |_| Message::Request(slip(0, 1, 1, 0)))
 }
@@ -125,7 +125,7 @@ fn sound() -> Vec<Edge> {
     let shortest = write(&OpeningPage::of(1, 0, &[0]), &[]);
     let questions = full(7, |_| Message::Question { account: 0 });
     let balances = lines(|_| "B 7") + "= 0 7 0\n";
-    let circulated = lines(|_| "C") + "= 0 1 0\n";
+    let turned_down = lines(|_| "R 20") + "= 0 1 0\n";
     let each = "1 C\n2 A\n3 N\n4 K 1\n5 B 7\n= 0 6 1\n= 1 7 0\n";
     vec![
         edge(
@@ -135,7 +135,7 @@ fn sound() -> Vec<Edge> {
         ),
         edge("a message of each kind", one_of_each(), each),
         edge("m 1,000 with the shortest bodies", questions, &balances),
-        edge("m 1,000, the longest bundle", longest(), &circulated),
+        edge("m 1,000, the longest bundle", longest(), &turned_down),
         highest_number(),
         all_portions(),
         chain(),
@@ -143,16 +143,18 @@ fn sound() -> Vec<Edge> {
     ]
 }
 
-/// Every kind of slip with number 4,294,967,295.
+/// Every kind of slip with number 4,294,967,295, to another account and to the payer's own.
 fn highest_number() -> Edge {
-    let slip = slip(0, MAX, 1, 1);
-    let messages = [
-        Message::Request(slip),
-        Message::Slip(slip),
-        Message::Ack { seat: 0, slip },
-        Message::Ruling(slip),
-    ];
-    let text = "1 R 7\n2 R 7\n3 R 7\n4 R 7\n= 0 2 0\n= 1 0 0\n";
+    let mut messages = Vec::new();
+    for slip in [slip(0, MAX, 1, 1), slip(0, MAX, 1, 0)] {
+        messages.extend([
+            Message::Request(slip),
+            Message::Slip(slip),
+            Message::Ack { seat: 0, slip },
+            Message::Ruling(slip),
+        ]);
+    }
+    let text = "1 R 7\n2 R 7\n3 R 7\n4 R 7\n5 R 20\n6 R 20\n7 R 7\n8 R 7\n= 0 2 0\n= 1 0 0\n";
     edge(
         "number 4,294,967,295",
         write(&OpeningPage::of(1, 0, &[2, 0]), &messages),
@@ -171,8 +173,9 @@ fn all_portions() -> Edge {
         Message::Ack { seat: 0, slip: all },
         Message::Question { account: 1 },
         Message::Slip(slip(0, 2, MAX, 0)),
+        Message::Slip(slip(0, 2, MAX, 1)),
     ];
-    let text = "1 K 0\n2 C\n3 A\n4 K 2\n5 B 4294967295\n6 R 11\n= 0 0 1\n= 1 4294967295 1\n";
+    let text = "1 K 0\n2 C\n3 A\n4 K 2\n5 B 4294967295\n6 R 20\n7 R 11\n= 0 0 1\n= 1 4294967295 1\n";
     edge(
         "balances and values of 4,294,967,295",
         write(&OpeningPage::of(1, 0, &[MAX, 0]), &messages),

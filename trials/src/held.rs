@@ -7,8 +7,8 @@ use crate::known;
 use crate::ledgers;
 use crate::lent::{told, Lent, Sent, NOTHING};
 use crate::openings;
+use crate::rows::Before;
 use crate::tallies::{Tallies, NO_MESSAGE, SETTLED_LATER};
-use crate::ties::Arrivals;
 use crate::trial::caught;
 use crate::waiting;
 use reference::book::{Book, Message, OpeningPage, Reply};
@@ -68,7 +68,7 @@ struct Held {
     page: OpeningPage,
     lent: Lent,
     book: Book,
-    arrivals: Arrivals,
+    before: Before,
     most_waiting: usize,
 }
 
@@ -84,7 +84,7 @@ impl Held {
             page: page.clone(),
             lent,
             book,
-            arrivals: Arrivals::default(),
+            before: Before::open(page).ok_or("the page is refused")?,
             most_waiting: 0,
         })
     }
@@ -112,7 +112,7 @@ impl Held {
         self.lent.holds(&self.page, &self.book)?;
         let words = due.to_string();
         let words: Vec<&str> = words.split(' ').collect();
-        tallies.reply(column, kind, &words, &self.arrivals.rows(message, &words));
+        tallies.reply(column, kind, &words, &self.before.rows(message, &words));
         if let Reply::Accepted { booked: 1.. } = due {
             let waiting = self.lent.that_wait();
             if before.that_wait().iter().any(|account| !waiting.contains(account)) {

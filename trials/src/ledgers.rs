@@ -94,7 +94,7 @@ impl<'a> Life<'a> {
 
     /// A few messages that belong together, at least one.
     fn scene(&mut self) {
-        match self.dice.below(16) {
+        match self.dice.below(17) {
             0..=4 => self.vote(),
             5 => self.tie(),
             6 | 7 => self.pay(),
@@ -102,6 +102,7 @@ impl<'a> Life<'a> {
             9 | 10 => self.wait(),
             11 => self.chain(false),
             12..=14 => self.odd(),
+            15 => self.pay_itself(),
             _ => self.question(),
         }
     }
@@ -314,6 +315,30 @@ impl<'a> Life<'a> {
         }
         if self.dice.once_in(3) {
             self.accept(slip);
+        }
+    }
+
+    /// A home pays itself, with fields at or beyond a limit or not, also while a slip of it waits or is acked. Messages of
+    /// any kind bring the slip; then perhaps the seats ack it.
+    fn pay_itself(&mut self) {
+        let account = self.any_account();
+        let mut slip = self.slip(account);
+        if self.dice.once_in(3) {
+            self.say(Message::Slip(slip));
+        }
+        if self.dice.once_in(2) {
+            self.make_odd(&mut slip);
+        }
+        slip.recipient = slip.account;
+        for _ in 0..self.dice.within(1, 3) {
+            let seat = self.dice.below(u64::from(self.page.n)) as u8;
+            let message = with_slip(self.dice, seat, slip);
+            self.say(message);
+        }
+        if self.dice.once_in(3) {
+            for seat in self.seats() {
+                self.say(Message::Ack { seat, slip });
+            }
         }
     }
 

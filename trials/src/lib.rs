@@ -13,6 +13,8 @@ pub mod ledgers;
 pub mod lent;
 pub mod openings;
 pub mod records;
+pub mod rows;
+pub mod self_payments;
 pub mod tallies;
 pub mod ties;
 pub mod trial;

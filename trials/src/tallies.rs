@@ -2,7 +2,9 @@
 //! printed.
 
 use crate::checks::Checks;
-use crate::ties::{self, Arrivals};
+use crate::rows::Before;
+use crate::self_payments;
+use crate::ties;
 use crate::waiting::Answer;
 use reference::bundle;
 use std::collections::BTreeMap;
@@ -10,10 +12,10 @@ use std::collections::BTreeMap;
 /// The classes of random bundles, each a column of the table.
 pub const CLASSES: [&str; 4] = ["living", "wild", "damaged", "bytes"];
 
-/// The words for kinds 1 to 5, and the replies that document 01 allows to each.
+/// The words for kinds 1 to 5, and the replies that the documents allow to each.
 const KINDS: [(&str, &[&str]); 5] = [
-    ("request", &["C", "R 5", "R 6", "R 7", "R 8", "R 11"]),
-    ("slip", &["A", "R 5", "R 6", "R 7", "R 8", "R 11", "R 12"]),
+    ("request", &["C", "R 5", "R 20", "R 6", "R 7", "R 8", "R 11"]),
+    ("slip", &["A", "R 5", "R 20", "R 6", "R 7", "R 8", "R 11", "R 12"]),
     (
         "ack",
         &["K", "P", "N", "R 4", "R 5", "R 6", "R 7", "R 8", "R 9", "R 10"],
@@ -23,12 +25,13 @@ const KINDS: [(&str, &[&str]); 5] = [
 ];
 
 /// The other rows of every table.
-const ROWS: [&[&str]; 6] = [
+const ROWS: [&[&str]; 7] = [
     &["A", "C", "K", "P", "N", "B", "R"],
     &["K 0", "K 1", "K 2", "K 3 to 31", "K 32"],
     &ties::SIZES,
     &ties::ORDERS,
-    &["R 4", "R 5", "R 6", "R 7", "R 8", "R 9", "R 10", "R 11", "R 12"],
+    &["R 4", "R 5", "R 6", "R 7", "R 8", "R 9", "R 10", "R 11", "R 12", "R 20"],
+    &self_payments::ROWS,
     &["none waits", "one waits", "more wait", "waiting list 17"],
 ];
 
@@ -130,8 +133,9 @@ impl Tallies {
     /// Counts the lines of the text that `daybook` printed for these bytes.
     pub fn text(&mut self, class: usize, bytes: &[u8], text: &[u8]) {
         let text = String::from_utf8_lossy(text);
-        let messages = bundle::read(bytes).map_or(Vec::new(), |(_, messages)| messages);
-        let mut arrivals = Arrivals::default();
+        let read = bundle::read(bytes);
+        let (page, messages) = read.map_or((None, Vec::new()), |(page, messages)| (Some(page), messages));
+        let mut before = page.and_then(|page| Before::open(&page));
         for line in text.lines() {
             let words: Vec<&str> = line.split(' ').collect();
             match words[..] {
@@ -141,8 +145,11 @@ impl Tallies {
                     let entry: usize = entry.parse().unwrap_or(0);
                     let kind = bytes.get(2 + 8 * entry).copied().unwrap_or(0);
                     let message = messages.get(entry.wrapping_sub(1));
-                    let ties = message.map_or(Vec::new(), |message| arrivals.rows(message, reply));
-                    self.reply(class, kind, reply, &ties);
+                    let rows = match (&mut before, message) {
+                        (Some(before), Some(message)) => before.rows(message, reply),
+                        _ => Vec::new(),
+                    };
+                    self.reply(class, kind, reply, &rows);
                 }
                 [] => {}
             }
@@ -158,10 +165,10 @@ impl Tallies {
         }
     }
 
-    /// The reply to a message of this kind: letter and values, and the rows of a P by its acks.
-    pub fn reply(&mut self, class: usize, kind: u8, reply: &[&str], ties: &[&str]) {
+    /// The reply to a message of this kind: letter and values, and the other rows that it belongs to.
+    pub fn reply(&mut self, class: usize, kind: u8, reply: &[&str], rows: &[String]) {
         self.add(class, reply.first().unwrap_or(&"no letter"));
-        ties.iter().for_each(|row| self.add(class, row));
+        rows.iter().for_each(|row| self.add(class, row));
         match reply {
             ["K", count @ ("0" | "1" | "2" | "32")] => self.add(class, &format!("K {count}")),
             ["K", ..] => self.add(class, "K 3 to 31"),

@@ -82,7 +82,7 @@ fn refused(index: usize) -> Message {
         account: (index % 32) as u8,
         number: 7,
         value: 1,
-        recipient: 3,
+        recipient: ((index + 1) % 32) as u8,
     };
     match index % 3 {
         0 => Message::Slip(slip),

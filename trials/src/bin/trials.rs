@@ -132,7 +132,7 @@ fn try_edges(checks: &mut Checks, options: &Options) {
         let (text, outcome) = trial::text_tried(&edge.bytes, Some(&options.program));
         trial::count(checks, &edge.name, &edge.bytes, outcome);
         checks.that(
-            &format!("{}: the text that document 01 gives", edge.name),
+            &format!("{}: the text that the documents give", edge.name),
             text == edge.text.as_bytes(),
         );
         for length in [31, 32] {

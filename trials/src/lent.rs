@@ -98,6 +98,25 @@ impl Lent {
         }
     }
 
+    /// The words of a book that this page opened, as a host has them that goes on with it.
+    pub fn of(page: &OpeningPage, book: &Book) -> Lent {
+        let mut lent = Lent::default();
+        for (place, block) in (0..book.accounts()).zip(lent.words.chunks_mut(BLOCK)) {
+            let account = book.account(place);
+            let marks = [account.acked, account.put_forward].map(u32::from);
+            block[..4].copy_from_slice(&[account.balance, account.current, marks[0], marks[1]]);
+            if let Some(slip) = account.waiting {
+                block[4..7].copy_from_slice(&[slip.value, slip.number, slip.recipient.into()]);
+            }
+            for (seat, ack) in account.acks.iter().enumerate() {
+                let slip = ack.map_or([0; 2], |slip| [slip.value, slip.recipient.into()]);
+                [block[7 + seat], block[23 + seat]] = slip;
+            }
+        }
+        lent.words[GROUP..].copy_from_slice(&group(page));
+        lent
+    }
+
     /// The accounts that wait, rising.
     pub fn that_wait(&self) -> Vec<u8> {
         (0..32)
@@ -107,7 +126,7 @@ impl Lent {
 
     /// Whether the words hold this book, which this page opened: the group, every account, and nothing behind the k-th.
     pub fn holds(&self, page: &OpeningPage, book: &Book) -> Result<(), String> {
-        let group = [page.n.into(), page.f.into(), page.k.into(), page.sum() as u32];
+        let group = group(page);
         if self.words[GROUP..] != group {
             return Err(format!("the group is {:?} and not {group:?}", &self.words[GROUP..]));
         }
@@ -125,6 +144,11 @@ impl Lent {
         }
         Ok(())
     }
+}
+
+/// n, f, k and the opening sum.
+fn group(page: &OpeningPage) -> [u32; 4] {
+    [page.n.into(), page.f.into(), page.k.into(), page.sum() as u32]
 }
 
 /// A message as it is handed over.

@@ -1,4 +1,5 @@
-//! Runs of whole groups with bad seats, checked against demand 3 and request 2 of document 02.
+//! Runs of whole groups with bad seats and with seats that switch on different days, checked against demand 3 and requests 2
+//! and 3 of document 02.
 //!
 //!     groups [--program PATH] [--seed N] [--runs N] [--only INDEX]
 //!
@@ -62,7 +63,7 @@ fn options() -> Result<Options, String> {
     let mut options = Options {
         program: None,
         seed: dice::own_seed(),
-        runs: 640,
+        runs: 1_280,
         only: None,
     };
     let mut words = std::env::args().skip(1);
@@ -150,12 +151,15 @@ fn print_run(world: &World) {
     let page = &world.plan.pages[0];
     let balances = &page.balances[..page.k.into()];
     println!(
-        "n {}, f {}, k {}, balances {balances:?}, bad {:?}",
-        page.n, page.f, page.k, world.plan.bad
+        "n {}, f {}, k {}, balances {balances:?}, bad {:?}, switches {:?}",
+        page.n, page.f, page.k, world.plan.bad, world.plan.switches
     );
     for event in &world.record.events {
         match event {
-            Event::Call(call) => println!("seat {:2}: {} -> {:?}", call.seat, call.message, call.reply),
+            Event::Call(call) => println!(
+                "seat {:2}, {:?}: {} -> {:?}",
+                call.seat, call.rules, call.message, call.reply
+            ),
             Event::Look { seat, closings } => println!("seat {seat:2}: {closings:?}"),
         }
     }

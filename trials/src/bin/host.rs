@@ -4,6 +4,8 @@
 //!
 //! with the folder of examples. The last line is `N passed, M failed`, and the status is 1 if one failed.
 
+use reference::book::{Book, Message, OpeningPage, Slip};
+use reference::rules::Rules;
 use std::process::ExitCode;
 use trials::any_words::try_opening;
 use trials::checks::Checks;
@@ -11,6 +13,7 @@ use trials::daybook::{acks_needed, is_enough, text_of, waiting, UNTOUCHED};
 use trials::dice::Dice;
 use trials::edges::wait_of;
 use trials::known::{self, page};
+use trials::lent::{Lent, Sent};
 use trials::writing;
 
 /// The two functions on acks against each other and against document 01: twice the count exceeds n + 3f.
@@ -129,6 +132,38 @@ fn waiting_lists(checks: &mut Checks, folder: &str) {
     }
 }
 
+/// A book held from before request 3, in which this seat has acked a home that pays itself: the host goes on with its words.
+/// That slip meets 20, another of its number 12; acks and rulings for it are taken.
+fn held_book(checks: &mut Checks) {
+    let page = OpeningPage::of(2, 0, &[10, 5]);
+    let slip = Slip {
+        account: 0,
+        number: 1,
+        value: 4,
+        recipient: 0,
+    };
+    let another = Slip { recipient: 1, ..slip };
+    let next = Slip { number: 2, ..slip };
+    let mut book = Book::open(&page).expect("a good page").under(Rules::First);
+    book.call(&Message::Slip(slip));
+    let mut lent = Lent::of(&page, &book);
+    checks.same("the words of a book that is held", lent.holds(&page, &book), Ok(()));
+    let calls = [
+        (Message::Slip(slip), b'R', 20),
+        (Message::Slip(another), b'R', 12),
+        (Message::Request(slip), b'R', 20),
+        (Message::Ack { seat: 0, slip }, b'N', 0),
+        (Message::Ack { seat: 1, slip }, b'K', 1),
+        (Message::Slip(next), b'R', 20),
+        (Message::Ruling(next), b'K', 1),
+        (Message::Question { account: 0 }, b'B', 10),
+    ];
+    for (message, letter, value) in calls {
+        let reply = lent.call(&Sent::of(&message));
+        checks.same(&format!("{message}"), reply, [letter.into(), value, 0, 0, 0]);
+    }
+}
+
 fn main() -> ExitCode {
     let folder = match std::env::args().nth(1) {
         Some(folder) => folder,
@@ -146,6 +181,8 @@ fn main() -> ExitCode {
     checks.part("host: acks, openings");
     acks(&mut checks);
     openings(&mut checks, &mut dice);
+    checks.part("host: a book held from before");
+    held_book(&mut checks);
     checks.part("host: inputs that are too long or damaged");
     long_inputs(&mut checks, &folder);
     damaged(&mut checks, &folder);

@@ -1,15 +1,18 @@
-//! Request 2 of document 02 on a recorded run: what two seats, or one, put forward on equal acks is equal.
+//! Request 2 of document 02 on a recorded run: what two seats, or one, put forward on equal acks is equal. The first rules
+//! left it free, so this holds of seats that answer by the newest.
 
 use super::printed::Reply;
 use super::record::Record;
 use crate::ties::{self, Ack, Arrivals};
 use reference::book::{Message, Slip};
+use reference::rules::Rules;
 use std::collections::hash_map::{Entry, HashMap};
 
-/// A reply P: the seat that gave it, the slip that it carries, and the recorded acks that it rests on, as they came,
-/// the ack at hand last.
+/// A reply P: the seat that gave it and by which rules, the slip that it carries, and the recorded acks that it rests on,
+/// as they came, the ack at hand last.
 pub struct PutForward {
     pub seat: usize,
+    pub rules: Rules,
     pub slip: Slip,
     pub acks: Vec<Ack>,
 }
@@ -18,6 +21,11 @@ impl PutForward {
     /// Whether another slip has as many acks.
     pub fn is_tied(&self) -> bool {
         ties::tied(&self.acks).len() > 1
+    }
+
+    /// Whether it carries, of tied slips, another than the first by its lowest seat.
+    pub fn is_another(&self) -> bool {
+        ties::tied(&self.acks).first() != Some(&self.slip)
     }
 }
 
@@ -34,6 +42,7 @@ pub fn put_forwards(record: &Record) -> Vec<PutForward> {
         if let Some(slip) = call.put_forward() {
             all.push(PutForward {
                 seat: call.seat,
+                rules: call.rules,
                 slip,
                 acks: acks.to_vec(),
             });
@@ -42,11 +51,12 @@ pub fn put_forwards(record: &Record) -> Vec<PutForward> {
     all
 }
 
-/// Each P that rests on the same acks, seat by seat, as an earlier one, and before it the first that does.
+/// Each P by the newest rules that rests on the same acks, seat by seat, as an earlier one, and before it the first that
+/// does.
 pub fn pairs(all: &[PutForward]) -> Vec<[&PutForward; 2]> {
     let mut first: HashMap<Vec<Ack>, &PutForward> = HashMap::new();
     let mut pairs = Vec::new();
-    for one in all {
+    for one in all.iter().filter(|one| one.rules == Rules::NEWEST) {
         match first.entry(ties::by_seat(&one.acks)) {
             Entry::Vacant(entry) => drop(entry.insert(one)),
             Entry::Occupied(entry) => pairs.push([*entry.get(), one]),

@@ -1,4 +1,4 @@
-//! What is broken on purpose, to show that the checks can fail: one premise, or the text that `daybook` printed.
+//! What is broken on purpose, to show that the checks can fail: one premise, the text that `daybook` printed, or a switch.
 
 use super::demand3::{self, Check};
 use super::lies::Lie;
@@ -23,6 +23,9 @@ pub enum Breach {
     TwoPages,
     /// The premises are kept, but the text is changed before it is read.
     Told(Lie),
+    /// The premises are kept, but in the place of its switch a seat runs its old bundle again: the mark of a self-payment is
+    /// lost.
+    RunAgain,
 }
 
 impl Breach {
@@ -40,6 +43,7 @@ impl Breach {
         all.push(Breach::TwoPages);
         all.extend([Lie::BalanceOneMore, Lie::AcceptedAsNoted, Lie::AcceptedTwice].map(Breach::Told));
         all.extend([Lie::LastOfTied, Lie::TiedAtHand].map(Breach::Told));
+        all.push(Breach::RunAgain);
         all
     }
 
@@ -56,6 +60,7 @@ impl Breach {
             Breach::Told(Lie::AcceptedTwice) => "a text with two K at one number",
             Breach::Told(Lie::LastOfTied) => "a text with P for the last of the tied slips",
             Breach::Told(Lie::TiedAtHand) => "a text with P for the tied slip at hand",
+            Breach::RunAgain => "a seat that in the place of its switch runs its old bundle again, and loses a mark",
         };
         name.to_string()
     }
@@ -69,7 +74,7 @@ impl Breach {
             Breach::OtherRuling => Some(Premise::OnlyOnePutForward),
             Breach::BadSeats { .. } => Some(Premise::AtMostFBad),
             Breach::TwoPages => Some(Premise::OnePage),
-            Breach::Told(_) => None,
+            Breach::Told(_) | Breach::RunAgain => None,
         }
     }
 
@@ -79,10 +84,6 @@ impl Breach {
             Breach::BadSeats { n, f, bad } if bad + 3 <= n => Some(Breach::BadSeats { n, f, bad: bad + 1 }),
             _ => None,
         }
-    }
-
-    fn is_lie(self) -> bool {
-        matches!(self, Breach::Told(_))
     }
 }
 
@@ -118,7 +119,7 @@ fn attempt(breach: Breach, dice: &mut Dice) -> Result<Option<String>, String> {
         None => return Ok(None),
     };
     let how = format!("{:?}: {}", failed.check, failed.what);
-    let innocent = broken.is_empty() && !breach.is_lie();
+    let innocent = broken.is_empty() && breach.premise().is_some();
     if innocent || failed.check == Check::Text {
         return Err(format!("a check fails for another reason, {how}"));
     }

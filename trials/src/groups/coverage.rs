@@ -2,18 +2,34 @@
 
 use super::alike;
 use super::demand3::currents_of;
+use super::plan::Switch;
 use super::printed::Reply;
 use super::record::{Call, Event};
+use super::switches;
 use super::world::World;
 use reference::book::Message;
+use reference::rules::Rules;
 use std::collections::HashMap;
 
 /// The first rows; behind them stand those of each code, n and f.
-const FIRST_ROWS: [&str; 25] = [
+const FIRST_ROWS: [&str; 38] = [
     "calls",
     "places looked at",
     "runs looked at after each call",
     "runs with bad seats",
+    BEFORE,
+    NEVER,
+    IN_THE_MIDDLE,
+    ALL_SORTS,
+    switches::ACKED,
+    switches::TURNED_DOWN,
+    switches::ACCEPTED,
+    switches::BOOKED,
+    switches::IN_BETWEEN,
+    switches::SAME_AGAIN,
+    switches::ANOTHER,
+    switches::RULED,
+    FREE,
     "conflicts made",
     "P printed",
     "P printed on a tie",
@@ -36,6 +52,11 @@ const FIRST_ROWS: [&str; 25] = [
     "runs that end with different counts at two honest seats",
     "runs that end with equal counts, not all 0, at two honest seats",
 ];
+const BEFORE: &str = "runs with seats that switched before";
+const NEVER: &str = "runs with seats that do not switch";
+const IN_THE_MIDDLE: &str = "runs with seats that switch in the middle";
+const ALL_SORTS: &str = "runs with seats of all three sorts";
+const FREE: &str = "P under the first rules for another of the tied slips";
 const MEETINGS: &str = "places with counts, not all 0, that another seat had before";
 const MOST_BOOKED: &str = "most numbers booked at one account";
 
@@ -48,7 +69,7 @@ impl Coverage {
     pub fn new() -> Coverage {
         let mut names: Vec<String> = FIRST_ROWS.iter().map(|name| name.to_string()).collect();
         names.extend([MEETINGS, MOST_BOOKED].map(str::to_string));
-        names.extend((4..=12).map(|code| format!("R {code}")));
+        names.extend((4..=12).chain([20]).map(|code| format!("R {code}")));
         names.extend((1..=16).map(|n| format!("runs with n {n}")));
         names.extend((0..=3).map(|f| format!("runs with f {f}")));
         Coverage {
@@ -96,9 +117,25 @@ impl Coverage {
                 Event::Look { .. } => self.add("places looked at", 1),
             }
         }
+        self.count_sorts(world);
+        for row in switches::met(&world.record) {
+            self.add(row, 1);
+        }
         self.count_put_forwards(world);
         self.count_meetings(world);
         self.count_ends(world);
+    }
+
+    /// Counts a run by when its honest seats switch.
+    fn count_sorts(&mut self, world: &World) {
+        let honest: Vec<Switch> = world.seats.keys().map(|seat| world.plan.switches[*seat]).collect();
+        let before = honest.contains(&Switch::Before);
+        let never = honest.contains(&Switch::Never);
+        let in_the_middle = honest.iter().any(|switch| matches!(switch, Switch::AtRound(_)));
+        self.add(BEFORE, before as u64);
+        self.add(NEVER, never as u64);
+        self.add(IN_THE_MIDDLE, in_the_middle as u64);
+        self.add(ALL_SORTS, (before && never && in_the_middle) as u64);
     }
 
     fn count_call(&mut self, call: &Call) {
@@ -129,6 +166,7 @@ impl Coverage {
         let bad = world.plan.bad.contains(&true);
         for one in &all {
             self.add("P printed on a tie", one.is_tied() as u64);
+            self.add(FREE, (one.rules == Rules::First && one.is_another()) as u64);
         }
         for [earlier, later] in alike::pairs(&all) {
             let tied = later.is_tied();

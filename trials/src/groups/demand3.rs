@@ -1,21 +1,25 @@
-//! Demand 3 on a recorded run: agreement, the slate, and equal counts; and beside it that P are alike.
+//! Demand 3 on a recorded run: agreement, the slate, and equal counts; and beside it that P are alike, and that each seat
+//! answers by its rules.
 
 use super::alike;
 use super::printed::{Closing, Reply};
 use super::record::{key_of, Call, Event, Key, Record};
 use super::slate::Slate;
+use super::switches;
 use reference::book::{Message, Slip};
 use std::collections::HashMap;
 
 #[derive(Clone, Copy, PartialEq, Eq, Debug)]
 pub enum Check {
-    /// The text is not what `daybook` may print at all, or a longer bundle changed an older reply.
+    /// The text is not what `daybook` may print at all, or a longer bundle changed an older reply; or the real library goes on
+    /// otherwise with a book that is held.
     Text,
     Agreement,
     Slate,
     EqualCounts,
-    /// Not of demand 3, but of document 02.
+    /// Not of demand 3, but of document 02, requests 2 and 3.
     Alike,
+    Rules,
 }
 
 pub struct Failure {
@@ -23,7 +27,7 @@ pub struct Failure {
     pub what: String,
 }
 
-/// Every failure in the order of the run; none if the run is as demand 3 and `alike` say.
+/// Every failure in the order of the run; none if the run is as demand 3, `alike` and `switches` say.
 pub fn failures(record: &Record) -> Vec<Failure> {
     let of = |check, faults: Vec<String>| faults.into_iter().map(move |what| Failure { check, what });
     let mut all: Vec<Failure> = of(Check::Text, record.faults.clone()).collect();
@@ -31,6 +35,7 @@ pub fn failures(record: &Record) -> Vec<Failure> {
     all.extend(of(Check::Slate, slates(record)));
     all.extend(of(Check::EqualCounts, equal_counts(record)));
     all.extend(of(Check::Alike, alike::faults(record)));
+    all.extend(of(Check::Rules, switches::faults(record)));
     all
 }
 

@@ -1,4 +1,4 @@
-//! What a run is made of: the group, its opening page, its bad seats, and how much happens.
+//! What a run is made of: the group, its opening page, its bad seats, when its seats switch, and how much happens.
 
 use super::breach::Breach;
 use super::lies::Lie;
@@ -11,10 +11,25 @@ const REPLAYED: u64 = 400_000;
 /// At most so many messages are brought to a seat in a run.
 const MOST_BROUGHT: u64 = 900;
 
+/// When a seat switches from the first rules to the newest.
+#[derive(Clone, Copy, PartialEq, Eq, Debug)]
+pub enum Switch {
+    /// Before the run.
+    Before,
+    /// Not in the run.
+    Never,
+    /// At the beginning of this round, which is not the first.
+    AtRound(u64),
+}
+
+/// How many seats switch before the run, never and in the middle, in parts.
+const MIXTURES: [[u64; 3]; 4] = [[1, 0, 0], [1, 6, 1], [1, 2, 2], [1, 1, 6]];
+
 pub struct Plan {
     /// The page that each seat opens from.
     pub pages: Vec<OpeningPage>,
     pub bad: Vec<bool>,
+    pub switches: Vec<Switch>,
     pub rounds: u64,
     /// So many of the rounds, the last ones, bring no new slips, and nothing is lost in them.
     pub calm: u64,
@@ -43,9 +58,11 @@ impl Plan {
         let page = if dice.once_in(8) { scaled_up(page) } else { page };
         let every_call = dice.once_in(6);
         let (rounds, batch) = size(n as u64, every_call, dice);
+        let mixture = *dice.pick(&MIXTURES);
         Plan {
             pages: vec![page; n],
             bad: chosen(n, bad as usize, dice),
+            switches: (0..n).map(|_| switch(mixture, rounds, dice)).collect(),
             rounds,
             calm: dice.below(2) * (rounds / 3),
             batch,
@@ -64,16 +81,25 @@ impl Plan {
             Breach::EarlyRuling => (6, 1, 0),
             // All acks are needed, so that seats put forward on equal ones, and halves are tied.
             Breach::Told(Lie::LastOfTied | Lie::TiedAtHand) => *dice.pick(&[(2, 0, 0), (4, 0, 0), (6, 0, 0)]),
+            // One seat that acks twice is enough to part the two others.
+            Breach::RunAgain => (3, 0, 0),
             _ => *dice.pick(&[(6, 1, 1), (8, 1, 1), (11, 2, 2)]),
         };
-        let mut pages = vec![page(n, f, dice.within(1, 3), dice); n];
+        // There has to be another recipient than the payer.
+        let mut pages = vec![page(n, f, dice.within(2, 3), dice); n];
         if breach == Breach::TwoPages {
             let seat = dice.below(n as u64) as usize;
             pages[seat].balances[0] ^= 1;
         }
+        let mut switches = vec![Switch::Before; n];
+        if breach == Breach::RunAgain {
+            switches = vec![Switch::Never; n];
+            switches[dice.below(n as u64) as usize] = Switch::AtRound(1);
+        }
         Plan {
             pages,
             bad: chosen(n, bad, dice),
+            switches,
             rounds: 10,
             calm: 0,
             batch: 4 * n as u64,
@@ -105,6 +131,16 @@ fn scaled_up(mut page: OpeningPage) -> OpeningPage {
     let scale = u32::MAX / page.balances.iter().sum::<u32>().max(1);
     page.balances.iter_mut().for_each(|balance| *balance *= scale);
     page
+}
+
+/// One of the three sorts, by their parts.
+fn switch(mixture: [u64; 3], rounds: u64, dice: &mut Dice) -> Switch {
+    let [before, never, _] = mixture;
+    match dice.below(mixture.iter().sum()) {
+        part if part < before => Switch::Before,
+        part if part < before + never => Switch::Never,
+        _ => Switch::AtRound(dice.within(1, rounds - 1)),
+    }
 }
 
 /// So many of n seats, any of them.

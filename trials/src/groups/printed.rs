@@ -1,6 +1,6 @@
 //! What `daybook` printed, read back: the reply to each message and the closing line of each account.
 
-use reference::book::Slip;
+use reference::book::{self, Slip};
 
 /// A reply as the text shows it.
 #[derive(Clone, Copy, PartialEq, Eq, Debug)]
@@ -12,6 +12,21 @@ pub enum Reply {
     Noted,
     Balance(u32),
     Refused { code: u32 },
+}
+
+/// As the second program gives it.
+impl From<&book::Reply> for Reply {
+    fn from(reply: &book::Reply) -> Reply {
+        match *reply {
+            book::Reply::Circulate => Reply::Circulate,
+            book::Reply::Ack => Reply::Ack,
+            book::Reply::Accepted { booked } => Reply::Accepted { booked },
+            book::Reply::PutForward { slip } => Reply::PutForward(slip),
+            book::Reply::Noted => Reply::Noted,
+            book::Reply::Balance(balance) => Reply::Balance(balance),
+            book::Reply::Refused(code) => Reply::Refused { code: code.into() },
+        }
+    }
 }
 
 /// An account's closing line, `= account balance current`.

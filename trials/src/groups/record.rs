@@ -2,6 +2,7 @@
 
 use super::printed::{Closing, Reply};
 use reference::book::{Message, OpeningPage, Slip};
+use reference::rules::Rules;
 
 /// An account and a number.
 pub type Key = (u8, u32);
@@ -10,10 +11,11 @@ pub fn key_of(slip: &Slip) -> Key {
     (slip.account, slip.number)
 }
 
-/// One call at an honest seat, with the reply that was printed.
+/// One call at an honest seat, with the rules that the seat answered by and its reply.
 #[derive(Clone, Copy, Debug)]
 pub struct Call {
     pub seat: usize,
+    pub rules: Rules,
     pub message: Message,
     pub reply: Reply,
 }
@@ -59,7 +61,8 @@ pub struct Record {
     pub pages: Vec<OpeningPage>,
     pub bad: Vec<bool>,
     pub events: Vec<Event>,
-    /// Texts that could not be read, and replies that a longer bundle changed.
+    /// Texts that could not be read, replies that a longer bundle changed, and replies of the real library, going on with a
+    /// book that is held, that are not the second program's.
     pub faults: Vec<String>,
 }
 

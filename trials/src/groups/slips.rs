@@ -26,11 +26,17 @@ pub fn new_slip(page: &OpeningPage, key: Key, closing: Closing, dice: &mut Dice)
         4 if dice.once_in(3) => 1 + dice.below(opening_sum(page).max(1).into()) as u32,
         _ => 1 + dice.below(balance.max(1).into()) as u32,
     };
+    // A home pays itself, now and then or if there is no other.
+    let further = if dice.once_in(6) {
+        0
+    } else {
+        dice.within(1, u64::from(page.k.max(2)) - 1) as u8
+    };
     Slip {
         account: key.0,
         number: key.1,
         value,
-        recipient: dice.below(page.k.into()) as u8,
+        recipient: (key.0 + further) % page.k,
     }
 }
 

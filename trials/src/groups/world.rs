@@ -2,14 +2,16 @@
 
 use super::breach::Breach;
 use super::council::Council;
+use super::keeper::Keeper;
 use super::network::Network;
-use super::plan::{chosen, Plan};
+use super::plan::{chosen, Plan, Switch};
 use super::printed::{Closing, Reply};
 use super::record::{key_of, Call, Key, Record};
-use super::seat::Seat;
+use super::seat::{Clerk, Seat};
 use super::slips::{self, Made};
 use crate::dice::Dice;
 use reference::book::{Message, OpeningPage, Slip};
+use reference::rules::Rules;
 use std::collections::BTreeMap;
 
 pub struct World {
@@ -36,7 +38,7 @@ pub fn run(plan: Plan, dice: &mut Dice) -> World {
 }
 
 impl World {
-    fn open(plan: Plan, dice: Dice) -> World {
+    fn open(plan: Plan, mut dice: Dice) -> World {
         let n = plan.bad.len();
         let mut record = Record {
             pages: plan.pages.clone(),
@@ -46,12 +48,14 @@ impl World {
         };
         let mut seats = BTreeMap::new();
         for number in (0..n).filter(|number| !plan.bad[*number]) {
-            // If a text is changed, then that of one seat, the first.
-            let lie = match plan.breach {
-                Some(Breach::Told(lie)) if seats.is_empty() => Some(lie),
-                _ => None,
+            let page = plan.pages[number].clone();
+            let clerk = match (plan.switches[number], plan.breach) {
+                // If a text is changed, then that of one seat, the first.
+                (Switch::Before, Some(Breach::Told(lie))) if seats.is_empty() => Clerk::Daybook(Some(lie)),
+                (Switch::Before, _) => Clerk::Daybook(None),
+                _ => Clerk::Keeper(Keeper::open(&page, Dice::new(dice.any()))),
             };
-            seats.insert(number, Seat::open(number, plan.pages[number].clone(), lie, &mut record));
+            seats.insert(number, Seat::open(number, page, clerk, &mut record));
         }
         World {
             plan,
@@ -67,6 +71,7 @@ impl World {
     }
 
     fn round(&mut self, round: u64) {
+        self.switch(round);
         let calm = round + self.plan.calm >= self.plan.rounds;
         if calm {
             self.network.end_delays();
@@ -79,6 +84,62 @@ impl World {
         self.rule();
         self.send_again(calm);
         self.deliver(calm);
+    }
+
+    /// Seats switch whose round it is. What the homes had acked there by paying themselves they send again, and another slip
+    /// in its place, to that seat or to all.
+    fn switch(&mut self, round: u64) {
+        for seat in self.honest() {
+            if !self.is_to_switch(seat, round) {
+                continue;
+            }
+            let switching = self.seats.get_mut(&seat).expect("an honest seat");
+            if self.plan.breach == Some(Breach::RunAgain) {
+                switching.run_again();
+            } else {
+                switching.switch();
+            }
+            for slip in self.marks_of_self_payments(seat) {
+                self.try_again(seat, slip);
+            }
+        }
+    }
+
+    fn is_to_switch(&self, seat: usize, round: u64) -> bool {
+        match (self.plan.switches[seat], self.plan.breach) {
+            // From then on it waits for a mark that it can lose.
+            (Switch::AtRound(at), Some(Breach::RunAgain)) => {
+                let has_switched = self.seats[&seat].rules() == Rules::NEWEST;
+                round >= at && !has_switched && !self.marks_of_self_payments(seat).is_empty()
+            }
+            (switch, _) => switch == Switch::AtRound(round),
+        }
+    }
+
+    /// The self-payments that the seat has acked and not booked.
+    fn marks_of_self_payments(&self, seat: usize) -> Vec<Slip> {
+        let closings = self.seats[&seat].closings();
+        let open = |slip: &Slip| slip.number > closings[usize::from(slip.account)].current;
+        let acks = self.acks.values().flatten();
+        let slips = acks.filter_map(|ack| match ack {
+            Message::Ack { seat: sender, slip } if usize::from(*sender) == seat => Some(*slip),
+            _ => None,
+        });
+        slips.filter(|slip| slip.pays_itself() && open(slip)).collect()
+    }
+
+    fn try_again(&mut self, seat: usize, slip: Slip) {
+        self.network.send(seat, Message::Slip(slip));
+        let k = self.page().k;
+        let another = Slip {
+            recipient: (slip.account + 1) % k,
+            ..slip
+        };
+        if self.dice.once_in(2) {
+            self.network.send(seat, Message::Slip(another));
+        } else {
+            self.network.send_to_all(Message::Slip(another));
+        }
     }
 
     fn page(&self) -> OpeningPage {
@@ -108,9 +169,7 @@ impl World {
         for account in 0..page.k {
             let closing = self.furthest(account);
             let key = (account, closing.current + 1);
-            // If no seat acked what was made for this number, the home may make another in its place.
-            let again = !self.acks.contains_key(&key) && self.dice.once_in(6);
-            let due = again || !self.made.contains_key(&key);
+            let due = !self.made.contains_key(&key) || self.makes_again(key);
             // A home without funds mostly waits for some.
             let chance = if closing.balance == 0 {
                 40
@@ -127,6 +186,13 @@ impl World {
                 self.request(slip);
             }
         }
+    }
+
+    /// If no seat acked what was made for this number, or if it was a self-payment, which seats that have switched turn
+    /// down, the home may make another in its place.
+    fn makes_again(&mut self, key: Key) -> bool {
+        let of_itself = self.made[&key].slips.iter().any(Slip::pays_itself);
+        (of_itself || !self.acks.contains_key(&key)) && self.dice.once_in(6)
     }
 
     /// A home's new slip goes to its own seat as a request. If that seat is bad it circulates the slip all the same,

@@ -137,8 +137,8 @@ impl Account {
         self.acks.iter().flatten().filter(|acked| *acked == slip).count()
     }
 
-    /// The acks of the slips with the most acks, by their seats. The list of acks begins with seat 0, in whatever order
-    /// they came.
+    /// The slips with the most acks, once for each of their acks, from the lowest seat on. The list of acks begins with
+    /// seat 0, in whatever order they came.
     fn most_acked(&self) -> impl Iterator<Item = Slip> + '_ {
         let acked = || self.acks.iter().flatten();
         let most = acked().map(|slip| self.acks_for(slip)).max();
@@ -304,7 +304,7 @@ impl Book {
         Ok(Reply::Balance(account.balance))
     }
 
-    /// Codes 5, 20 and then 6 to 8, which requests and slips can meet. Returns the payer's place in `accounts`.
+    /// Codes 5, 20 and 6 to 8, in this order, which requests and slips can meet. Returns the payer's place in `accounts`.
     fn check_new(&self, slip: &Slip) -> Result<usize, u8> {
         self.check_fields(slip)?;
         if slip.pays_itself() && self.rules.turn_down_self_payments() {
@@ -329,7 +329,7 @@ impl Book {
         Ok(())
     }
 
-    /// Codes 6 to 8, for a payer below k.
+    /// Codes 6 to 8, for a payer below k. Returns the payer's place in `accounts`.
     fn check_number(&self, slip: &Slip) -> Result<usize, u8> {
         let payer = usize::from(slip.account);
         let account = &self.accounts[payer];

@@ -66,11 +66,12 @@ struct Walk {
 struct Seat {
     slate: Slate,
     rules: Option<Rules>,
-    /// The self-payments that it acked and has not booked, those accepted by acks that it has not booked, and the numbers for
-    /// which it put a slip forward; `true` where a switch came behind.
+    /// The self-payments that it acked and has not booked, and the numbers for which it put a slip forward; `true` once a
+    /// switch came behind.
     marks: Vec<(Slip, bool)>,
-    accepted: Vec<Slip>,
     put_forward: Vec<(Key, bool)>,
+    /// The self-payments that it accepted and has not booked; `true` for those that count as ACCEPTED.
+    accepted: Vec<(Slip, bool)>,
 }
 
 impl Seat {
@@ -79,8 +80,8 @@ impl Seat {
             slate,
             rules: None,
             marks: Vec::new(),
-            accepted: Vec::new(),
             put_forward: Vec::new(),
+            accepted: Vec::new(),
         }
     }
 
@@ -150,30 +151,25 @@ impl Walk {
         if by_ruling && seat.put_forward.contains(&(key_of(&slip), true)) {
             self.met.push(RULED);
         }
-        if slip.pays_itself() && !by_ruling && switched && not {
-            seat.accepted.push(slip);
-            self.met.push(ACCEPTED);
+        if slip.pays_itself() {
+            let counts = !by_ruling && switched && not;
+            seat.accepted.push((slip, counts));
+            self.met.extend(counts.then_some(ACCEPTED));
         }
     }
 
     /// What the slate has booked leaves the lists.
     fn book(&mut self, seat: usize) {
-        let Seat {
-            slate,
-            rules,
-            marks,
-            accepted,
-            ..
-        } = &mut self.seats[seat];
-        let booked = |slip: &Slip| slate.counts()[usize::from(slip.account)] >= slip.number;
-        let met = &mut self.met;
-        accepted.retain(|slip| {
-            if booked(slip) && *rules == Some(Rules::NEWEST) {
-                met.push(BOOKED);
-                met.extend(marks.contains(&(*slip, true)).then_some(IN_BETWEEN));
-            }
-            !booked(slip)
-        });
-        marks.retain(|(slip, _)| !booked(slip));
+        let seat = &mut self.seats[seat];
+        let has_switched = seat.has_switched();
+        let counts = seat.slate.counts();
+        let booked = |slip: &Slip| counts.get(usize::from(slip.account)) >= Some(&slip.number);
+        for (slip, counts) in seat.accepted.iter().filter(|(slip, _)| booked(slip)) {
+            self.met.extend((*counts && has_switched).then_some(BOOKED));
+            self.met
+                .extend(seat.marks.contains(&(*slip, true)).then_some(IN_BETWEEN));
+        }
+        seat.accepted.retain(|(slip, _)| !booked(slip));
+        seat.marks.retain(|(slip, _)| !booked(slip));
     }
 }

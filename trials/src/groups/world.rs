@@ -86,8 +86,7 @@ impl World {
         self.deliver(calm);
     }
 
-    /// Seats switch whose round it is. What the homes had acked there by paying themselves they send again, and another slip
-    /// in its place, to that seat or to all.
+    /// Seats switch whose round it is, and homes that had a self-payment acked there try again.
     fn switch(&mut self, round: u64) {
         for seat in self.honest() {
             if !self.is_to_switch(seat, round) {
@@ -128,6 +127,7 @@ impl World {
         slips.filter(|slip| slip.pays_itself() && open(slip)).collect()
     }
 
+    /// A home sends its self-payment to the seat again, and a slip to another recipient to that seat or to all.
     fn try_again(&mut self, seat: usize, slip: Slip) {
         self.network.send(seat, Message::Slip(slip));
         let k = self.page().k;

@@ -145,8 +145,11 @@ fn message(dice: &mut Dice, lent: &Lent) -> Message {
     let seat = mostly_below(dice, n);
     let own = held.acks[usize::from(seat) % 16];
     let value = *dice.pick(&[held.balance, held.balance.wrapping_add(1), 1, any]);
-    let other = mostly_below(dice, k);
-    let recipient = *dice.pick(&[other, other, other, account]);
+    let recipient = if dice.once_in(4) {
+        account
+    } else {
+        mostly_below(dice, k)
+    };
     let number = *dice.pick(&[next, next, next, next, next, held.current, next.wrapping_add(1), any]);
     let slip = Slip {
         account,

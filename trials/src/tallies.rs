@@ -134,8 +134,8 @@ impl Tallies {
     pub fn text(&mut self, class: usize, bytes: &[u8], text: &[u8]) {
         let text = String::from_utf8_lossy(text);
         let read = bundle::read(bytes);
-        let (page, messages) = read.map_or((None, Vec::new()), |(page, messages)| (Some(page), messages));
-        let mut before = page.and_then(|page| Before::open(&page));
+        let (mut before, messages) =
+            read.map_or((None, Vec::new()), |(page, messages)| (Before::open(&page), messages));
         for line in text.lines() {
             let words: Vec<&str> = line.split(' ').collect();
             match words[..] {

@@ -114,7 +114,9 @@ fn attempt(breach: Breach, dice: &mut Dice) -> Result<Option<String>, String> {
     let plan = Plan::aimed(breach, dice);
     let record = world::run(plan, dice).record;
     let broken: Vec<Premise> = premises::broken(&record).into_keys().collect();
-    let failed = match demand3::failures(&record).into_iter().next() {
+    let mut failures = demand3::failures(&record).into_iter();
+    // Two acks are only the way to books that part.
+    let failed = match failures.find(|failed| failed.check != Check::AckedOnce) {
         Some(failed) => failed,
         None => return Ok(None),
     };

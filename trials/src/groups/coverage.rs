@@ -12,7 +12,7 @@ use reference::rules::Rules;
 use std::collections::HashMap;
 
 /// The first rows; behind them stand those of each code, n and f.
-const FIRST_ROWS: [&str; 38] = [
+const FIRST_ROWS: [&str; 39] = [
     "calls",
     "places looked at",
     "runs looked at after each call",
@@ -21,6 +21,7 @@ const FIRST_ROWS: [&str; 38] = [
     NEVER,
     IN_THE_MIDDLE,
     ALL_SORTS,
+    IDLE_SWITCHES,
     switches::ACKED,
     switches::TURNED_DOWN,
     switches::ACCEPTED,
@@ -56,6 +57,7 @@ const BEFORE: &str = "runs with seats that switched before";
 const NEVER: &str = "runs with seats that do not switch";
 const IN_THE_MIDDLE: &str = "runs with seats that switch in the middle";
 const ALL_SORTS: &str = "runs with seats of all three sorts";
+const IDLE_SWITCHES: &str = "switches of seats that had switched";
 const FREE: &str = "P under the first rules for another of the tied slips";
 const MEETINGS: &str = "places with counts, not all 0, that another seat had before";
 const MOST_BOOKED: &str = "most numbers booked at one account";
@@ -136,6 +138,7 @@ impl Coverage {
         self.add(NEVER, never as u64);
         self.add(IN_THE_MIDDLE, in_the_middle as u64);
         self.add(ALL_SORTS, (before && never && in_the_middle) as u64);
+        self.add(IDLE_SWITCHES, world.idle_switches);
     }
 
     fn count_call(&mut self, call: &Call) {

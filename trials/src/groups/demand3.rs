@@ -1,5 +1,5 @@
-//! Demand 3 on a recorded run: agreement, the slate, and equal counts; and beside it that P are alike, and that each seat
-//! answers by its rules.
+//! Demand 3 on a recorded run: agreement, the slate, and equal counts; and beside it that each seat acks once, that P are
+//! alike, and that each seat answers by its rules.
 
 use super::alike;
 use super::printed::{Closing, Reply};
@@ -17,6 +17,8 @@ pub enum Check {
     Agreement,
     Slate,
     EqualCounts,
+    /// Not of demand 3, but what it rests on.
+    AckedOnce,
     /// Not of demand 3, but of document 02, requests 2 and 3.
     Alike,
     Rules,
@@ -34,6 +36,7 @@ pub fn failures(record: &Record) -> Vec<Failure> {
     all.extend(of(Check::Agreement, agreement(record)));
     all.extend(of(Check::Slate, slates(record)));
     all.extend(of(Check::EqualCounts, equal_counts(record)));
+    all.extend(of(Check::AckedOnce, acked_once(record)));
     all.extend(of(Check::Alike, alike::faults(record)));
     all.extend(of(Check::Rules, switches::faults(record)));
     all
@@ -54,6 +57,22 @@ fn agreement(record: &Record) -> Vec<String> {
                 "seat {seat} accepted {}, seat {} accepted {}",
                 first, call.seat, slip
             ));
+        }
+    }
+    faults
+}
+
+/// A seat acks one slip for an account and number, whenever it switches.
+fn acked_once(record: &Record) -> Vec<String> {
+    let mut acked: HashMap<(usize, Key), Slip> = HashMap::new();
+    let mut faults = Vec::new();
+    for call in record.calls() {
+        let slip = match call.acked() {
+            Some(slip) => slip,
+            None => continue,
+        };
+        if let Some(first) = acked.insert((call.seat, key_of(&slip)), slip) {
+            faults.push(format!("seat {} acked {first} and {slip}", call.seat));
         }
     }
     faults

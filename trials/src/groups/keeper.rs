@@ -12,7 +12,7 @@ pub struct Keeper {
     book: Book,
     /// They choose the slip of a P that the first rules leave free.
     dice: Dice,
-    /// What the real library goes on with, since the switch.
+    /// Since the switch, what the real library goes on with: the words of the book as it was held before.
     lent: Option<Lent>,
 }
 
@@ -31,10 +31,11 @@ impl Keeper {
         self.book.rules()
     }
 
-    /// The seat goes on with the book that it holds.
+    /// The seat goes on with the book that it holds; if it has switched before, nothing changes.
     pub fn switch(&mut self) {
+        let (page, book) = (&self.page, &self.book);
+        self.lent.get_or_insert_with(|| Lent::of(page, book));
         self.book.switch();
-        self.lent = Some(Lent::of(&self.page, &self.book));
     }
 
     /// What is no switch: a book opened anew, to which the same messages come again.

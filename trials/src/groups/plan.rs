@@ -18,7 +18,7 @@ pub enum Switch {
     Before,
     /// Not in the run.
     Never,
-    /// At the beginning of this round, which is not the first.
+    /// At the beginning of this round, which is not the first; once more, when it changes nothing, after as many again.
     AtRound(u64),
 }
 
@@ -39,6 +39,8 @@ pub struct Plan {
     pub every_call: bool,
     /// A home makes conflicting slips once in so many times; 0 is never.
     pub contest: u64,
+    /// A home pays itself once in so many times.
+    pub to_itself: u64,
     pub breach: Option<Breach>,
 }
 
@@ -68,6 +70,7 @@ impl Plan {
             batch,
             every_call,
             contest: *dice.pick(&[0, 2, 3, 8]),
+            to_itself: 6,
             breach: None,
         }
     }
@@ -105,6 +108,7 @@ impl Plan {
             batch: 4 * n as u64,
             every_call: false,
             contest: (breach != Breach::EarlyRuling) as u64,
+            to_itself: if breach == Breach::RunAgain { 2 } else { 6 },
             breach: Some(breach),
         }
     }

@@ -17,8 +17,9 @@ fn opening_sum(page: &OpeningPage) -> u32 {
     page.balances.iter().sum()
 }
 
-/// A home's slip, with a value that mostly fits the account as it stands at some seat.
-pub fn new_slip(page: &OpeningPage, key: Key, closing: Closing, dice: &mut Dice) -> Slip {
+/// A home's slip, with a value that mostly fits the account as it stands at some seat. Once in so many times, and if there
+/// is no other recipient, the home pays itself.
+pub fn new_slip(page: &OpeningPage, key: Key, closing: Closing, to_itself: u64, dice: &mut Dice) -> Slip {
     let balance = closing.balance;
     let value = match dice.below(8) {
         0..=2 => balance.max(1),
@@ -26,8 +27,7 @@ pub fn new_slip(page: &OpeningPage, key: Key, closing: Closing, dice: &mut Dice)
         4 if dice.once_in(3) => 1 + dice.below(opening_sum(page).max(1).into()) as u32,
         _ => 1 + dice.below(balance.max(1).into()) as u32,
     };
-    // A home pays itself, now and then or if there is no other.
-    let further = if dice.once_in(6) {
+    let further = if dice.once_in(to_itself) {
         0
     } else {
         dice.within(1, u64::from(page.k.max(2)) - 1) as u8

@@ -25,6 +25,8 @@ pub struct World {
     /// The acks that honest seats sent.
     acks: BTreeMap<Key, Vec<Message>>,
     pub conflicts: u64,
+    /// Switches of seats that answer by the newest rules.
+    pub idle_switches: u64,
     pub record: Record,
 }
 
@@ -66,6 +68,7 @@ impl World {
             made: BTreeMap::new(),
             acks: BTreeMap::new(),
             conflicts: 0,
+            idle_switches: 0,
             record,
         }
     }
@@ -93,6 +96,7 @@ impl World {
                 continue;
             }
             let switching = self.seats.get_mut(&seat).expect("an honest seat");
+            self.idle_switches += u64::from(switching.rules() == Rules::NEWEST);
             if self.plan.breach == Some(Breach::RunAgain) {
                 switching.run_again();
             } else {
@@ -111,7 +115,8 @@ impl World {
                 let has_switched = self.seats[&seat].rules() == Rules::NEWEST;
                 round >= at && !has_switched && !self.marks_of_self_payments(seat).is_empty()
             }
-            (switch, _) => switch == Switch::AtRound(round),
+            (Switch::AtRound(at), _) => round == at || round == 2 * at,
+            _ => false,
         }
     }
 
@@ -179,7 +184,7 @@ impl World {
             if !due || !self.dice.once_in(chance) {
                 continue;
             }
-            let slip = slips::new_slip(&page, key, closing, &mut self.dice);
+            let slip = slips::new_slip(&page, key, closing, self.plan.to_itself, &mut self.dice);
             if self.plan.contest > 0 && self.dice.once_in(self.plan.contest) {
                 self.circulate_conflict(slip);
             } else {

@@ -3,9 +3,9 @@
 
 #[derive(Clone, Copy, PartialEq, Eq, PartialOrd, Ord, Debug)]
 pub enum Rules {
-    /// Document 01 as it was.
+    /// Document 01 as it was: a home may pay itself, and P is free on a tie.
     First,
-    /// Since request 3 of document 02.
+    /// Since request 3 of document 02, and with request 2.
     NoSelfPayments,
 }
 
@@ -25,7 +25,7 @@ impl Rules {
         self >= Rules::NoSelfPayments
     }
 
-    /// Whether P carries, of the slips with the most acks, any: so it was before request 2, which the switch brings too.
+    /// Whether P may carry any of the slips with the most acks, as before request 2.
     pub fn leave_ties_free(self) -> bool {
         self < Rules::NoSelfPayments
     }

@@ -63,7 +63,7 @@ impl Seat {
         (before..self.replies.len()).map(|place| self.call(place)).collect()
     }
 
-    /// Those that it answers by.
+    /// The rules that it answers by.
     pub fn rules(&self) -> Rules {
         match &self.clerk {
             Clerk::Daybook(_) => Rules::NEWEST,

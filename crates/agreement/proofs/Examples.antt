@@ -191,7 +191,7 @@ putsForward t e = passes (equal t) (proposed (e .call))
 abbrev pub takes : ℕ → Transfer → Event → Bool
 takes s t e = sameSeat (e .at) (seatOf s) && passes (equal t) (accepted (e .call))
 
-abbrev pub isRuling : Event → Bool
+abbrev isRuling : Event → Bool
 isRuling e = passes (λ t. true) (ruled (e .call))
 
 -- The witness has what the premises are about: seats ack slips that conflict, t is put forward, accepted by an ack at seat 0 and by a

@@ -21,7 +21,7 @@ use Rattle.model.specs.Acks.{holds, conflicts, acksFor, acksRecorded, enough, t
 use Rattle.model.specs.Refusals.{outOfRange, waitsAlready, ackFrom}
 use Rattle.model.specs.Settling.{settle}
 use Rattle.model.specs.Calls.{rulesIn}
-use Rattle.model.specs.Switches.{Rules, stepUnder}
+use Rattle.model.specs.Switches.{Rules, rulesThere, stepUnder}
 use Rattle.model.proofs.Sums.{impossible, some-counted, both}
 use Rattle.model.proofs.Equality.{equal-sound, equal-refl}
 use Rattle.model.proofs.Access.{entry-set-same, set-each, with-entry-same}
@@ -29,7 +29,7 @@ use Rattle.model.proofs.Tallies.{most-sound}
 use Rattle.model.proofs.Booking.{SameButBalance, Cleared}
 use Rattle.model.proofs.Settles.{Turned, kept, booked, settle-entry}
 use Rattle.model.proofs.Switching.{ack-rules}
-use Rattle.model.proofs.Refusing.{SomeHolds, some-holds, rulesThere, refused-by}
+use Rattle.model.proofs.Refusing.{SomeHolds, some-holds, refused-by}
 use Rattle.model.proofs.Steps.{Eligible, Recordable, entryWithAck, acceptedIn, Happens, refused, circulated, acknowledged, accepted-by-acks, proposed, noted, accepted-by-ruling, told}
 
 -- every call leaves a sound ledger

@@ -2,26 +2,27 @@
 -- running an old bundle again, which is no switch. All is computed.
 use Prim.Native.Nat.{ℕ}
 use mathlib.Core.Path.{_≡_, refl, ap}
-use mathlib.Core.Bool.{Bool, true, false, _&&_, false≢true}
+use mathlib.Core.Bool.{Bool, true, false, cond, _&&_, false≢true}
 use mathlib.Core.List.{[], _∷_}
-use lib.Dec.{lit≤, lit<}
+use lib.Dec.{eqb, lit≤, lit<}
 use Rattle.agreement.specs.Types.{Transfer, Ledger, Circulated, Acknowledge, Accept, Propose, Note, Refuse}
-use Rattle.agreement.specs.Runs.{Opens, FewBad, switch, Event, Run, start, _▹_, at-end, sooner, happened, atHonest, rulesAt, ledgerAt, Obeys}
+use Rattle.agreement.specs.Runs.{Opens, FewBad, waitingList, switch, Event, Run, start, _▹_, at-end, sooner, happened, atHonest, rulesAt, ledgerAt, Obeys, ruled, passes}
 use Rattle.agreement.specs.Premises.{Premises}
 use Rattle.agreement.specs.Slates.{leaveAtMost, leaveAll, slateAt}
 use Rattle.agreement.specs.Claims.{Claim}
 use Rattle.agreement.specs.Switching.{MarkStands}
 use Rattle.agreement.proofs.Demand3.{demand3}
 use Rattle.agreement.proofs.Switching.{marks-stand}
-use Rattle.agreement.proofs.Examples.{page, t, bad, today, asked, acks, ack, ruling, _then_, putsForward, takes, isRuling, slate}
-use Rattle.model.specs.declared.Refusal.the-variants.{AlreadyAcked, SelfPayment}
+use Rattle.agreement.proofs.Examples.{page, t, bad, today, asked, acks, ack, ruling, _then_, putsForward, takes, slate}
+use Rattle.model.specs.declared.Refusal.the-variants.{AlreadyAcked, ShortBuffer, SelfPayment}
+use Rattle.model.specs.declared.ListReply.the-variants.{ListRefused}
 use Rattle.model.specs.Records.{seatOf, accountOf, entryOf, noAcks}
 use Rattle.model.specs.Transfers.{equal, conflict}
 use Rattle.model.specs.Openings.{openReply}
 use Rattle.model.specs.Acks.{hasMost, mostAcked}
 use Rattle.model.specs.Settling.{lowestAffordable, apply, settleAtMost, settle}
 use Rattle.model.specs.Calls.{step}
-use Rattle.model.specs.Switches.{firstRules, newest, stepUnder}
+use Rattle.model.specs.Switches.{firstRules, sinceRequest3, newest, stepUnder}
 use Rattle.model.proofs.Rows.{slip}
 
 -- a home pays itself; and three slips of its next number that conflict
@@ -40,6 +41,10 @@ z = slip 0 2 6 1
 -- every seat starts under the first rules
 abbrev asItWas : Run
 asItWas = start (λ s. firstRules)
+
+-- seat s is asked for its waiting list, with a buffer that is too short
+abbrev noRoom : ℕ → Event
+noRoom s = record { at = seatOf s; call = waitingList [] (ListRefused ShortBuffer) [] }
 
 -- seat s switches
 abbrev switches : ℕ → Event
@@ -61,15 +66,15 @@ booked =
     ▹ ack 4 1 w Note ▹ ack 4 2 w Note ▹ ack 4 3 w Note ▹ ack 4 4 w Note ▹ ack 4 5 w (Accept 1)
 
 -- Of the next number, seats 0 and 1 ack x, seats 3 and 4 ack y, and the bad seat z. Seat 1 switches once more, which changes nothing: it refuses a home that
--- pays itself, and puts x forward, the first by its lowest seat. Seat 4 never switches, and puts y forward. Seat 2 switches between these acks. The council
--- rules for x, at all five.
+-- pays itself, and puts x forward, the first by its lowest seat. Seat 4 never switches, whatever else it is asked, and puts y forward. Seat 2 switches
+-- between these acks. The council rules for x, at all five.
 abbrev pub across : Run
 across =
     booked
     ▹ acks 0 x ▹ acks 1 x ▹ acks 3 y ▹ acks 4 y
     ▹ switches 1 ▹ asked 1 (Circulated (slip 0 2 4 0)) (Refuse SelfPayment)
     ▹ ack 1 0 x Note ▹ ack 1 1 x Note ▹ ack 1 3 y Note ▹ ack 1 4 y Note ▹ ack 1 5 z (Propose x)
-    ▹ ack 4 0 x Note ▹ ack 4 1 x Note ▹ ack 4 3 y Note ▹ ack 4 4 y Note ▹ ack 4 5 z (Propose y)
+    ▹ noRoom 4 ▹ ack 4 0 x Note ▹ ack 4 1 x Note ▹ ack 4 3 y Note ▹ ack 4 4 y Note ▹ ack 4 5 z (Propose y)
     ▹ ack 2 0 x Note ▹ ack 2 1 x Note ▹ switches 2 ▹ ack 2 3 y Note ▹ ack 2 4 y Note ▹ ack 2 5 z (Propose x)
     ▹ ruling 0 x (Accept 1) ▹ ruling 1 x (Accept 1) ▹ ruling 2 x (Accept 1) ▹ ruling 3 x (Accept 1) ▹ ruling 4 x (Accept 1)
 
@@ -88,7 +93,7 @@ across-obeys =
     then refl then refl then refl then refl
     then tt then refl
     then refl then refl then refl then refl then refl
-    then refl then refl then refl then refl then (y, refl, refl)
+    then (refl, refl) then refl then refl then refl then refl then (y, refl, refl)
     then refl then refl then tt then refl then refl then refl
     then refl then refl then refl then refl then refl
 
@@ -112,20 +117,22 @@ abbrev acceptedByAll : Transfer → Run → Bool
 acceptedByAll v run =
     happened (takes 0 v) run && happened (takes 1 v) run && happened (takes 2 v) run && happened (takes 3 v) run && happened (takes 4 v) run
 
--- It has in it what the request is about: w is accepted by acks at all five honest seats, x by rulings; both x and y were put forward; who had switched when
+-- It has in it what the request is about: all five honest seats accept w, which no ruling names, and x; both x and y were put forward; who had switched when
 -- w was booked, and who in the end; and all five slates say the same.
 pub across-has :
     (acceptedByAll w across ≡ true)
-    × (happened (λ e. takes 0 w e && isRuling e) across ≡ false)
+    × (happened (λ e. passes (equal w) (ruled (e .call))) across ≡ false)
     × (acceptedByAll x across ≡ true)
     × (happened (putsForward x) across && happened (putsForward y) across ≡ true)
     × (rulesAt (seatOf 0) booked ≡ newest)
+    × (rulesAt (seatOf 1) booked ≡ newest)
     × (rulesAt (seatOf 2) booked ≡ firstRules)
+    × (rulesAt (seatOf 3) booked ≡ newest)
     × (rulesAt (seatOf 1) across ≡ newest)
     × (rulesAt (seatOf 2) across ≡ newest)
     × (rulesAt (seatOf 4) across ≡ firstRules)
 unfolding rulesAt equal
-across-has = (refl, refl, refl, refl, refl, refl, refl, refl, refl)
+across-has = (refl, refl, refl, refl, refl, refl, refl, refl, refl, refl, refl)
 
 pub across-slates :
     (slate page 0 booked ≡ (10, 1) ∷ (3, 0) ∷ [])
@@ -136,6 +143,14 @@ pub across-slates :
     × (slate page 4 across ≡ (6, 2) ∷ (7, 0) ∷ [])
 unfolding slateAt leaveAll leaveAtMost equal
 across-slates = (refl, refl, refl, refl, refl, refl)
+
+-- Each seat starts under rules of its own choice: of two that get the same slip, seat 0 refuses it under the newest, and seat 1 acks it under the first.
+abbrev ownChoice : Run
+ownChoice = start (λ s. cond (eqb (s .0) 0) newest firstRules) ▹ asked 0 (Circulated w) (Refuse SelfPayment) ▹ acks 1 w
+
+pub own-choice : Obeys page ownChoice
+unfolding rulesAt ledgerAt noAcks equal conflict lowestAffordable apply settleAtMost settle stepUnder
+own-choice = tt then refl then refl
 
 -- "running an old bundle again is no switch, since a slip acked in it could now meet 20 and leave no mark." The old bundle has the slip w. One seat played
 -- it under the first rules, and switched; another plays it again under today's.
@@ -158,13 +173,18 @@ pub no-switch :
     (mark (ledgerAt page (seatOf 0) heldOn) ≡ true)
     × (mark (ledgerAt page (seatOf 0) ranAgain) ≡ false)
     × (ledgerAt page (seatOf 0) ranAgain ≡ ledgerAt page (seatOf 0) heldOn → ⊥)
-    × (step (ledgerAt page (seatOf 0) heldOn) (Circulated w) .reply ≡ Refuse SelfPayment)
     × (step (ledgerAt page (seatOf 0) heldOn) (Circulated t) .reply ≡ Refuse AlreadyAcked)
     × (step (ledgerAt page (seatOf 0) ranAgain) (Circulated t) .reply ≡ Acknowledge)
 unfolding rulesAt ledgerAt noAcks equal conflict lowestAffordable apply settleAtMost settle step stepUnder
-no-switch = (refl, refl, λ same. false≢true (ap mark same), refl, refl, refl)
+no-switch = (refl, refl, λ same. false≢true (ap mark same), refl, refl)
 
--- what is said of every mark is said of this one
+-- what is said of every mark is said of this one: w meets 20 there, and t 12
 pub mark-tried : MarkStands page (seatOf 0) heldOn w
 unfolding rulesAt ledgerAt noAcks equal conflict lowestAffordable apply settleAtMost settle stepUnder
 mark-tried = marks-stand page heldOn asItWas heldOn (acks 0 w) w (across-keeps .0) (no-switch-obeys .0) (sooner at-end) at-end refl (lit< tt)
+
+pub mark-says :
+    (stepUnder sinceRequest3 (ledgerAt page (seatOf 0) heldOn) (Circulated w) .reply ≡ Refuse SelfPayment)
+    × (stepUnder sinceRequest3 (ledgerAt page (seatOf 0) heldOn) (Circulated t) .reply ≡ Refuse AlreadyAcked)
+unfolding rulesAt ledgerAt noAcks equal conflict lowestAffordable apply settleAtMost settle stepUnder
+mark-says = (mark-tried .same-slip refl, mark-tried .other-slip t refl refl refl refl refl)

@@ -1,41 +1,31 @@
 -- What makes demand 3 true across a switch: the statements are in specs/Switching.antt.
-use Prim.Native.Nat.{_+_, _<_}
+use Prim.Native.Nat.{_+_, _≤_, _<_}
 use native.Mathlib.Omega.{arith}
-use mathlib.Core.Path.{_≡_, refl, ap, sym, _∙_}
+use mathlib.Core.Path.{_≡_, refl, ap, sym, subst, _∙_}
 use mathlib.Core.Logic.{inl, inr}
-use mathlib.Core.Bool.{Bool, true, false}
+use mathlib.Core.Bool.{Bool, true, false, cond}
 use mathlib.Core.Option.{Option, none, some}
 use borrow.Author.Tests.{lt-leb, le-ltb}
-use Rattle.agreement.specs.Types.{Seat, Account, Transfer, Empty, Entry, Ledger, Message, Request, Circulated, Ack, Decision, Inquiry, Reply, Acknowledge}
-use Rattle.agreement.specs.Runs.{rulesAt, ledgerAt, acksWith, freeSlip, StandsFor, MayReply, Obeys, acked}
-use Rattle.agreement.specs.Switching.{isAckOrRuling, SameSaveTies, TakenAlike, MarksStand}
-use Rattle.agreement.proofs.Places.{before, obeys-before, obeys-at}
+use Rattle.agreement.specs.Types.{Seat, Account, Transfer, Empty, Entry, Ledger, Message, Circulated, Ack, Decision, Inquiry, Reply, Acknowledge, Refuse}
+use Rattle.agreement.specs.Runs.{Call, message, waitingList, switch, _▹_, at-end, sooner, sameSeat, rulesAfter, rulesAt, ledgerAt, freeSlip, acksWith, StandsFor, MayReply, Obeys}
+use Rattle.agreement.specs.Switching.{SameSaveTies, Alike, TakenAlike, NoneGoesBack, NewestStays, MarksStand}
+use Rattle.agreement.proofs.Places.{before, seat-is, obeys-before, obeys-at}
 use Rattle.agreement.proofs.Proposals.{free-carried, most-with, happens-in-run}
 use Rattle.agreement.proofs.Deeds.{acked-is}
 use Rattle.agreement.proofs.Soundness.{group, same-range}
 use Rattle.agreement.proofs.StepLaws.{answer-acknowledge}
 use Rattle.agreement.proofs.Reachable.{sound}
-use Rattle.agreement.proofs.Acked.{acked-so-far}
+use Rattle.agreement.proofs.Acked.{lastNumber, acked-so-far}
 use Rattle.model.specs.declared.Refusal.the-variants.{AlreadyAcked, SelfPayment}
 use Rattle.model.specs.Types.{Outcome}
 use Rattle.model.specs.Basics.{bit}
 use Rattle.model.specs.Records.{entryOf}
 use Rattle.model.specs.Refusals.{outOfRange, paysItself}
-use Rattle.model.specs.Calls.{stepBy, step}
-use Rattle.model.specs.Switches.{Rules, newest, stepUnder}
-use Rattle.model.proofs.Sums.{impossible}
+use Rattle.model.specs.Calls.{rulesIn, stepBy}
+use Rattle.model.specs.Switches.{Rules, firstRules, sinceRequest3, newest, rank, nextRules, switched, rulesThere, stepUnder}
 use Rattle.model.proofs.Proposals.{most-acked-most}
-use Rattle.model.proofs.Refusing.{refusal, refuses, newest-step}
-use Rattle.model.proofs.Switching.{ack-rules, ruling-rules}
-
--- an ack or ruling does the same under every set of rules
-same-step : (v w : Rules) (l : Ledger) (m : Message) → isAckOrRuling m ≡ true → stepUnder v l m ≡ stepUnder w l m
-unfolding stepUnder
-same-step v w l (Request t) is = impossible (cc)
-same-step v w l (Circulated t) is = impossible (cc)
-same-step v w l (Ack s t) is = ap (λ rules. stepBy rules l (Ack s t)) (ack-rules v l s t ∙ sym (ack-rules w l s t))
-same-step v w l (Decision t) is = ap (λ rules. stepBy rules l (Decision t)) (ruling-rules v l t ∙ sym (ruling-rules w l t))
-same-step v w l (Inquiry a) is = impossible (cc)
+use Rattle.model.proofs.Refusing.{refuses}
+use Rattle.model.proofs.Switching.{switched-same, ack-rules, ruling-rules}
 
 module _ (l : Ledger) (m : Message) where
   -- what may be replied under rules v is what is due, or both are P and have the most acks
@@ -56,14 +46,53 @@ module _ (l : Ledger) (m : Message) where
   join-ties q r due (inr (t, u, is, there, most, too)) (inl b) = inr (t, u, is, b ∙ there, most, too)
   join-ties q r due (inr (t, u, is, there, most, too)) (inr (x, y, also, that, has, as-well)) = inr (t, x, is, also, most, has)
 
-pub taken-alike : TakenAlike
-taken-alike v w l m q r kind first second =
-    let same = same-step v w l m kind in
-    let theirs : SameSaveTies (acksWith l m) r (stepUnder v l m .reply) = rw same (due-save-ties l m w r second) in
-    (join-ties l m q r (stepUnder v l m .reply) (due-save-ties l m v q first) theirs, ap (λ (x : Outcome). x .next) same)
+-- a message that meets the same under the first rules does the same
+alike : (l : Ledger) (m : Message) → rulesThere firstRules l m ≡ rulesIn l m → Alike l m
+unfolding stepUnder
+alike l m meets q r first second =
+    let same : stepUnder firstRules l m ≡ stepUnder sinceRequest3 l m = ap (λ rules. stepBy rules l m) meets in
+    let theirs = subst (λ (due : Outcome). SameSaveTies (acksWith l m) r (due .reply)) (sym same) (due-save-ties l m sinceRequest3 r second) in
+    (join-ties l m q r (stepUnder firstRules l m .reply) (due-save-ties l m firstRules q first) theirs, ap (λ (x : Outcome). x .next) same)
+
+pub taken-alike : (l : Ledger) → TakenAlike l
+taken-alike l =
+    record {
+      acks = λ s t. alike l (Ack s t) (ack-rules firstRules l s t);
+      rulings = λ t. alike l (Decision t) (ruling-rules firstRules l t);
+      questions = λ a. alike l (Inquiry a) refl;
+    }
+
+-- a call leads to no earlier rules
+never-earlier : (v : Rules) (c : Call) → rank v ≤ rank (rulesAfter v c)
+never-earlier v (message m r) = omega arith
+never-earlier v (waitingList b r a) = omega arith
+never-earlier firstRules switch = omega arith
+never-earlier sinceRequest3 switch = omega arith
+
+pub none-goes-back : NoneGoesBack
+unfolding rulesAt
+none-goes-back s p run at-end = omega arith
+none-goes-back s p (run ▹ e) (sooner w) = go (sameSeat (e .at) s) (none-goes-back s p run w)
+  where
+    go : (b : Bool) → rank (rulesAt s p) ≤ rank (rulesAt s run)
+        → rank (rulesAt s p) ≤ rank (cond b (rulesAfter (rulesAt s run) (e .call)) (rulesAt s run))
+    go true yet = omega (arith, yet, never-earlier (rulesAt s run) (e .call))
+    go false yet = yet
+
+pub newest-stays : NewestStays
+unfolding rulesAt ledgerAt
+newest-stays o s z run is = go (sameSeat s z) refl
+  where
+    go : (b : Bool) → sameSeat s z ≡ b
+        → (cond b (nextRules (rulesAt z run)) (rulesAt z run) ≡ rulesAt z run)
+        × (cond b (switched (rulesAt z run) (ledgerAt o z run)) (ledgerAt o z run) ≡ ledgerAt o z run)
+    go true here =
+        let there : rulesAt z run ≡ newest = rw (seat-is s z here) at is in
+        (rw there refl, switched-same (rulesAt z run) (ledgerAt o z run))
+    go false other = (refl, refl)
 
 -- a mark, from a number that the seat has booked or acked
-mark-set : (e : Entry) (t : Transfer) → t .number < e .current + bit (e .acked) + 1 → e .current < t .number → (e .acked ≡ true) × (t .number ≡ e .current + 1)
+mark-set : (e : Entry) (t : Transfer) → t .number ≤ lastNumber e → e .current < t .number → (e .acked ≡ true) × (t .number ≡ e .current + 1)
 mark-set e t upto unbooked = go (e .acked) refl
   where
     go : (b : Bool) → e .acked ≡ b → (e .acked ≡ true) × (t .number ≡ e .current + 1)
@@ -71,20 +100,18 @@ mark-set e t upto unbooked = go (e .acked) refl
     go false is = absurd (omega (arith, ap bit is))
 
 module _ (l : Ledger) (t : Transfer) where
-  -- what a circulated slip meets today: 20
-  meets-20 : outOfRange l t ≡ false → paysItself t ≡ true → step l (Circulated t) .reply ≡ refusal SelfPayment l .reply
-  meets-20 range itself =
-      ap (λ (x : Outcome). x .reply) (sym (newest-step l (Circulated t)) ∙ refuses newest l (Circulated t) SelfPayment (rw (range, itself)))
+  -- what a circulated slip meets: 20
+  meets-20 : outOfRange l t ≡ false → paysItself t ≡ true → stepUnder sinceRequest3 l (Circulated t) .reply ≡ Refuse SelfPayment
+  meets-20 range itself = ap (λ (x : Outcome). x .reply) (refuses sinceRequest3 l (Circulated t) SelfPayment (rw (range, itself)))
 
   -- .. and 12
   meets-12 : outOfRange l t ≡ false → paysItself t ≡ false → t .number ≡ entryOf l (t .account) .current + 1
       → entryOf l (t .account) .pending ≡ Empty → entryOf l (t .account) .acked ≡ true
-      → step l (Circulated t) .reply ≡ refusal AlreadyAcked l .reply
+      → stepUnder sinceRequest3 l (Circulated t) .reply ≡ Refuse AlreadyAcked
   meets-12 range other next none-waits mark =
       let e = entryOf l (t .account) in
       ap (λ (x : Outcome). x .reply)
-      (sym (newest-step l (Circulated t))
-      ∙ refuses newest l (Circulated t) AlreadyAcked
+      (refuses sinceRequest3 l (Circulated t) AlreadyAcked
       (rw (range, other, lt-leb (t .number) (e .current) (omega arith), le-ltb (e .current + 1) (t .number) (omega arith), none-waits, mark)))
 
 pub marks-stand : MarksStand
@@ -107,11 +134,8 @@ marks-stand o run p q e t opens obeys w v is unbooked =
     here : Obeys o q
     here = obeys-before o obeys v
 
-    upto : t .number < entryOf l (t .account) .current + bit (entryOf l (t .account) .acked) + 1
-    upto = omega (arith, acked-so-far o opens s q here p e w refl t is)
-
     mark : (entryOf l (t .account) .acked ≡ true) × (t .number ≡ entryOf l (t .account) .current + 1)
-    mark = mark-set (entryOf l (t .account)) t upto unbooked
+    mark = mark-set (entryOf l (t .account)) t (acked-so-far o opens s q here p e w refl t is) unbooked
 
     -- it was in range when it was acked, and the range stays
     in-range : outOfRange l t ≡ false

@@ -116,7 +116,7 @@ acksWith l (Ack s t) = withAck (entryOf l (t .account)) s t .acks
 acksWith l (Decision t) = entryOf l (t .account) .acks
 acksWith l (Inquiry a) = entryOf l a .acks
 
--- the slip of a P that is left free under these rules: under the first, any; since request 2 of document 02, none
+-- the slip of a P that is left free: under the first rules, under which a seat that has taken request 2 alone is too, any; under those since request 3, none
 abbrev pub freeSlip : Rules → Reply → Option Transfer
 freeSlip firstRules r = proposal r
 freeSlip sinceRequest3 r = none

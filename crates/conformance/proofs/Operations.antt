@@ -12,9 +12,8 @@ use Rattle.agreement.proofs.Demand3.{demand3}
 use Rattle.agreement.proofs.Always.{always}
 use Rattle.model.proofs.Sums.{impossible}
 use Rattle.model.specs.Types.{Outcome}
-use Rattle.model.specs.Switches.{Rules}
+use Rattle.model.specs.Switches.{Rules, switched}
 use Rattle.model.proofs.Refusing.{refusal-keeps, newest-step}
-use Rattle.model.proofs.Switching.{switched-same}
 use Rattle.model.proofs.Opened.{opened-fresh}
 use Rattle.layout.specs.Layout.{bookWords, ledgerIn}
 use Rattle.ledger.proofs.Promising.{opened, listed}
@@ -36,7 +35,7 @@ contract-serves words m r next done =
 pub operated-conforms : OperatedConforms
 operated-conforms v words (message m r) next done = (done .replied, done .ledger)
 operated-conforms v words (waitingList before r after) next done = (done .0 .meets, ap ledgerIn (done .1))
-operated-conforms v words switch next done = (tt, ap ledgerIn done ∙ sym (switched-same v (ledgerIn words)))
+operated-conforms v words switch next done = (tt, done)
 
 -- what a seat holds after a call, if what all held before it were the run's ledgers
 held-after : (o : Opening) (run : Run) (e : Event) (before held : Seat → List ℕ)
@@ -76,7 +75,7 @@ conforms-operated v l (message m r) before after ok =
       ledger = rw before after;
       kept = λ code is. ap wordsOf (refusal-keeps v l m code (refused-due v l m code (rw is at ok)));
     }
-conforms-operated v l switch before after ok = ap wordsOf (switched-same v l)
+conforms-operated v l switch before after ok = after ∙ ap (switched v) (sym before)
 conforms-operated v l (waitingList buffer r left) before after ok = (rw before (listed l buffer r left ok), refl)
 
 pub obeys-works : ObeysWorks

@@ -10,7 +10,7 @@ use Rattle.agreement.specs.Runs.{Opens, FewBad, Call, message, waitingList, swi
 use Rattle.agreement.specs.Premises.{Premises}
 use Rattle.agreement.specs.Claims.{Claim}
 use Rattle.agreement.specs.Facts.{Facts}
-use Rattle.model.specs.Switches.{Rules, newest, stepUnder}
+use Rattle.model.specs.Switches.{Rules, newest, switched, stepUnder}
 use Rattle.layout.specs.Layout.{bookWords, ledgerIn}
 use Rattle.ledger.specs.Promises.{Answered, OpenedAs, ListedAs}
 
@@ -26,11 +26,11 @@ abbrev pub ContractServes : Type 0
 ContractServes = (words : List ℕ) (m : Message) (r : Reply) (next : List ℕ) → Answered words m r next → Served newest words m r next
 
 -- A call as an operation makes it: the words that it is lent, with what it was asked and replied, and the words after it. The waiting list is lent the words
--- to read: they stay. A seat that switches "goes on with the book it holds": not one of the words changes.
+-- to read: they stay. A seat that switches "goes on with the book it holds": with words of what its ledger becomes.
 abbrev pub Operated : Rules → List ℕ → Call → List ℕ → Type 0
 Operated v words (message m r) next = Served v words m r next
 Operated v words (waitingList before r after) next = ListedAs (ledgerIn words) before r after × (next ≡ words)
-Operated v words switch next = next ≡ words
+Operated v words switch next = ledgerIn next ≡ switched v (ledgerIn words)
 
 -- It conforms in a run, and the ledger after it is the run's.
 abbrev pub OperatedConforms : Type 0

@@ -15,7 +15,7 @@ use Rattle.model.specs.Refusals.{Rule, firstRefusal, pastNumber, futureN
 use Rattle.model.specs.Openings.{openRules, openReplyBy, openReply, openLedgerBy, openLedger}
 use Rattle.model.specs.Acks.{acksFor, acksRecorded, enough, mustPropose, mostAcked}
 use Rattle.model.specs.Calls.{payerOf, Effect, replies, waits, tallied, effect, unlessRefused, finished, rulesIn, step, Lists, ListsUnlessRefused}
-use Rattle.model.specs.Switches.{Rules, newest, rulesUnder, stepUnder}
+use Rattle.model.specs.Switches.{Rules, newest, rulesThere, stepUnder}
 use Rattle.model.proofs.Sums.{impossible}
 use Rattle.model.proofs.Access.{with-entry-read}
 
@@ -86,10 +86,6 @@ effectIn l m = finished l (payerOf m) (effect l (entryOf l (payerOf m)) m)
 
 abbrev pub refusal : Refusal → Ledger → Outcome
 refusal r l = record { reply = Refuse r; next = l }
-
--- the rules that a message meets in a ledger under rules v
-abbrev pub rulesThere : Rules → Ledger → Message → List Rule
-rulesThere v l m = rulesUnder v (rulesIn l m)
 
 -- a reply R names the first rule that holds
 pub refused-by : (v : Rules) (l : Ledger) (m : Message) (r : Refusal) → stepUnder v l m .reply ≡ Refuse r → firstRefusal (rulesThere v l m) ≡ some r

@@ -15,11 +15,11 @@ use Rattle.model.specs.Refusals.{Rule, firstRefusal, waitsAlready, ackFr
 use Rattle.model.specs.Acks.{holds, conflicts, acksFor, acksRecorded, enough, mustPropose, hasMost, mostAcked}
 use Rattle.model.specs.Settling.{Settled, settle}
 use Rattle.model.specs.Calls.{tallied, finished, rulesIn}
-use Rattle.model.specs.Switches.{Rules, firstRules, sinceRequest3, withoutCode, stepUnder}
+use Rattle.model.specs.Switches.{Rules, firstRules, sinceRequest3, withoutCode, rulesThere, stepUnder}
 use Rattle.model.proofs.Sums.{impossible, neither}
 use Rattle.model.proofs.Proposals.{most-acked-most}
 use Rattle.model.proofs.Access.{SameGroup, with-entries, with-entry-read}
-use Rattle.model.proofs.Refusing.{AllFail, none-holds, next-number, rulesThere, effectIn, by-tally, refuses, not-refused}
+use Rattle.model.proofs.Refusing.{AllFail, none-holds, next-number, effectIn, by-tally, refuses, not-refused}
 
 -- what a slip is that 5 to 8 do not refuse
 pub record Eligible (l : Ledger) (t : Transfer) : Type 0 where

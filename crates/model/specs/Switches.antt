@@ -1,5 +1,6 @@
 -- Document 02, request 3 and later: seats "switch on different days". The sets of rules in the order of time; what a held ledger becomes at a switch; and
--- the step under earlier rules, told by how it differs from today's. A request that changes the rules adds a set, and says here what those before it lack.
+-- the step under earlier rules, told by how it differs from today's. A request that changes the rules adds a set, and says here what those before it lack;
+-- which reply was left free by earlier rules is said where runs are (`freeSlip`, in Runs.antt of agreement).
 use Prim.Native.Nat.{ℕ}
 use mathlib.Core.Bool.{cond}
 use mathlib.Core.List.{List, [], _∷_}
@@ -13,11 +14,16 @@ use Rattle.model.specs.Calls.{rulesIn, stepBy}
 pub data Rules : Type 0 where
   -- document 01 as it was
   firstRules : Rules
-  -- since request 3 of document 02
+  -- since request 3 of document 02, and so with request 2
   sinceRequest3 : Rules
 
 abbrev pub newest : Rules
 newest = sinceRequest3
+
+-- how many sets came before
+abbrev pub rank : Rules → ℕ
+rank firstRules = 0
+rank sinceRequest3 = 1
 
 -- the rules to which a seat switches: the next in time. Under the newest, a switch changes nothing
 abbrev pub nextRules : Rules → Rules
@@ -42,5 +48,8 @@ rulesUnder firstRules rules = withoutCode 20 rules
 rulesUnder sinceRequest3 rules = rules
 
 -- The outcome of a message under a set of rules.
+abbrev pub rulesThere : Rules → Ledger → Message → List Rule
+rulesThere v l m = rulesUnder v (rulesIn l m)
+
 unfoldable pub stepUnder : Rules → Ledger → Message → Outcome
-stepUnder v l m = stepBy (rulesUnder v (rulesIn l m)) l m
+stepUnder v l m = stepBy (rulesThere v l m) l m

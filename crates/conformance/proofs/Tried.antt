@@ -1,4 +1,4 @@
--- The links, tried. The run that demand 3 is tried on is made by a group at work. Document 01's whole output is the text of a run, which
+-- The links, tried. The runs that demand 3 is tried on are made by groups at work. Document 01's whole output is the text of a run, which
 -- is written out here, and of every run of that bundle.
 use Prim.Native.Nat.{ℕ}
 use mathlib.Core.Path.{_≡_, refl, sym, _∙_}
@@ -19,6 +19,7 @@ use Rattle.agreement.specs.Runs.{_▹_, rulesAt, ledgerAt, Obeys}
 use Rattle.agreement.specs.Slates.{leaveAtMost, leaveAll, slateAt}
 use Rattle.agreement.specs.Facts.{countOf}
 use Rattle.agreement.proofs.Examples.{page, t, today, asked, acks, ack, _then_, witness, witness-obeys, witness-keeps}
+use Rattle.agreement.proofs.SwitchesTried.{across, across-keeps}
 use Rattle.agreement.proofs.FactsTried.{_is_}
 use Rattle.text.specs.Lines.{decimal}
 use Rattle.replay.specs.Text.{Row, rowLines, openingPage, opened}
@@ -29,9 +30,12 @@ use Rattle.conformance.proofs.Operations.{obeys-works}
 use Rattle.conformance.proofs.ClosingRows.{accounted}
 use Rattle.conformance.proofs.Texts.{every-text, every-run}
 
--- a group at work makes the run that demand 3 is tried on
+-- groups at work make the runs that demand 3 is tried on: under today's rules, and across a switch
 pub witness-works : (held : Seat → List ℕ) × Works page held witness
 witness-works = obeys-works page witness (witness-keeps .0) witness-obeys
+
+pub across-works : (held : Seat → List ℕ) × Works page held across
+across-works = obeys-works page across (across-keeps .0) (across-keeps .3)
 
 -- "slip (0, 1, 4, 1), acks of it from seats 0 to 4, question 1", with the replies of the nine lines
 infixl 70 _gets_

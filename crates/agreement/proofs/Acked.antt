@@ -8,18 +8,18 @@ use mathlib.Core.Option.{some}
 use Rattle.agreement.specs.Types.{Seat, Account, Transfer, Full, Entry, Ledger, Opening, Message, Circulated, Ack, Reply, Acknowledge}
 use Rattle.agreement.specs.Runs.{Opens, honest, Call, message, waitingList, switch, Event, Run, _▹_, Within, at-end, sooner, throughout, sameSeat, rulesAt, ledgerAt, Obeys, acked, passes}
 use Rattle.agreement.specs.Premises.{implies, ackedBy, genuine}
-use Rattle.agreement.proofs.Places.{before, Order, same-event, earlier, later, order, happened-later, throughout-at, obeys-before, obeys-at}
-use Rattle.agreement.proofs.Proposals.{happens-in-run}
+use Rattle.agreement.proofs.Places.{before, Order, same-event, earlier, later, order, happened-later, throughout-at, obeys-before}
 use Rattle.agreement.proofs.Deeds.{acked-is, deed-found}
 use Rattle.model.proofs.Opened.{Group}
-use Rattle.agreement.proofs.Soundness.{opened-entry, group, Sound, no-acks, recorded-read}
-use Rattle.agreement.proofs.Reachable.{sound, run-induction, past-calls}
+use Rattle.agreement.proofs.Soundness.{opened-entry, group, Sound, no-acks, recorded-read, same-range}
+use Rattle.agreement.proofs.Reachable.{sound, run-induction, past-calls, happened-at}
 use Rattle.agreement.proofs.Quorums.{bit-most}
-use Rattle.agreement.proofs.StepLaws.{Puts, puts-mark, puts-ack, puts-accepted, puts-ruled, each-entry, answer-acknowledge, Recording}
+use Rattle.agreement.proofs.StepLaws.{Puts, puts-mark, puts-ack, puts-accepted, puts-ruled, each-entry, answer-acknowledge, Recording, Marks}
 use Rattle.model.specs.Basics.{bit}
 use Rattle.model.specs.Records.{entryOf}
 use Rattle.model.specs.Transfers.{equal}
-use Rattle.model.specs.Refusals.{ackFrom}
+use Rattle.model.specs.Refusals.{ackFrom, outOfRange}
+use Rattle.model.specs.Switches.{stepUnder}
 use Rattle.model.proofs.Sums.{impossible, both}
 use Rattle.model.proofs.Steps.{Eligible, Recordable, entryWithAck, Happens}
 
@@ -73,14 +73,27 @@ pub acked-by-later : (s : Seat) (t : Transfer) {p r : Run} → Within p r → ac
 acked-by-later s t w h = happened-later (λ e. sameSeat (e .at) s && passes (equal t) (acked (e .call))) w h
 
 module _ (o : Opening) (opens : Opens o) (run : Run) (obeys : Obeys o run) where
+  -- what the ledger was at the call that acked a slip
+  acked-marks : (p : Run) (e : Event) (t : Transfer) → Within (p ▹ e) run → acked (e .call) ≡ some t
+      → Marks (ledgerAt o (e .at) p) (stepUnder (rulesAt (e .at) p) (ledgerAt o (e .at) p) (Circulated t) .next) t
+  acked-marks p e t w is =
+      answer-acknowledge o (ledgerAt o (e .at) p) _ (Circulated t) Acknowledge t (group o opens)
+      (sound o opens (e .at) p (obeys-before o obeys (before w))) refl refl
+      (happened-at o (Circulated t) Acknowledge obeys w (acked-is (e .call) t is))
+
+  -- the slip was in range, and is so in every sound ledger; and it has a number
+  pub acked-in-range : (p : Run) (e : Event) (t : Transfer) → Within (p ▹ e) run → acked (e .call) ≡ some t
+      → (1 ≤ t .number) × ((l : Ledger) → Sound o l → outOfRange l t ≡ false)
+  acked-in-range p e t w is =
+      let fit = acked-marks p e t w is .eligible in
+      let ok = sound o opens (e .at) p (obeys-before o obeys (before w)) in
+      (omega (arith, fit .is-next), λ l too. same-range o l (ledgerAt o (e .at) p) t too ok ∙ fit .in-range)
+
   -- the number of a slip that is acked is above the last one
   not-yet : (p : Run) (e : Event) (t : Transfer) → Within (p ▹ e) run → acked (e .call) ≡ some t
       → lastNumber (entryOf (ledgerAt o (e .at) p) (t .account)) < t .number
   not-yet p e t w is =
-      let l = ledgerAt o (e .at) p in
-      let ok = sound o opens (e .at) p (obeys-before o obeys (before w)) in
-      let answer = happens-in-run (rulesAt (e .at) p) l (Circulated t) Acknowledge (rw (acked-is (e .call) t is) at (obeys-at o obeys w)) in
-      let marks = answer-acknowledge o l _ (Circulated t) Acknowledge t (group o opens) ok refl refl answer in
+      let marks = acked-marks p e t w is in
       omega (arith, marks .eligible .is-next, ap bit (marks .was-clear))
 
   -- an earlier ack of the same number at the same seat cannot be

@@ -6,12 +6,11 @@ use mathlib.Core.List.{List, [], _∷_, _++_}
 use mathlib.Core.Option.{Option, none, some}
 use borrow.Author.Tests.{eq-eqb, eqb-true}
 use Rattle.agreement.specs.Types.{Seat, Account, Transfer, Opening, Ack, Accept, Propose}
-use Rattle.agreement.specs.Runs.{Opens, FewBad, message, Event, Run, start, _▹_, Within, at-end, sooner, rulesAt, ledgerAt, Obeys, accepted, proposed, ruled, passes}
+use Rattle.agreement.specs.Runs.{Opens, FewBad, message, Event, Run, start, _▹_, Within, at-end, sooner, ledgerAt, Obeys, accepted, proposed, ruled, passes}
 use Rattle.agreement.specs.Premises.{ruledOn, ruledOtherwise, likewise, proposals, founded, rightful, Premises}
-use Rattle.agreement.proofs.Places.{before, within-trans, Order, same-event, earlier, later, order, happened-holds, throughout-at, obeys-before, obeys-at}
-use Rattle.agreement.proofs.Proposals.{happens-in-run}
+use Rattle.agreement.proofs.Places.{before, within-trans, Order, same-event, earlier, later, order, happened-holds, throughout-at, obeys-before}
 use Rattle.agreement.proofs.Deeds.{Accepts, by-ack, by-ruling, accepted-is, proposed-is, passes-is}
-use Rattle.agreement.proofs.Reachable.{sound}
+use Rattle.agreement.proofs.Reachable.{sound, happened-at}
 use Rattle.agreement.proofs.StepLaws.{answer-accept, answer-propose}
 use Rattle.agreement.proofs.Acked.{call-from}
 use Rattle.agreement.proofs.Votes.{Quorum, Majority, quorums-agree, quorum-proposed, accept-quorum, propose-majority}
@@ -103,8 +102,7 @@ module _ (o : Opening) (bad : Seat → Bool) (run : Run) (opens : Opens o) (few 
   acks-quorum p e s t k w is =
       let l = ledgerAt o (e .at) p in
       let ok = sound o opens (e .at) p (obeys-before o obeys (before w)) in
-      let answer = happens-in-run (rulesAt (e .at) p) l (Ack s t) (Accept k) (rw is at (obeys-at o obeys w)) in
-      let found = answer-accept l _ (Ack s t) (Accept k) s t k refl refl answer in
+      let found = answer-accept l _ (Ack s t) (Accept k) s t k refl refl (happened-at o (Ack s t) (Accept k) obeys w is) in
       let from = call-from o bad opens run (kept .acks-genuine) obeys p e (Ack s t) (Accept k) s t w is refl (found .0) in
       accept-quorum o bad run opens l ok s t (found .0) from (found .1)
 
@@ -114,8 +112,7 @@ module _ (o : Opening) (bad : Seat → Bool) (run : Run) (opens : Opens o) (few 
       let l = ledgerAt o (d .at) q in
       let ok = sound o opens (d .at) q (obeys-before o obeys (before w)) in
       let call = proposed-is (d .call) u is in
-      let answer = happens-in-run (rulesAt (d .at) q) l (call .0) (Propose u) (rw (call .1) at (obeys-at o obeys w)) in
-      let found = answer-propose l _ (call .0) (Propose u) u refl answer in
+      let found = answer-propose l _ (call .0) (Propose u) u refl (happened-at o (call .0) (Propose u) obeys w (call .1)) in
       let from =
       call-from o bad opens run (kept .acks-genuine) obeys q d (call .0) (Propose u) (found .sender) (found .slip) w (call .1) (found .is-ack)
       (found .records) in

@@ -8,13 +8,13 @@ use mathlib.Core.Option.{some}
 use lib.ListN.{length}
 use borrow.Author.Tests.{leb-false}
 use Rattle.agreement.specs.Types.{Seat, Account, Transfer, Slot, Empty, Full, Ledger, Opening, Message, Request, Circulated, Ack, Decision, Inquiry, Reply, Circulate, Acknowledge, Accept, Propose, Note, Balance, Refuse}
-use Rattle.agreement.specs.Runs.{Opens, Call, message, waitingList, switch, Event, Run, _▹_, Within, sameSeat, rulesAt, ledgerAt, Conforms, Obeys, isAccept, accepted, proposed, ruled, passes}
+use Rattle.agreement.specs.Runs.{Opens, Call, message, waitingList, switch, Event, Run, _▹_, Within, sameSeat, rulesAt, ledgerAt, Conforms, Obeys, isAccept, accepted, proposed, ruled, passes, at-end}
 use Rattle.agreement.specs.Facts.{answeredK, countOf, mustAccept, acceptedBy, taken, ruledFor, Always}
 use Rattle.agreement.proofs.Places.{before, happened-found, happened-holds, obeys-before, obeys-at, ledger-after}
 use Rattle.agreement.proofs.Proposals.{happens-in-run}
 use Rattle.agreement.proofs.Deeds.{proposed-is, that-slip, deed-found}
 use Rattle.agreement.proofs.Soundness.{opened-entry, next-waits, group, Sound}
-use Rattle.agreement.proofs.Reachable.{sound, stays, everywhere, past-calls}
+use Rattle.agreement.proofs.Reachable.{sound, stays, everywhere, past-calls, happened-at}
 use Rattle.agreement.proofs.Accounts.{behind, accounts-sum}
 use Rattle.agreement.proofs.StepLaws.{step-sound, answer-propose, proposes-for, answer-exactly, BookedOrWaits, none-eligible, current-rises, stays-settled, just-settled, Turn, keeps, accepts, turn}
 use Rattle.agreement.proofs.Slated.{slated}
@@ -107,8 +107,7 @@ module _ (o : Opening) (opens : Opens o) (s : Seat) where
       let l = ledgerAt o s q in
       let ok = sound o opens s q (obeys .0) in
       let call = proposed-is (d .call) u puts in
-      let answer = happens-in-run (rulesAt s q) l (call .0) (Propose u) (rw (here, call .1) at (obeys .1)) in
-      let found = answer-propose l _ (call .0) (Propose u) u refl answer in
+      let found = answer-propose l _ (call .0) (Propose u) u refl (rw here at (happened-at o (call .0) (Propose u) obeys at-end (call .1))) in
       let same = proposes-for o l (call .0) u (group o opens) ok found in
       none-eligible o l t (found .slip) (group o opens) ok (all-settled q (obeys .0) p e w there t is)
       (account ∙ same .0) (number ∙ same .1) (found .records .eligible)
@@ -179,7 +178,7 @@ run-count : (o : Opening) (run p : Run) (e : Event) (m : Message) (r : Reply) �
 run-count o run p e m r opens obeys w is =
     let l = ledgerAt o (e .at) p in
     let ok = sound o opens (e .at) p (obeys-before o obeys (before w)) in
-    let h = happens-in-run (rulesAt (e .at) p) l m r (rw is at (obeys-at o obeys w)) in
+    let h = happened-at o m r obeys w is in
     rw (ledger-after o (e .at) p e m r refl is)
     (turn-count o l _ m r ok (step-sound o l _ m r (group o opens) ok h) (turn o l _ m r (group o opens) ok h))
 

@@ -4,9 +4,10 @@ use mathlib.Core.Path.{_≡_, refl, ap, sym}
 use mathlib.Core.Bool.{Bool, true, false, cond, not, _&&_}
 use mathlib.Core.Option.{Option, none, some}
 use Rattle.agreement.specs.Types.{Seat, Transfer, Message, Request, Circulated, Ack, Decision, Inquiry, Reply, Circulate, Acknowledge, Accept, Propose, Note, Balance, Refuse}
-use Rattle.agreement.specs.Runs.{Call, message, waitingList, switch, Event, Run, _▹_, Within, happened, sameSeat, isAcknowledge, isAccept, acked, accepted, proposal, proposed, passes}
+use Rattle.agreement.specs.Runs.{Call, message, waitingList, switch, Event, Run, _▹_, Within, happened, sameSeat, isAcknowledge, isAccept, acked, accepted, proposed, passes}
 use Rattle.agreement.specs.Undisputed.{tooEarly, brings}
 use Rattle.agreement.proofs.Places.{happened-found, seat-is}
+use Rattle.agreement.proofs.Proposals.{carried}
 use Rattle.model.specs.Transfers.{equal}
 use Rattle.model.proofs.Sums.{impossible, both}
 use Rattle.model.proofs.Equality.{equal-sound}
@@ -67,17 +68,8 @@ accepted-is (waitingList before r after) t e = impossible (cc)
 accepted-is switch t e = impossible (cc)
 
 -- it put u forward
-proposal-is : (r : Reply) (u : Transfer) → proposal r ≡ some u → r ≡ Propose u
-proposal-is Circulate u e = impossible (cc)
-proposal-is Acknowledge u e = impossible (cc)
-proposal-is (Accept c) u e = impossible (cc)
-proposal-is (Propose t) u e = let same : t ≡ u = cc in ap Propose same
-proposal-is Note u e = impossible (cc)
-proposal-is (Balance b) u e = impossible (cc)
-proposal-is (Refuse q) u e = impossible (cc)
-
 pub proposed-is : (c : Call) (u : Transfer) → proposed c ≡ some u → (m : Message) × (c ≡ message m (Propose u))
-proposed-is (message m r) u e = (m, ap (message m) (proposal-is r u e))
+proposed-is (message m r) u e = (m, ap (message m) (carried r u e))
 proposed-is (waitingList before r after) u e = impossible (cc)
 proposed-is switch u e = impossible (cc)
 

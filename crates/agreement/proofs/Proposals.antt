@@ -13,7 +13,7 @@ use Rattle.model.proofs.Refusing.{newest-step}
 use Rattle.model.proofs.Steps.{Happens, refused, circulated, acknowledged, accepted-by-acks, proposed, noted, accepted-by-ruling, told, happens, carries-most}
 
 -- a reply that carries a slip is P
-carried : (r : Reply) (t : Transfer) → proposal r ≡ some t → r ≡ Propose t
+pub carried : (r : Reply) (t : Transfer) → proposal r ≡ some t → r ≡ Propose t
 carried Circulate t e = impossible (cc)
 carried Acknowledge t e = impossible (cc)
 carried (Accept c) t e = impossible (cc)

@@ -1,14 +1,14 @@
--- Every ledger that an opening and calls can make is sound, with no premises on the run. By this, three ways to show what holds of a seat's
+-- What happened at a message of a run; and every ledger that an opening and calls can make is sound, with no premises on the run. By this, three ways to show what holds of a seat's
 -- ledger in a run, each from what a message does to a sound ledger: at every place (`run-induction`), from a place on (`stays`), and of
 -- every earlier call (`past-calls`).
 use Prim.Native.Nat.{ℕ}
-use mathlib.Core.Path.{_≡_, ap, sym, _∙_}
+use mathlib.Core.Path.{_≡_, ap, sym, subst, _∙_}
 use mathlib.Core.Logic.{_⊎_, inl, inr}
 use mathlib.Core.Bool.{false}
 use mathlib.Core.List.{List}
 use Rattle.agreement.specs.Types.{Seat, Ledger, Opening, Message, Reply, ListReply}
-use Rattle.agreement.specs.Runs.{Opens, Call, message, waitingList, switch, Event, Run, start, _▹_, Within, at-end, sooner, sameSeat, ledgerAt, Obeys}
-use Rattle.agreement.proofs.Places.{the-start, nothing-yet, last-or-sooner, seat-self, one-event, ledger-induction}
+use Rattle.agreement.specs.Runs.{Opens, Call, message, waitingList, switch, Event, Run, start, _▹_, Within, at-end, sooner, sameSeat, rulesAt, ledgerAt, Conforms, Obeys}
+use Rattle.agreement.proofs.Places.{the-start, nothing-yet, last-or-sooner, seat-self, obeys-at, one-event, ledger-induction}
 use Rattle.agreement.proofs.Proposals.{happens-in-run}
 use Rattle.agreement.proofs.Soundness.{group, Sound, opened-sound}
 use Rattle.agreement.proofs.StepLaws.{step-sound}
@@ -16,6 +16,13 @@ use Rattle.model.specs.Records.{freshLedger}
 use Rattle.model.specs.Switches.{Rules, stepUnder}
 use Rattle.model.proofs.Sums.{impossible}
 use Rattle.model.proofs.Steps.{Happens}
+
+-- what happened at a message of a run, by the rules that its seat had there
+pub happened-at : (o : Opening) {p r : Run} {e : Event} (m : Message) (q : Reply) → Obeys o r → Within (p ▹ e) r → e .call ≡ message m q
+    → Happens (ledgerAt o (e .at) p) m q (stepUnder (rulesAt (e .at) p) (ledgerAt o (e .at) p) m .next)
+happened-at o {p} {e = e} m q obeys w is =
+    happens-in-run (rulesAt (e .at) p) (ledgerAt o (e .at) p) m q
+    (subst (Conforms (rulesAt (e .at) p) (ledgerAt o (e .at) p)) is (obeys-at o obeys w))
 
 -- at every place of a run that obeys
 pub sound : (o : Opening) → Opens o → (s : Seat) (r : Run) → Obeys o r → Sound o (ledgerAt o s r)

@@ -2,13 +2,12 @@
 use Prim.Native.Nat.{ℕ}
 use mathlib.Core.Path.{_≡_, refl, ap, _∙_}
 use Rattle.agreement.specs.Types.{Seat, Account, Entry, Ledger, Opening, Message, Reply, Balance, Inquiry}
-use Rattle.agreement.specs.Runs.{Opens, message, Event, Run, _▹_, Within, rulesAt, ledgerAt, Obeys, accepted}
+use Rattle.agreement.specs.Runs.{Opens, message, Event, Run, _▹_, Within, ledgerAt, Obeys, accepted}
 use Rattle.agreement.specs.Slates.{Slate, freshSlate, nextSlate, slateAt, join}
-use Rattle.agreement.proofs.Places.{before, obeys-before, obeys-at, seat-self}
-use Rattle.agreement.proofs.Proposals.{happens-in-run}
+use Rattle.agreement.proofs.Places.{before, obeys-before, seat-self}
 use Rattle.model.proofs.Opened.{Group}
 use Rattle.agreement.proofs.Soundness.{next-waits, opened-entry, group, Sound, bounded}
-use Rattle.agreement.proofs.Reachable.{run-induction}
+use Rattle.agreement.proofs.Reachable.{run-induction, happened-at}
 use Rattle.agreement.proofs.StepLaws.{Turn, keeps, accepts, turn, answer-balance}
 use Rattle.agreement.proofs.SlateSettles.{Matches, quiet-matches, join-matches, settle-matches}
 use Rattle.model.specs.Records.{freshLedger, setEntry, withPending, withEntry}
@@ -55,5 +54,4 @@ pub told-slate : (o : Opening) (run p : Run) (e : Event) (a : Account) (b : ℕ)
     → Within (p ▹ e) run → e .call ≡ message (Inquiry a) (Balance b) → b ≡ slateAt o (e .at) p .balance a
 told-slate o run p e a b opens obeys w is =
     let l = ledgerAt o (e .at) p in
-    let answer = happens-in-run (rulesAt (e .at) p) l (Inquiry a) (Balance b) (rw is at (obeys-at o obeys w)) in
-    answer-balance l _ (Inquiry a) (Balance b) a b refl refl answer ∙ slated o opens (e .at) p (obeys-before o obeys (before w)) .balance-is a
+    answer-balance l _ (Inquiry a) (Balance b) a b refl refl (happened-at o (Inquiry a) (Balance b) obeys w is) ∙ slated o opens (e .at) p (obeys-before o obeys (before w)) .balance-is a

@@ -21,7 +21,7 @@ use Rattle.model.specs.Acks.{holds, conflicts, acksFor, acksRecorded, enough, t
 use Rattle.model.specs.Refusals.{outOfRange, waitsAlready, ackFrom}
 use Rattle.model.specs.Settling.{settle}
 use Rattle.model.specs.Calls.{rulesIn}
-use Rattle.model.specs.Switches.{Rules, rulesThere, stepUnder}
+use Rattle.model.specs.Switches.{Rules, rulesMet, stepUnder}
 use Rattle.model.proofs.Sums.{impossible, some-counted, both}
 use Rattle.model.proofs.Equality.{equal-sound, equal-refl}
 use Rattle.model.proofs.Access.{entry-set-same, set-each, with-entry-same}
@@ -476,7 +476,7 @@ pub data AckRefused (l : Ledger) (s : Seat) (t : Transfer) (q : Refusal) : Type 
   conflicting : conflicts t (ackFrom (entryOf l (t .account)) s) ≡ true → AckRefused l s t q
 
 pub ack-refused : (v : Rules) (l : Ledger) (s : Seat) (t : Transfer) (q : Refusal) → stepUnder v l (Ack s t) .reply ≡ Refuse q → AckRefused l s t q
-ack-refused v l s t q h = go (subst (SomeHolds q) (ack-rules v l s t) (some-holds (rulesThere v l (Ack s t)) q (refused-by v l (Ack s t) q h)))
+ack-refused v l s t q h = go (subst (SomeHolds q) (ack-rules v l s t) (some-holds (rulesMet v l (Ack s t)) q (refused-by v l (Ack s t) q h)))
   where
     go : SomeHolds q (rulesIn l (Ack s t)) → AckRefused l s t q
     go (inl is) = unknown-seat (leb-true (l .seats) (s .0) (is .0))

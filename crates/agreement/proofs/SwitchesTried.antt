@@ -2,21 +2,22 @@
 -- running an old bundle again, which is no switch. All is computed.
 use Prim.Native.Nat.{ℕ}
 use mathlib.Core.Path.{_≡_, refl, ap}
+use mathlib.Core.Logic.{inl, inr}
 use mathlib.Core.Bool.{Bool, true, false, cond, _&&_, false≢true}
-use mathlib.Core.List.{[], _∷_}
+use mathlib.Core.List.{List, [], _∷_}
 use lib.Dec.{eqb, lit≤, lit<}
-use Rattle.agreement.specs.Types.{Transfer, Ledger, Circulated, Acknowledge, Accept, Propose, Note, Refuse}
-use Rattle.agreement.specs.Runs.{Opens, FewBad, waitingList, switch, Event, Run, start, _▹_, at-end, sooner, happened, atHonest, rulesAt, ledgerAt, Obeys, ruled, passes}
+use Rattle.agreement.specs.Types.{Transfer, AckSlot, Ledger, Circulated, Acknowledge, Accept, Propose, Note, Refuse}
+use Rattle.agreement.specs.Runs.{Opens, FewBad, waitingList, switch, Event, Run, start, _▹_, at-end, sooner, happened, atHonest, rulesAt, ledgerAt, acksWith, Obeys, ruled, passes}
 use Rattle.agreement.specs.Premises.{Premises}
 use Rattle.agreement.specs.Slates.{leaveAtMost, leaveAll, slateAt}
 use Rattle.agreement.specs.Claims.{Claim}
-use Rattle.agreement.specs.Switching.{MarkStands}
+use Rattle.agreement.specs.Switching.{SameSaveTies, Alike, MarkStands}
 use Rattle.agreement.proofs.Demand3.{demand3}
 use Rattle.agreement.proofs.Switching.{marks-stand}
 use Rattle.agreement.proofs.Examples.{page, t, bad, today, asked, acks, ack, ruling, _then_, putsForward, takes, slate}
 use Rattle.model.specs.declared.Refusal.the-variants.{AlreadyAcked, ShortBuffer, SelfPayment}
 use Rattle.model.specs.declared.ListReply.the-variants.{ListRefused}
-use Rattle.model.specs.Records.{seatOf, accountOf, entryOf, noAcks}
+use Rattle.model.specs.Records.{seatOf, accountOf, freshLedger, entryOf, noAcks}
 use Rattle.model.specs.Transfers.{equal, conflict}
 use Rattle.model.specs.Openings.{openReply}
 use Rattle.model.specs.Acks.{hasMost, mostAcked}
@@ -24,6 +25,7 @@ use Rattle.model.specs.Settling.{lowestAffordable, apply, settleAtMost, settle}
 use Rattle.model.specs.Calls.{step}
 use Rattle.model.specs.Switches.{firstRules, sinceRequest3, newest, stepUnder}
 use Rattle.model.proofs.Rows.{slip}
+use Rattle.model.proofs.Sums.{impossible}
 
 -- a home pays itself; and three slips of its next number that conflict
 abbrev w : Transfer
@@ -178,7 +180,7 @@ pub no-switch :
 unfolding rulesAt ledgerAt noAcks equal conflict lowestAffordable apply settleAtMost settle step stepUnder
 no-switch = (refl, refl, λ same. false≢true (ap mark same), refl, refl)
 
--- what is said of every mark is said of this one: w meets 20 there, and t 12
+-- what is said of every mark is said of this one: w meets 20 there, and t 12. Once its number is booked, a mark is gone
 pub mark-tried : MarkStands page (seatOf 0) heldOn w
 unfolding rulesAt ledgerAt noAcks equal conflict lowestAffordable apply settleAtMost settle stepUnder
 mark-tried = marks-stand page heldOn asItWas heldOn (acks 0 w) w (across-keeps .0) (no-switch-obeys .0) (sooner at-end) at-end refl (lit< tt)
@@ -186,5 +188,15 @@ mark-tried = marks-stand page heldOn asItWas heldOn (acks 0 w) w (across-keeps .
 pub mark-says :
     (stepUnder sinceRequest3 (ledgerAt page (seatOf 0) heldOn) (Circulated w) .reply ≡ Refuse SelfPayment)
     × (stepUnder sinceRequest3 (ledgerAt page (seatOf 0) heldOn) (Circulated t) .reply ≡ Refuse AlreadyAcked)
-unfolding rulesAt ledgerAt noAcks equal conflict lowestAffordable apply settleAtMost settle stepUnder
-mark-says = (mark-tried .same-slip refl, mark-tried .other-slip t refl refl refl refl refl)
+    × (mark (ledgerAt page (seatOf 1) booked) ≡ false)
+unfolding rulesAt ledgerAt noAcks equal conflict hasMost mostAcked lowestAffordable apply settleAtMost settle stepUnder
+mark-says = (mark-tried .same-slip refl, mark-tried .other-slip t refl refl refl refl refl, refl)
+
+-- No more is alike between the sets of rules than is said: the reply to a slip is not. (Nor is the slip of a tied P: `ties-differ` in Ties.antt.)
+pub slips-differ : Alike (freshLedger page) (Circulated w) → ⊥
+unfolding noAcks equal conflict stepUnder
+slips-differ alike = go (acksWith (freshLedger page) (Circulated w)) (alike Acknowledge (Refuse SelfPayment) refl refl .0)
+  where
+    go : (places : List AckSlot) → SameSaveTies places Acknowledge (Refuse SelfPayment) → ⊥
+    go places (inl same) = impossible (cc)
+    go places (inr (a, b, is, that, most, too)) = impossible (cc)

@@ -6,23 +6,20 @@ use mathlib.Core.Logic.{inl, inr}
 use mathlib.Core.Bool.{Bool, true, false, cond}
 use mathlib.Core.Option.{Option, none, some}
 use borrow.Author.Tests.{lt-leb, le-ltb}
-use Rattle.agreement.specs.Types.{Seat, Account, Transfer, Empty, Entry, Ledger, Message, Circulated, Ack, Decision, Inquiry, Reply, Acknowledge, Refuse}
+use Rattle.agreement.specs.Types.{Seat, Account, Transfer, Empty, Entry, Ledger, Message, Circulated, Ack, Decision, Inquiry, Reply, Refuse}
 use Rattle.agreement.specs.Runs.{Call, message, waitingList, switch, _▹_, at-end, sooner, sameSeat, rulesAfter, rulesAt, ledgerAt, freeSlip, acksWith, StandsFor, MayReply, Obeys}
 use Rattle.agreement.specs.Switching.{SameSaveTies, Alike, TakenAlike, NoneGoesBack, NewestStays, MarksStand}
-use Rattle.agreement.proofs.Places.{before, seat-is, obeys-before, obeys-at}
-use Rattle.agreement.proofs.Proposals.{free-carried, most-with, happens-in-run}
-use Rattle.agreement.proofs.Deeds.{acked-is}
-use Rattle.agreement.proofs.Soundness.{group, same-range}
-use Rattle.agreement.proofs.StepLaws.{answer-acknowledge}
+use Rattle.agreement.proofs.Places.{seat-is, obeys-before}
+use Rattle.agreement.proofs.Proposals.{free-carried, most-with}
 use Rattle.agreement.proofs.Reachable.{sound}
-use Rattle.agreement.proofs.Acked.{lastNumber, acked-so-far}
+use Rattle.agreement.proofs.Acked.{lastNumber, acked-so-far, acked-in-range}
 use Rattle.model.specs.declared.Refusal.the-variants.{AlreadyAcked, SelfPayment}
 use Rattle.model.specs.Types.{Outcome}
 use Rattle.model.specs.Basics.{bit}
 use Rattle.model.specs.Records.{entryOf}
 use Rattle.model.specs.Refusals.{outOfRange, paysItself}
 use Rattle.model.specs.Calls.{rulesIn, stepBy}
-use Rattle.model.specs.Switches.{Rules, firstRules, sinceRequest3, newest, rank, nextRules, switched, rulesThere, stepUnder}
+use Rattle.model.specs.Switches.{Rules, firstRules, sinceRequest3, newest, rank, nextRules, switched, rulesMet, stepUnder}
 use Rattle.model.proofs.Proposals.{most-acked-most}
 use Rattle.model.proofs.Refusing.{refuses}
 use Rattle.model.proofs.Switching.{switched-same, ack-rules, ruling-rules}
@@ -47,7 +44,7 @@ module _ (l : Ledger) (m : Message) where
   join-ties q r due (inr (t, u, is, there, most, too)) (inr (x, y, also, that, has, as-well)) = inr (t, x, is, also, most, has)
 
 -- a message that meets the same under the first rules does the same
-alike : (l : Ledger) (m : Message) → rulesThere firstRules l m ≡ rulesIn l m → Alike l m
+alike : (l : Ledger) (m : Message) → rulesMet firstRules l m ≡ rulesIn l m → Alike l m
 unfolding stepUnder
 alike l m meets q r first second =
     let same : stepUnder firstRules l m ≡ stepUnder sinceRequest3 l m = ap (λ rules. stepBy rules l m) meets in
@@ -118,7 +115,7 @@ pub marks-stand : MarksStand
 marks-stand o run p q e t opens obeys w v is unbooked =
     record {
       marked = mark .0;
-      same-slip = λ itself. meets-20 l t in-range itself;
+      same-slip = λ itself. meets-20 l t (acked-in-range o opens q here p e t w is .1 l (sound o opens s q here)) itself;
       other-slip = λ u account number other range none-waits.
           meets-12 l u range other (number ∙ (mark .1 ∙ ap (λ (a : Account). entryOf l a .current + 1) (sym account)))
           (ap (λ (a : Account). entryOf l a .pending) account ∙ none-waits)
@@ -136,12 +133,3 @@ marks-stand o run p q e t opens obeys w v is unbooked =
 
     mark : (entryOf l (t .account) .acked ≡ true) × (t .number ≡ entryOf l (t .account) .current + 1)
     mark = mark-set (entryOf l (t .account)) t (acked-so-far o opens s q here p e w refl t is) unbooked
-
-    -- it was in range when it was acked, and the range stays
-    in-range : outOfRange l t ≡ false
-    in-range =
-        let k = ledgerAt o s p in
-        let then = sound o opens s p (obeys-before o here (before w)) in
-        let answer = happens-in-run (rulesAt s p) k (Circulated t) Acknowledge (rw (acked-is (e .call) t is) at (obeys-at o here w)) in
-        let fit = answer-acknowledge o k _ (Circulated t) Acknowledge t (group o opens) then refl refl answer .eligible in
-        same-range o l k t (sound o opens s q here) then ∙ fit .in-range

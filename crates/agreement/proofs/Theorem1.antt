@@ -9,19 +9,19 @@ use mathlib.Core.Bool.{Bool, true, false, not, _&&_}
 use mathlib.Core.Option.{some}
 use lib.Dec.{ltb}
 use borrow.Author.Tests.{lt-ltb, ltb-true}
-use Rattle.agreement.specs.Types.{Seat, Transfer, Slot, Empty, Full, Entry, Ledger, Opening, Refusal, Message, Circulated, Ack, Reply, Circulate, Acknowledge, Accept, Propose, Note, Balance, Refuse}
+use Rattle.agreement.specs.Types.{Seat, Transfer, Slot, Empty, Full, Entry, Ledger, Opening, Refusal, Message, Ack, Reply, Circulate, Acknowledge, Accept, Propose, Note, Balance, Refuse}
 use Rattle.agreement.specs.Runs.{Opens, countBelow, FewBad, honest, message, Event, Run, _▹_, Within, sameSeat, rulesAt, ledgerAt, MayReply, Obeys, isRefusal, accepted, proposed, ruled}
 use Rattle.agreement.specs.Premises.{Premises}
 use Rattle.agreement.specs.Facts.{acceptedBy}
 use Rattle.agreement.specs.Undisputed.{AllAcked, tooEarly, brings, AllReached, Theorem1}
 use Rattle.agreement.proofs.Places.{before, within-trans, happened-found, obeys-before, obeys-at, seat-is, ledger-after}
 use Rattle.agreement.proofs.Proposals.{happens-in-run, refused-due}
-use Rattle.agreement.proofs.Deeds.{acked-is, Accepts, by-ack, by-ruling, accepted-is, brings-is, deed-found}
-use Rattle.agreement.proofs.Soundness.{group, Sound, same-range}
-use Rattle.agreement.proofs.StepLaws.{Held, stays-held, now-held, BookedOrWaits, stays-settled, answer-acknowledge, AckRefused, unknown-seat, out-of-range, past-number, future-number, waits-already, repeated, conflicting, ack-refused}
+use Rattle.agreement.proofs.Deeds.{Accepts, by-ack, by-ruling, accepted-is, brings-is, deed-found}
+use Rattle.agreement.proofs.Soundness.{group, Sound}
+use Rattle.agreement.proofs.StepLaws.{Held, stays-held, now-held, BookedOrWaits, stays-settled, AckRefused, unknown-seat, out-of-range, past-number, future-number, waits-already, repeated, conflicting, ack-refused}
 use Rattle.agreement.proofs.Reachable.{sound, stays}
 use Rattle.agreement.proofs.Quorums.{count-lift, two-quorums, quorum-most}
-use Rattle.agreement.proofs.Acked.{acked-by-found, acked-by-later, acked-by-once, all-from}
+use Rattle.agreement.proofs.Acked.{acked-by-found, acked-by-later, acked-by-once, all-from, acked-in-range}
 use Rattle.agreement.proofs.Votes.{vote, Tally, votes-counted}
 use Rattle.agreement.proofs.Agree.{number-same, acks-quorum, proposed-majority, ruled-only}
 use Rattle.agreement.proofs.Reasons.{all-reasons, decided-accepted}
@@ -127,12 +127,7 @@ module _ (o : Opening) (bad : Seat → Bool) (run : Run) (opens : Opens o) (few 
     acked-eligible : (z : Seat) → honest o bad z ≡ true → (1 ≤ t .number) × ((l : Ledger) → Sound o l → outOfRange l t ≡ false)
     acked-eligible z fair =
         let found = acked-by-found z t run (all-acked z fair) in
-        let e = found .1 in
-        let k = ledgerAt o (e .at) (found .0) in
-        let ok = sound o opens (e .at) (found .0) (obeys-before o obeys (before (found .2))) in
-        let answer = happens-in-run (rulesAt (e .at) (found .0)) k (Circulated t) Acknowledge (rw (acked-is (e .call) t (found .4)) at (obeys-at o obeys (found .2))) in
-        let fit = answer-acknowledge o k _ (Circulated t) Acknowledge t (group o opens) ok refl refl answer .eligible in
-        (omega (arith, fit .is-next), λ l too. same-range o l k t too ok ∙ fit .in-range)
+        acked-in-range o opens run obeys (found .0) (found .1) t (found .2) (found .4)
 
     -- an ack of t from an honest seat that is refused, and not as too early, had arrived before
     refused-arrived : (q : Run) (z s : Seat) (x : Refusal) → Within q run → honest o bad s ≡ true → tooEarly (Refuse x) ≡ false

@@ -6,8 +6,8 @@ use mathlib.Core.Bool.{true, false}
 use mathlib.Core.List.{List, [], _∷_, map}
 use lib.Dec.{lit<}
 use lib.ListN.{replicate}
-use Rattle.agreement.specs.Types.{Transfer, Empty, Full, AckSlot, Ledger, Opening, Message, Ack, Propose, Note}
-use Rattle.agreement.specs.Runs.{Run, start, _▹_, rulesAt, ledgerAt, acksWith, Obeys}
+use Rattle.agreement.specs.Types.{Transfer, Empty, Full, AckSlot, Ledger, Opening, Message, Ack, Reply, Propose, Note}
+use Rattle.agreement.specs.Runs.{Run, start, _▹_, rulesAt, ledgerAt, acksWith, MayReply, Obeys}
 use Rattle.agreement.specs.Proposals.{SameAcks}
 use Rattle.agreement.proofs.Proposals.{put-forward-alike}
 use Rattle.agreement.proofs.Examples.{page, t, u, today, ack, _then_}
@@ -82,6 +82,11 @@ tied-in-a-run = (
   λ obeys. let z : Propose u ≡ Propose t = obeys .1 in not-one u t z (lit< tt),
   λ obeys. not-most (obeys .1 .0) (obeys .1 .1) (obeys .1 .2),
 )
+
+-- so on a tie what may be replied differs between the sets of rules
+pub ties-differ : ((q r : Reply) → MayReply firstRules one wLast q → MayReply newest one wLast r → q ≡ r) → ⊥
+unfolding rulesAt ledgerAt noAcks equal conflict hasMost mostAcked lowestAffordable apply settleAtMost settle step stepUnder
+ties-differ same = not-one u t (same (Propose u) (Propose t) (u, refl, refl) refl) (lit< tt)
 
 -- both are answered P, and with that ack they have the same acks: what is said of two such calls is said of these
 pub same-acks-tried : (step one wLast .reply ≡ Propose t) × (step other tLast .reply ≡ Propose t) × SameAcks one wLast other tLast

@@ -15,7 +15,7 @@ use Rattle.model.specs.Refusals.{Rule, firstRefusal, pastNumber, futureN
 use Rattle.model.specs.Openings.{openRules, openReplyBy, openReply, openLedgerBy, openLedger}
 use Rattle.model.specs.Acks.{acksFor, acksRecorded, enough, mustPropose, mostAcked}
 use Rattle.model.specs.Calls.{payerOf, Effect, replies, waits, tallied, effect, unlessRefused, finished, rulesIn, step, Lists, ListsUnlessRefused}
-use Rattle.model.specs.Switches.{Rules, newest, rulesThere, stepUnder}
+use Rattle.model.specs.Switches.{Rules, newest, rulesMet, stepUnder}
 use Rattle.model.proofs.Sums.{impossible}
 use Rattle.model.proofs.Access.{with-entry-read}
 
@@ -88,9 +88,9 @@ abbrev pub refusal : Refusal → Ledger → Outcome
 refusal r l = record { reply = Refuse r; next = l }
 
 -- a reply R names the first rule that holds
-pub refused-by : (v : Rules) (l : Ledger) (m : Message) (r : Refusal) → stepUnder v l m .reply ≡ Refuse r → firstRefusal (rulesThere v l m) ≡ some r
+pub refused-by : (v : Rules) (l : Ledger) (m : Message) (r : Refusal) → stepUnder v l m .reply ≡ Refuse r → firstRefusal (rulesMet v l m) ≡ some r
 unfolding stepUnder
-refused-by v l m r h = go (firstRefusal (rulesThere v l m)) h
+refused-by v l m r h = go (firstRefusal (rulesMet v l m)) h
   where
     a : Account
     a = payerOf m
@@ -103,7 +103,7 @@ refused-by v l m r h = go (firstRefusal (rulesThere v l m)) h
     go (some q) h = cc
 
 -- a message that a rule refuses replies its code and changes nothing
-pub refuses : (v : Rules) (l : Ledger) (m : Message) (r : Refusal) → firstRefusal (rulesThere v l m) ≡ some r → stepUnder v l m ≡ refusal r l
+pub refuses : (v : Rules) (l : Ledger) (m : Message) (r : Refusal) → firstRefusal (rulesMet v l m) ≡ some r → stepUnder v l m ≡ refusal r l
 unfolding stepUnder
 refuses v l m r e = rw e (ap (refusal r) (with-entry-read l (payerOf m)))
 
@@ -112,7 +112,7 @@ pub refusal-keeps : (v : Rules) (l : Ledger) (m : Message) (r : Refusal) → ste
 refusal-keeps v l m r h = rw (refuses v l m r (refused-by v l m r h))
 
 -- a message that no rule refuses has its effect
-pub not-refused : (v : Rules) (l : Ledger) (m : Message) → firstRefusal (rulesThere v l m) ≡ none → stepUnder v l m ≡ effectIn l m
+pub not-refused : (v : Rules) (l : Ledger) (m : Message) → firstRefusal (rulesMet v l m) ≡ none → stepUnder v l m ≡ effectIn l m
 unfolding stepUnder
 not-refused v l m e = rw e
 

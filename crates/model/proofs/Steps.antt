@@ -15,7 +15,7 @@ use Rattle.model.specs.Refusals.{Rule, firstRefusal, waitsAlready, ackFr
 use Rattle.model.specs.Acks.{holds, conflicts, acksFor, acksRecorded, enough, mustPropose, hasMost, mostAcked}
 use Rattle.model.specs.Settling.{Settled, settle}
 use Rattle.model.specs.Calls.{tallied, finished, rulesIn}
-use Rattle.model.specs.Switches.{Rules, firstRules, sinceRequest3, withoutCode, rulesThere, stepUnder}
+use Rattle.model.specs.Switches.{Rules, firstRules, sinceRequest3, withoutCode, rulesMet, stepUnder}
 use Rattle.model.proofs.Sums.{impossible, neither}
 use Rattle.model.proofs.Proposals.{most-acked-most}
 use Rattle.model.proofs.Access.{SameGroup, with-entries, with-entry-read}
@@ -123,12 +123,12 @@ fail-without code (r ∷ rs) fail = go (eqb (codeOf (r .1)) code) (fail-without 
     go false rest = (fail .0, rest)
 
 -- what no later rule refuses, no first rule does
-first-fail : (v : Rules) (l : Ledger) (m : Message) → AllFail (rulesThere v l m) → AllFail (rulesThere firstRules l m)
+first-fail : (v : Rules) (l : Ledger) (m : Message) → AllFail (rulesMet v l m) → AllFail (rulesMet firstRules l m)
 first-fail firstRules l m fail = fail
 first-fail sinceRequest3 l m fail = fail-without 20 (rulesIn l m) fail
 
 -- what a message does that not even the first rules refuse
-effect-happens : (l : Ledger) (m : Message) → AllFail (rulesThere firstRules l m) → Happens l m (effectIn l m .reply) (effectIn l m .next)
+effect-happens : (l : Ledger) (m : Message) → AllFail (rulesMet firstRules l m) → Happens l m (effectIn l m .reply) (effectIn l m .next)
 effect-happens l (Request t) fail = circulated t refl refl (with-entry-read l (t .account))
 effect-happens l (Circulated t) fail =
     let next = next-number (entryOf l (t .account)) t (fail .1 .0) (fail .1 .1 .0) in
@@ -149,10 +149,10 @@ effect-happens l (Inquiry a) fail = told a refl refl (with-entry-read l a)
 
 -- every message, whatever the ledger, under every set of rules
 pub happens : (v : Rules) (l : Ledger) (m : Message) → Happens l m (stepUnder v l m .reply) (stepUnder v l m .next)
-happens v l m = go (firstRefusal (rulesThere v l m)) refl
+happens v l m = go (firstRefusal (rulesMet v l m)) refl
   where
-    go : (o : Option Refusal) → firstRefusal (rulesThere v l m) ≡ o → Happens l m (stepUnder v l m .reply) (stepUnder v l m .next)
-    go none e = rw (not-refused v l m e) (effect-happens l m (first-fail v l m (none-holds (rulesThere v l m) e)))
+    go : (o : Option Refusal) → firstRefusal (rulesMet v l m) ≡ o → Happens l m (stepUnder v l m .reply) (stepUnder v l m .next)
+    go none e = rw (not-refused v l m e) (effect-happens l m (first-fail v l m (none-holds (rulesMet v l m) e)))
     go (some q) e = rw (refuses v l m q e) (refused q refl refl)
 
 -- no message changes n, f, k or the opening sum
@@ -177,7 +177,7 @@ abbrev pub CarriesMost : Ledger → Message → Transfer → Type 0
 CarriesMost l m u = (s : Seat) × (t : Transfer) × (m ≡ Ack s t) × (u ≡ mostAcked (entryWithAck l s t .acks))
 
 pub carries-most : (v : Rules) (l : Ledger) (m : Message) (u : Transfer) → stepUnder v l m .reply ≡ Propose u → CarriesMost l m u
-carries-most v l m u h = go (firstRefusal (rulesThere v l m)) refl
+carries-most v l m u h = go (firstRefusal (rulesMet v l m)) refl
   where
     taken : (m : Message) → effectIn l m .reply ≡ Propose u → CarriesMost l m u
     taken (Request t) h = impossible (cc)
@@ -188,6 +188,6 @@ carries-most v l m u h = go (firstRefusal (rulesThere v l m)) refl
     taken (Decision t) h = impossible (cc)
     taken (Inquiry a) h = impossible (cc)
 
-    go : (o : Option Refusal) → firstRefusal (rulesThere v l m) ≡ o → CarriesMost l m u
+    go : (o : Option Refusal) → firstRefusal (rulesMet v l m) ≡ o → CarriesMost l m u
     go none e = taken m (rw (not-refused v l m e) at h)
     go (some q) e = impossible (let z : Refuse q ≡ Propose u = rw (refuses v l m q e) at h in cc)

@@ -47,9 +47,10 @@ abbrev pub rulesUnder : Rules → List Rule → List Rule
 rulesUnder firstRules rules = withoutCode 20 rules
 rulesUnder sinceRequest3 rules = rules
 
--- The outcome of a message under a set of rules.
-abbrev pub rulesThere : Rules → Ledger → Message → List Rule
-rulesThere v l m = rulesUnder v (rulesIn l m)
+-- the rules that a message meets in a ledger, under a set of rules
+abbrev pub rulesMet : Rules → Ledger → Message → List Rule
+rulesMet v l m = rulesUnder v (rulesIn l m)
 
+-- The outcome of a message under a set of rules.
 unfoldable pub stepUnder : Rules → Ledger → Message → Outcome
-stepUnder v l m = stepBy (rulesThere v l m) l m
+stepUnder v l m = stepBy (rulesMet v l m) l m

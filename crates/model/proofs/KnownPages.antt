@@ -11,12 +11,13 @@ use Rattle.model.specs.Records.{accountOf, noAcks, emptyPage}
 use Rattle.model.specs.Transfers.{equal, conflict}
 use Rattle.model.specs.Openings.{openReply, openLedger}
 use Rattle.model.specs.Acks.{hasMost, mostAcked}
+use Rattle.model.specs.Gathering.{gathered}
 use Rattle.model.specs.Settling.{lowestAffordable, apply, settleAtMost, settle}
 use Rattle.model.specs.Calls.{step}
 use Rattle.model.specs.Switches.{firstRules, sinceRequest3, stepUnder}
 use Rattle.model.specs.Bundles.{checkBundle}
 use Rattle.model.specs.Writing.{written}
-use Rattle.model.proofs.Rows.{slip, ackBy, pageWith, A, B, C, K, N, P, R, _gives_, everyKind, offered, Row, acksNeeded, opens, runs, runsAcross, putsForward, lists, sums, checks, counts, shows, showsOpening, reads, writes, fits, leaves, rowHolds}
+use Rattle.model.proofs.Rows.{slip, ackBy, pageWith, A, B, C, K, N, P, R, _gives_, everyKind, offered, Row, acksNeeded, opens, runs, runsAcross, putsForward, gathers, lists, sums, checks, counts, shows, showsOpening, reads, writes, fits, leaves, rowHolds}
 
 -- slips that conflict with one another
 abbrev t : Transfer
@@ -129,6 +130,21 @@ switching =
     ∷ runsAcross sinceRequest3 6 1 (10 ∷ 5 ∷ []) (Circulated w gives R 20 ∷ Circulated t gives A ∷ [])
     (Circulated w gives R 20 ∷ Circulated u gives R 12 ∷ [])
     (10 ∷ 5 ∷ [])
+    ∷ []
+
+-- Document 02, request 4: which seats are gathered for a slip. The case split 3, 3, 1, each of its slips; a slip that nobody acked, and one that differs in
+-- its number alone; places that are empty, seat 0's and seat 15's among them; every seat; and no acks.
+pub gathering : List Row
+gathering =
+    gathers (Full t ∷ Full t ∷ Full t ∷ Full u ∷ Full u ∷ Full u ∷ Full w ∷ []) t (0 ∷ 1 ∷ 2 ∷ [])
+    ∷ gathers (Full t ∷ Full t ∷ Full t ∷ Full u ∷ Full u ∷ Full u ∷ Full w ∷ []) u (3 ∷ 4 ∷ 5 ∷ [])
+    ∷ gathers (Full t ∷ Full t ∷ Full t ∷ Full u ∷ Full u ∷ Full u ∷ Full w ∷ []) w (6 ∷ [])
+    ∷ gathers (Full t ∷ Full u ∷ []) v []
+    ∷ gathers (Full t ∷ Full u ∷ []) (slip 0 2 4 1) []
+    ∷ gathers (Empty ∷ Full u ∷ Full t ∷ Empty ∷ Full u ∷ Full t ∷ Full t ∷ []) t (2 ∷ 5 ∷ 6 ∷ [])
+    ∷ gathers (Full u ∷ replicate 14 Empty ++ (Full u ∷ [])) u (0 ∷ 15 ∷ [])
+    ∷ gathers (replicate 16 (Full t)) t (0 ∷ 1 ∷ 2 ∷ 3 ∷ 4 ∷ 5 ∷ 6 ∷ 7 ∷ 8 ∷ 9 ∷ 10 ∷ 11 ∷ 12 ∷ 13 ∷ 14 ∷ 15 ∷ [])
+    ∷ gathers (replicate 16 Empty) t []
     ∷ []
 
 -- Further cases, in document 01's order: daybook's whole output; a seat's second ack;
@@ -278,8 +294,9 @@ pub facts : T (every rowHolds marked)
     × T (every rowHolds tied)
     × T (every rowHolds selfPaid)
     × T (every rowHolds switching)
+    × T (every rowHolds gathering)
     × T (every rowHolds further)
     × T (every rowHolds format)
     × T (every rowHolds writing)
-unfolding marked tied selfPaid switching further format writing written noAcks equal conflict hasMost mostAcked openReply openLedger lowestAffordable apply settleAtMost settle step stepUnder checkBundle
-facts = (tt, tt, tt, tt, tt, tt, tt)
+unfolding marked tied selfPaid switching gathering further format writing written noAcks equal conflict hasMost mostAcked gathered openReply openLedger lowestAffordable apply settleAtMost settle step stepUnder checkBundle
+facts = (tt, tt, tt, tt, tt, tt, tt, tt)

@@ -11,6 +11,7 @@ use Rattle.model.specs.Replies.{letterOf, valuesOf, valuesOfTransfer, va
 use Rattle.model.specs.Refusals.{firstRefusal, listRules}
 use Rattle.model.specs.Openings.{openReply, openLedger}
 use Rattle.model.specs.Acks.{enough, mostAcked}
+use Rattle.model.specs.Gathering.{gathered}
 use Rattle.model.specs.Calls.{step}
 use Rattle.model.specs.Switches.{Rules, nextRules, switched, stepUnder}
 use Rattle.model.specs.Bundles.{bodySum, badCount, checkBundle, pageAt, messageOf, openingOf, Reading, taken, noMore, readNext}
@@ -78,6 +79,8 @@ pub data Row : Type 0 where
   runsAcross : Rules → ℕ → ℕ → List ℕ → List Asked → List Asked → List ℕ → Row
   -- each seat's ack, seat by seat from 0, and the slip that is put forward
   putsForward : List Slot → Transfer → Row
+  -- each seat's ack, seat by seat from 0, a slip, and the seats that are gathered for it
+  gathers : List Slot → Transfer → List ℕ → Row
   -- the length of a waiting list's buffer, and the values of its answer where nothing waits
   lists : ℕ → List ℕ → Row
   -- bytes and their sum
@@ -151,6 +154,7 @@ rowHolds (runsAcross v n f balances asked later final) =
     allAnswered (stepUnder v) (openLedger (pageWith n f balances) noLedger) asked
     (λ l. allAnswered (stepUnder (nextRules v)) (switched v l) later (hasBalances final))
 rowHolds (putsForward places t) = same (valuesOfTransfer (mostAcked (map (λ s. record { slot = s }) places))) (valuesOfTransfer t)
+rowHolds (gathers places t seats) = same (gathered t (map (λ s. record { slot = s }) places)) seats
 rowHolds (lists size said) = same (valuesOfList (listReply (firstRefusal (listRules (replicate size 0))))) said
 rowHolds (sums bytes s) = eqb (bodySum bytes) s
 rowHolds (checks bytes said) = same (valuesOfBundle (checkBundle bytes)) said

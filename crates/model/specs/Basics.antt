@@ -31,3 +31,8 @@ every p (x ∷ xs) = p x && every p xs
 abbrev pub firstWhere : (ℕ → Bool) → ℕ → ℕ → Option ℕ
 firstWhere p zero i = none
 firstWhere p (suc left) i = cond (p i) (some i) (firstWhere p left (suc i))
+
+-- those of the `left` numbers from `i` on that pass the test, lowest first
+abbrev pub allWhere : (ℕ → Bool) → ℕ → ℕ → List ℕ
+allWhere p zero i = []
+allWhere p (suc left) i = cond (p i) (i ∷ allWhere p left (suc i)) (allWhere p left (suc i))

@@ -4,6 +4,7 @@ pub mod Basics
 pub mod Records
 pub mod Transfers
 pub mod Acks
+pub mod Gathering
 pub mod Refusals
 pub mod Replies
 pub mod Openings

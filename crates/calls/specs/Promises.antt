@@ -1,6 +1,7 @@
 -- What a message promises, by the model's `step`, of the ledger that the words are.
 use Prim.Native.Nat.{ℕ, _+_, _<_}
 use mathlib.Core.Path.{_≡_}
+use mathlib.Core.Bool.{false}
 use mathlib.Core.List.{List}
 use Rattle.model.specs.declared.Transfer.{Transfer}
 use Rattle.model.specs.declared.Message.{Message}
@@ -8,10 +9,12 @@ use Rattle.model.specs.declared.Refusal.{Refusal}
 use Rattle.model.specs.declared.Reply.{Reply}
 use Rattle.model.specs.declared.Reply.the-variants.{Refuse}
 use Rattle.model.specs.Types.{Outcome}
-use Rattle.model.specs.Acks.{acksFor}
+use Rattle.model.specs.Acks.{acksFor, enough}
 use Rattle.model.specs.Replies.{letterOf, valuesOf}
 use Rattle.model.specs.Calls.{tallied, waits, finished, step}
 use Rattle.layout.specs.Layout.{ledgerIn, entryIn}
+use Rattle.tally.specs.declared.Tally.{Tally}
+use Rattle.tally.specs.Results.{tallyOf}
 
 -- A message: the reply, with its letter and its values, and the ledger after it. "A refusal replies its code and changes nothing": not one of the words.
 -- "Each enum answer has a definition that gives this paper's number and values for each of its cases. The promises use that definition": `letter`, `values`.
@@ -33,9 +36,10 @@ pub record Next (ws : List ℕ) (t : Transfer) : Type 0 where
   pub number : t .number ≡ entryIn ws (t .account) .current + 1
   pub value : 0 < t .value
 
--- What follows from a slip's ack that is recorded.
-pub record Tallied (before : List ℕ) (t : Transfer) (r : Reply) (after : List ℕ) : Type 0 where
-  pub decided : Next before t → 0 < acksFor t (entryIn before (t .account) .acks)
+-- What follows from a slip's ack that is recorded, where the tally's seats are not enough.
+pub record NotEnough (before : List ℕ) (t : Transfer) (y : Tally) (r : Reply) (after : List ℕ) : Type 0 where
+  pub decided : Next before t → 0 < acksFor t (entryIn before (t .account) .acks) → y ≡ tallyOf t (entryIn before (t .account) .acks)
+      → enough (ledgerIn before .seats) (ledgerIn before .faults) (y .equal) ≡ false
       → Taken (finished (ledgerIn before) (t .account) (tallied (ledgerIn before) (entryIn before (t .account)) t)) r after
 
 -- What follows from a slip that is accepted.

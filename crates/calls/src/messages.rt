@@ -19,15 +19,16 @@ use store::put_acked;
 use store::put_pending;
 use store::put_proposed;
 use store::seats_of;
+use tally::Tally;
+use tally::gather;
 use tally::most_acked;
 use tally::must_propose;
-use tally::tally_of;
 ghost use mathlib.Core.Path.{_≡_};
 ghost use Prim.Native.Nat.{_<_};
 ghost use lib.ListN.{length};
 ghost use Rattle.model.specs.declared.Message.the-variants.{Request, Circulated, Ack, Decision, Inquiry};
 ghost use Rattle.layout.specs.Layout.{bookWords};
-ghost use Rattle.calls.specs.Promises.{Answered, Tallied, Accepted};
+ghost use Rattle.calls.specs.Promises.{Answered, NotEnough, Accepted};
 
 // A home's new transfer: circulate it.
 pub fn request(words: &[u32], t: Transfer) -> Reply
@@ -54,16 +55,25 @@ pub fn acknowledge(words: &mut [u32], t: Transfer) -> Reply
     }
 }
 
-// A seat's ack of a transfer: it is recorded, and the tally decides.
+// A seat's ack of a transfer, beside lines 35 to 37 of Algorithm 1 in document 000, with document 01's threshold in line 37.
 pub fn record_ack(words: &mut [u32], s: Seat, t: Transfer) -> Reply
     requires { ⌜ length (now words) ≡ bookWords ⌝ }
     ensures { λ r. ⌜ Answered (now (words .entry)) (Ack s t) r (now (words .exit)) ⌝ }
 {
+    // line 35: an ack of t from seat s is delivered; that its number is valid is among the checks, 4 to 10
     match ack_check(words, s, t) {
         Check::Failed(r) => Reply::Refuse(r),
         Check::Passed => {
+            // line 36, record: acks[t.sender][s] := t
             put_ack(words, s, t);
-            by_tally(words, t)
+            // line 37, gather: {p ∈ Π | acks[t.sender][p] = t}, from seat 0 on
+            let tally = gather(words, t);
+            // line 37, compare: is their number more than (n + 3f) / 2?
+            if is_enough(seats_of(words), faults_of(words), tally.equal) {
+                accept(words, t)
+            } else {
+                propose_or_note(words, t, tally)
+            }
         }
     }
 }
@@ -90,17 +100,13 @@ pub fn inquire(words: &[u32], a: Account) -> Reply
     Reply::Balance(balance_of(words, a))
 }
 
-// What follows from the ack that was just recorded: K, P or N.
-fn by_tally(words: &mut [u32], t: Transfer) -> Reply
+// What follows from the ack that was just recorded, where those equal to it are not enough: P or N.
+fn propose_or_note(words: &mut [u32], t: Transfer, tally: Tally) -> Reply
     requires { ⌜ length (now words) ≡ bookWords ⌝ }
     requires { ⌜ t .account .0 < 32 ⌝ }
-    ensures { λ r. ⌜ Tallied (now (words .entry)) t r (now (words .exit)) ⌝ }
+    ensures { λ r. ⌜ NotEnough (now (words .entry)) t tally r (now (words .exit)) ⌝ }
 {
-    let y = tally_of(words, t);
-    if is_enough(seats_of(words), faults_of(words), y.equal) {
-        return accept(words, t);
-    }
-    if must_propose(words, t.account, y) {
+    if must_propose(words, t.account, tally) {
         let most = most_acked(words, t);
         put_proposed(words, t.account);
         return Reply::Propose(most);

@@ -12,17 +12,20 @@ use store::is_proposed;
 use store::seats_of;
 ghost use mathlib.Core.Path.{_≡_};
 ghost use Prim.Native.Nat.{_+_, _<_};
-ghost use lib.ListN.{length};
+ghost use mathlib.Core.Bool.{cond};
+ghost use lib.ListN.{length, set};
 ghost use Rattle.model.specs.Basics.{bit};
-ghost use Rattle.model.specs.Acks.{mostAcked};
+ghost use Rattle.model.specs.Acks.{acksFor, mostAcked};
 ghost use Rattle.model.specs.Refusals.{ackFrom};
 ghost use Rattle.layout.specs.Layout.{bookWords, entryIn};
 ghost use Rattle.store.specs.Stores.{withNumber};
-ghost use Rattle.tally.specs.Results.{tallyOf, counted, atNext, Decides, leaderOf};
+ghost use Rattle.tally.specs.Results.{counted, atNext, Gathers, Decides, leaderOf};
 
 // The running tally of one number, for one transfer.
 pub struct Tally {
-    // how many acks are equal to the transfer
+    // the seats whose acks are equal to the transfer, lowest first; behind them are zeros
+    pub gathered: [Seat; 16],
+    // how many they are
     pub equal: u8,
     // how many seats' acks are recorded
     pub recorded: u8,
@@ -36,50 +39,72 @@ fn plus(n: u8, more: bool) -> u8
     if more { n + 1 } else { n }
 }
 
-// The running tally, brought up to date with the ack in one place.
-fn with_place(y: Tally, t: Transfer, s: Slot) -> Tally
-    requires { ⌜ (y .equal < 16) × (y .recorded < 16) ⌝ }
-    ensures { λ r. ⌜ r ≡ counted y t s ⌝ }
+// The seats with one more behind the first n, if the test holds.
+fn with_seat(seats: [Seat; 16], n: u8, p: Seat, more: bool) -> [Seat; 16]
+    requires { ⌜ n < 16 ⌝ }
+    ensures { λ r. ⌜ r ≡ cond more (set seats n p) seats ⌝ }
 {
+    if more {
+        let mut next = seats;
+        next[n as usize] = p;
+        next
+    } else {
+        seats
+    }
+}
+
+// The running tally, brought up to date with the ack in one seat's place.
+fn with_place(y: Tally, t: Transfer, p: Seat, s: Slot) -> Tally
+    requires { ⌜ (y .equal < 16) × (y .recorded < 16) ⌝ }
+    ensures { λ r. ⌜ r ≡ counted y t p s ⌝ }
+{
+    let held = is_held(t, s);
+    let seats = y.gathered;
     Tally {
-        equal: plus(y.equal, is_held(t, s)),
+        gathered: with_seat(seats, y.equal, p, held),
+        equal: plus(y.equal, held),
         recorded: plus(y.recorded, is_full(s)),
     }
 }
 
 // The same where the tally lies: one ack brings it up to date.
-fn count(y: &mut Tally, t: Transfer, s: Slot)
+fn count(y: &mut Tally, t: Transfer, p: Seat, s: Slot)
     requires { ⌜ (now y .equal < 16) × (now y .recorded < 16) ⌝ }
-    ensures { λ _. ⌜ now (y .exit) ≡ counted (now (y .entry)) t s ⌝ }
+    ensures { λ _. ⌜ now (y .exit) ≡ counted (now (y .entry)) t p s ⌝ }
 {
-    *y = with_place(*y, t, s);
+    *y = with_place(*y, t, p, s);
 }
 
 // The same for a caller that has no reference: the tally after one more ack.
-fn plus_ack(before: Tally, t: Transfer, s: Slot) -> Tally
+fn plus_ack(before: Tally, t: Transfer, p: Seat, s: Slot) -> Tally
     requires { ⌜ (before .equal < 16) × (before .recorded < 16) ⌝ }
-    ensures { λ r. ⌜ r ≡ counted before t s ⌝ }
+    ensures { λ r. ⌜ r ≡ counted before t p s ⌝ }
 {
     let mut y = before;
-    count(&mut y, t, s);
+    count(&mut y, t, p, s);
     y
 }
 
-// The running tally of the acks that are recorded for an account's next number: each brings it up to date.
-pub fn tally_of(words: &[u32], t: Transfer) -> Tally
+// Goes through the seats from 0 and gathers those whose ack for the account's next number equals the transfer: the running tally, which each recorded ack
+// brings up to date.
+pub fn gather(words: &[u32], t: Transfer) -> Tally
     requires { ⌜ length (now words) ≡ bookWords ⌝ }
     requires { ⌜ t .account .0 < 32 ⌝ }
-    ensures { λ r. ⌜ r ≡ tallyOf (atNext (entryIn (now (words .entry)) (t .account)) t) (entryIn (now (words .entry)) (t .account) .acks) ⌝ }
+    ensures { λ r. ⌜ Gathers (now (words .entry)) t r ⌝ }
 {
     let mut y = Tally {
+        gathered: [Seat(0); 16],
         equal: 0,
         recorded: 0,
     };
-    let mut i: u8 = 0;
-    while i < 16 {
-        let s = ack_from(words, t.account, Seat(i), t.number);
-        y = plus_ack(y, t, s);
-        i += 1;
+    let mut p: u8 = 0;
+    while p < 16 {
+        let s = ack_from(words, t.account, Seat(p), t.number);
+        // a place with no ack leaves the tally as it is
+        if is_full(s) {
+            y = plus_ack(y, t, Seat(p), s);
+        }
+        p += 1;
     }
     y
 }
@@ -100,6 +125,22 @@ pub fn must_propose(words: &[u32], a: Account, y: Tally) -> bool
     y.equal < y.recorded
 }
 
+// How many of the acks that are recorded for an account's next number are equal to the transfer, where only the number is wanted.
+fn acks_for(words: &[u32], t: Transfer) -> u8
+    requires { ⌜ length (now words) ≡ bookWords ⌝ }
+    requires { ⌜ t .account .0 < 32 ⌝ }
+    ensures { λ r. ⌜ r ≡ acksFor (atNext (entryIn (now (words .entry)) (t .account)) t) (entryIn (now (words .entry)) (t .account) .acks) ⌝ }
+{
+    let mut n: u8 = 0;
+    let mut i: u8 = 0;
+    while i < 16 {
+        let s = ack_from(words, t.account, Seat(i), t.number);
+        n = plus(n, is_held(t, s));
+        i += 1;
+    }
+    n
+}
+
 // A transfer and how many acks are equal to it.
 pub struct Leader {
     pub transfer: Transfer,
@@ -116,11 +157,11 @@ fn better(words: &[u32], best: Leader, t: Transfer, s: Seat) -> Leader
     match slot {
         Slot::Empty => best,
         Slot::Full(u) => {
-            let y = tally_of(words, u);
-            if best.acks < y.equal {
+            let acks = acks_for(words, u);
+            if best.acks < acks {
                 Leader {
                     transfer: u,
-                    acks: y.equal,
+                    acks: acks,
                 }
             } else {
                 best

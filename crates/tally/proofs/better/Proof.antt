@@ -1,4 +1,4 @@
--- The ack that was read, told with the number, is the seat's ack, and its tally is that ack's count: so the test compares the two.
+-- The ack that was read, told with the number, is the seat's ack, and how many are equal to it is that ack's count: so the test compares the two.
 use Prim.Native.Nat.{ℕ, _+_, _≤_, _<_}
 use native.Mathlib.Omega.{arith}
 use mathlib.Core.Path.{_≡_, refl, ap, _∙_}
@@ -17,9 +17,8 @@ use Rattle.model.proofs.Sums.{impossible}
 use Rattle.layout.specs.Layout.{entryIn}
 use Rattle.layout.proofs.Entries.{ack-of-next}
 use Rattle.store.specs.Stores.{withNumber, numbered}
-use Rattle.tally.specs.declared.Tally.{Tally}
 use Rattle.tally.specs.declared.Leader.{Leader}
-use Rattle.tally.specs.Results.{tallyOf, atNext, leaderOf}
+use Rattle.tally.specs.Results.{atNext, leaderOf}
 use Rattle.tally.proofs.better.Statement.{statement}
 use Rattle.tally.proofs.better.Tie as tie
 
@@ -66,21 +65,21 @@ module _ (ws : List ℕ) (best : Leader) (a : Account) (number : ℕ) (s : Seat)
     is-ack : atNext e u ≡ told u full .ack
     is-ack = let x = told u full in told-back number (e .current + 1) u (x .ack) (x .tells) (x .next)
 
-    module _ (y : Tally) (tally : y ≡ tallyOf (atNext (entryIn ws (u .account)) u) (entryIn ws (u .account) .acks)) where
-      count : y .equal ≡ acksFor (told u full .ack) (e .acks)
+    module _ (n : ℕ) (found : n ≡ acksFor (atNext (entryIn ws (u .account)) u) (entryIn ws (u .account) .acks)) where
+      count : n ≡ acksFor (told u full .ack) (e .acks)
       count =
-          ap (λ (z : Tally). z .equal) tally
+          found
           ∙ ap (λ (b : Account). acksFor (atNext (entryIn ws b) u) (entryIn ws b .acks)) account
           ∙ ap (λ (t : Transfer). acksFor t (e .acks)) is-ack
 
-      taken : best .acks < y .equal → (record { transfer = u; acks = y .equal }) ≡ leaderOf (e .acks) number best (ackFrom e s)
+      taken : best .acks < n → (record { transfer = u; acks = n }) ≡ leaderOf (e .acks) number best (ackFrom e s)
       taken more =
           let x = told u full in
-          rw (x .is, ← count, lt-ltb (best .acks) (y .equal) more)
-          (ap (λ (t : Transfer). let l : Leader = record { transfer = t; acks = y .equal } in l) (x .tells))
+          rw (x .is, ← count, lt-ltb (best .acks) n more)
+          (ap (λ (t : Transfer). let l : Leader = record { transfer = t; acks = n } in l) (x .tells))
 
-      kept : y .equal ≤ best .acks → best ≡ leaderOf (e .acks) number best (ackFrom e s)
-      kept few = rw (told u full .is, ← count, le-ltb (best .acks) (y .equal) few)
+      kept : n ≤ best .acks → best ≡ leaderOf (e .acks) number best (ackFrom e s)
+      kept few = rw (told u full .is, ← count, le-ltb (best .acks) n few)
 
 ack-from-requires : tie.Need-ack-from-requires
 ack-from-requires c κs = search needs
@@ -91,8 +90,8 @@ enum-told c = search needs
 enum-known-slot : tie.Need-enum-known-slot
 enum-known-slot c = search needs
 
-tally-of-requires : tie.Need-tally-of-requires
-tally-of-requires c κs =
+acks-for-requires : tie.Need-acks-for-requires
+acks-for-requires c κs =
     let start = c .before .before .before .before .before in
     (start .pre .0, rw (account (start .args .words .now) (start .args .best) (start .args .t .account) (start .args .t .number) (start .args .s) _ (start .pre .1 .0) (c .before .before .before .ack-from .ensures) _ (c .before .slot .given .1)) (start .pre .1 .0))
 
@@ -103,13 +102,13 @@ returns c =
 
 returns-2 : tie.Need-returns-2
 returns-2 c =
-    let start = c .before .before .before .before .before .before .before .before .before in
-    taken (start .args .words .now) (start .args .best) (start .args .t .account) (start .args .t .number) (start .args .s) _ (start .pre .1 .0) (c .before .before .before .before .before .before .before .ack-from .ensures) _ (c .before .before .before .before .before .slot .given .1) _ (c .before .before .before .tally-of .ensures) (omega (arith, c .if1 .taken))
+    let start = c .before .before .before .before .before .before .before .before in
+    taken (start .args .words .now) (start .args .best) (start .args .t .account) (start .args .t .number) (start .args .s) _ (start .pre .1 .0) (c .before .before .before .before .before .before .ack-from .ensures) _ (c .before .before .before .before .slot .given .1) _ (c .before .before .acks-for .ensures) (omega (arith, c .if1 .taken))
 
 returns-3 : tie.Need-returns-3
 returns-3 c =
-    let start = c .before .before .before .before .before .before .before .before .before in
-    kept (start .args .words .now) (start .args .best) (start .args .t .account) (start .args .t .number) (start .args .s) _ (start .pre .1 .0) (c .before .before .before .before .before .before .before .ack-from .ensures) _ (c .before .before .before .before .before .slot .given .1) _ (c .before .before .before .tally-of .ensures) (omega (arith, c .if1 .left))
+    let start = c .before .before .before .before .before .before .before .before in
+    kept (start .args .words .now) (start .args .best) (start .args .t .account) (start .args .t .number) (start .args .s) _ (start .pre .1 .0) (c .before .before .before .before .before .before .ack-from .ensures) _ (c .before .before .before .before .slot .given .1) _ (c .before .before .acks-for .ensures) (omega (arith, c .if1 .left))
 
 pub better-spec : {M : Type 1} → statement M
-better-spec = tie.close (tie.spec ack-from-requires enum-told enum-known-slot tally-of-requires returns returns-2 returns-3)
+better-spec = tie.close (tie.spec ack-from-requires enum-told enum-known-slot acks-for-requires returns returns-2 returns-3)

@@ -132,17 +132,17 @@ rising-rest : (x : ℕ) (xs : List ℕ) → Rising (x ∷ xs) → Rising xs
 rising-rest x xs rises i j lower below = rises (suc i) (suc j) (omega arith) (omega arith)
 
 -- of two lists with the same first, what stands behind it in one stands behind it in the other
-rest-alike : (x : ℕ) (xs ys : List ℕ) → Rising (x ∷ xs) → ((y : ℕ) → Stands y (x ∷ xs) → Stands y (x ∷ ys)) → (y : ℕ) → Stands y xs → Stands y ys
-rest-alike x xs ys rises to y s = go (found .place) (found .inside) (found .is)
+rest-alike : (x z : ℕ) (xs zs : List ℕ) → x ≡ z → Rising (x ∷ xs) → ((y : ℕ) → Stands y (x ∷ xs) → Stands y (z ∷ zs)) → (y : ℕ) → Stands y xs → Stands y zs
+rest-alike x z xs zs same rises to y s = go (found .place) (found .inside) (found .is)
   where
-    found : Stands y (x ∷ ys)
+    found : Stands y (z ∷ zs)
     found = to y (rest-stands x y xs s)
 
     above : x < y
     above = omega (arith, rises 0 (suc (s .place)) (omega arith) (omega (arith, s .inside)), s .is)
 
-    go : (k : ℕ) → k < length (x ∷ ys) → getD (x ∷ ys) k 0 ≡ y → Stands y ys
-    go zero below is = absurd (omega (arith, above))
+    go : (k : ℕ) → k < length (z ∷ zs) → getD (z ∷ zs) k 0 ≡ y → Stands y zs
+    go zero below is = absurd (omega (arith, above, same))
     go (suc k) below is = record { place = k; inside = omega arith; is = is }
 
 -- two lists that rise, in each of which stands what stands in the other, are one list
@@ -150,18 +150,12 @@ pub rising-same : (xs ys : List ℕ) → Rising xs → Rising ys → ((x : ℕ) 
 rising-same [] [] rx ry to back = refl
 rising-same [] (y ∷ ys) rx ry to back = absurd (not-suc-le-zero (back y (first-stands y ys) .inside))
 rising-same (x ∷ xs) [] rx ry to back = absurd (not-suc-le-zero (to x (first-stands x xs) .inside))
-rising-same (x ∷ xs) (y ∷ ys) rx ry to back = go y same ry to back (rising-same xs ys (rising-rest x xs rx) (rising-rest y ys ry))
-  where
-    same : x ≡ y
-    same = omega (arith, rising-first y x ys ry (to x (first-stands x xs)), rising-first x y xs rx (back y (first-stands y ys)))
-
-    go : (z : ℕ) → x ≡ z → Rising (z ∷ ys) → ((v : ℕ) → Stands v (x ∷ xs) → Stands v (z ∷ ys)) → ((v : ℕ) → Stands v (z ∷ ys) → Stands v (x ∷ xs))
-        → (((v : ℕ) → Stands v xs → Stands v ys) → ((v : ℕ) → Stands v ys → Stands v xs) → xs ≡ ys) → x ∷ xs ≡ z ∷ ys
-    go z e rz to back rest =
-        let to-x = subst (λ (w : ℕ). (v : ℕ) → Stands v (x ∷ xs) → Stands v (w ∷ ys)) (sym e) to in
-        let back-x = subst (λ (w : ℕ). (v : ℕ) → Stands v (w ∷ ys) → Stands v (x ∷ xs)) (sym e) back in
-        let rises-x = subst (λ (w : ℕ). Rising (w ∷ ys)) (sym e) rz in
-        rw (e, rest (rest-alike x xs ys rx to-x) (rest-alike x ys xs rises-x back-x))
+rising-same (x ∷ xs) (y ∷ ys) rx ry to back =
+    let same : x ≡ y = omega (arith, rising-first y x ys ry (to x (first-stands x xs)), rising-first x y xs rx (back y (first-stands y ys))) in
+    ap (λ (z : ℕ). z ∷ xs) same
+    ∙ ap
+    (λ (zs : List ℕ). y ∷ zs)
+    (rising-same xs ys (rising-rest x xs rx) (rising-rest y ys ry) (rest-alike x y xs ys same rx to) (rest-alike y x ys xs (sym same) ry back))
 
 module _ (t : Transfer) (acks : List AckSlot) where
   abbrev test : ℕ → Bool

@@ -23,15 +23,22 @@ use Rattle.basics.proofs.Counting.{Counts, counts-none, counts-more, counts-all
 use Rattle.tally.specs.declared.Tally.{Tally}
 use Rattle.tally.specs.Results.{inArray, tallyOf, counted, seatsOf}
 
--- one seat more, behind those that stand in the array
-array-more : (seats : List ℕ) (s : ℕ) → length seats < 16 → set (inArray seats) (length seats) (seatOf s) ≡ inArray (seats ++ (s ∷ []))
-array-more seats s room =
+-- one seat more, if the test holds, behind those that stand in the array
+array-more : (seats : List ℕ) (s : ℕ) (b : Bool) → length seats < 16
+    → cond b (set (inArray seats) (length seats) (seatOf s)) (inArray seats) ≡ inArray (seats ++ alone b s)
+array-more seats s false room = rw (append-nil seats)
+array-more seats s true room =
     let zeros : 16 - length seats ≡ suc (15 - length seats) = omega arith in
     let longer : length (seats ++ (s ∷ [])) ≡ length seats + 1 = length-append seats (s ∷ []) in
     let left : 16 - length (seats ++ (s ∷ [])) ≡ 15 - length seats = omega (arith, longer) in
     rw (zeros, left, map-append seatOf seats (s ∷ []))
     (set-at (map seatOf seats) (seatOf 0) (replicate (15 - length seats) (seatOf 0)) (seatOf s) (length seats) (length-map seats seatOf)
     ∙ sym (append-snoc (map seatOf seats) (seatOf s) (replicate (15 - length seats) (seatOf 0))))
+
+-- and their number
+number-more : (seats : List ℕ) (s : ℕ) (b : Bool) → length seats + bit b ≡ length (seats ++ alone b s)
+number-more seats s false = rw (append-nil seats) (add-zero (length seats))
+number-more seats s true = sym (length-append seats (s ∷ []))
 
 -- they are what stands in front in the array
 array-front : (seats : List ℕ) → take (length seats) (inArray seats) ≡ map seatOf seats
@@ -65,25 +72,8 @@ module _ (t : Transfer) (acks : List AckSlot) where
   pub gathers-none : SoFar 0 (record { gathered = replicate 16 (seatOf 0); equal = 0; recorded = 0 })
   gathers-none = record { seats = refl; number = refl; recorded = counts-none }
 
-  before-more : (i : ℕ) → before (i + 1) ≡ before i ++ alone (holds t (ackAt acks i)) i
+  before-more : (i : ℕ) → before (i + 1) ≡ before i ++ alone (hasAcked t acks i) i
   before-more i = rw (add-one i) (rw (zero-add i) at (all-more (hasAcked t acks) i 0))
-
-  -- the place of seat i: its seat is gathered where the place holds the slip
-  array-next : (i : ℕ) (y : Tally) → i < 16 → SoFar i y
-      → cond (holds t (ackAt acks i)) (set (y .gathered) (y .equal) (seatOf i)) (y .gathered) ≡ inArray (before (i + 1))
-  array-next i y below so-far = go (holds t (ackAt acks i)) refl
-    where
-      go : (b : Bool) → holds t (ackAt acks i) ≡ b
-          → cond (holds t (ackAt acks i)) (set (y .gathered) (y .equal) (seatOf i)) (y .gathered) ≡ inArray (before (i + 1))
-      go true h = rw (before-more i, h, so-far .seats, so-far .number) (array-more (before i) i (omega (arith, all-few (hasAcked t acks) i 0)))
-      go false h = rw (before-more i, h, append-nil (before i)) (so-far .seats)
-
-  number-next : (i : ℕ) (y : Tally) → SoFar i y → y .equal + bit (holds t (ackAt acks i)) ≡ length (before (i + 1))
-  number-next i y so-far = go (holds t (ackAt acks i)) refl
-    where
-      go : (b : Bool) → holds t (ackAt acks i) ≡ b → y .equal + bit (holds t (ackAt acks i)) ≡ length (before (i + 1))
-      go true h = rw (before-more i, h, so-far .number) (sym (length-append (before i) (i ∷ [])))
-      go false h = rw (before-more i, h, so-far .number, append-nil (before i)) (add-zero (length (before i)))
 
   module _ (i : ℕ) (y : Tally) (so-far : SoFar i y) where
     pub gathers-few : (y .equal ≤ i) × (y .recorded ≤ i)
@@ -94,8 +84,10 @@ module _ (t : Transfer) (acks : List AckSlot) where
     gathers-more u s next below inside held full is =
         rw (is, held, full)
         (record {
-          seats = array-next i y below so-far;
-          number = number-next i y so-far;
+          seats =
+              rw (so-far .seats, so-far .number, before-more i)
+              (array-more (before i) i (hasAcked t acks i) (omega (arith, all-few (hasAcked t acks) i 0)));
+          number = rw (so-far .number, before-more i) (number-more (before i) i (hasAcked t acks i));
           recorded = counts-more (record { slot = Empty }) inside (so-far .recorded);
         })
 

@@ -9,20 +9,31 @@ use mathlib.Core.List.{List}
 use lib.ListN.{length, set, length-set}
 use lib.Seq.{getD-set-same, getD-set-other, set-getD, set-set, set-out}
 use Rattle.model.specs.Types.{Seat, Account, Transfer, Slot, Empty, Full, AckSlot, Entry, Ledger}
-use Rattle.model.specs.Records.{accountOf, noAcks, freshEntry, withBalance, withAcked, withAck, withProposed, withPending, withBooked, entryAt, setEntry, withEntries, entryOf, withEntry}
+use Rattle.model.specs.Records.{accountOf, noAcks, freshEntry, withBalance, withAcked, withAck, withProposed, withPending, withBooked, withRetainedOf, withRetained, withRetainedProposed, withNoneRetained, entryAt, setEntry, withEntries, entryOf, withEntry}
 
--- an entry's fields, all of them
-pub record Fields (e : Entry) (balance current : ℕ) (acked : Bool) (acks : List AckSlot) (proposed : Bool) (pending : Slot) : Type 0 where
+-- an entry's fields, all of them: what the documents name, and what is retained
+pub record Fields (e : Entry) (balance current : ℕ) (acked : Bool) (acks : List AckSlot) (proposed : Bool) (pending retained : Slot) (late : Bool) : Type 0 where
   pub balance-is : e .balance ≡ balance
   pub current-is : e .current ≡ current
   pub acked-is : e .acked ≡ acked
   pub acks-are : e .acks ≡ acks
   pub proposed-is : e .proposed ≡ proposed
   pub pending-is : e .pending ≡ pending
+  pub retained-is : e .retained ≡ retained
+  pub late-is : e .retainedProposed ≡ late
 
-pub fields-of : (e : Entry) → Fields e (e .balance) (e .current) (e .acked) (e .acks) (e .proposed) (e .pending)
+pub fields-of : (e : Entry) → Fields e (e .balance) (e .current) (e .acked) (e .acks) (e .proposed) (e .pending) (e .retained) (e .retainedProposed)
 fields-of e =
-    record { balance-is = refl; current-is = refl; acked-is = refl; acks-are = refl; proposed-is = refl; pending-is = refl }
+    record {
+      balance-is = refl;
+      current-is = refl;
+      acked-is = refl;
+      acks-are = refl;
+      proposed-is = refl;
+      pending-is = refl;
+      retained-is = refl;
+      late-is = refl;
+    }
 
 -- how many acks an account just opened has places for
 pub no-acks-length : length noAcks ≡ 16
@@ -30,28 +41,41 @@ unfolding noAcks
 no-acks-length = refl
 
 -- each setter sets what its name says, and nothing else
-pub fresh-fields : (b : ℕ) → Fields (freshEntry b) b 0 false noAcks false Empty
+pub fresh-fields : (b : ℕ) → Fields (freshEntry b) b 0 false noAcks false Empty Empty false
 fresh-fields b = fields-of (freshEntry b)
 
 module _ (e : Entry) where
-  pub balance-fields : (b : ℕ) → Fields (withBalance e b) b (e .current) (e .acked) (e .acks) (e .proposed) (e .pending)
+  pub balance-fields : (b : ℕ) → Fields (withBalance e b) b (e .current) (e .acked) (e .acks) (e .proposed) (e .pending) (e .retained) (e .retainedProposed)
   balance-fields b = fields-of (withBalance e b)
 
-  pub acked-fields : Fields (withAcked e) (e .balance) (e .current) true (e .acks) (e .proposed) (e .pending)
+  pub acked-fields : Fields (withAcked e) (e .balance) (e .current) true (e .acks) (e .proposed) (e .pending) (e .retained) (e .retainedProposed)
   acked-fields = fields-of (withAcked e)
 
   pub ack-fields : (s : Seat) (t : Transfer)
-      → Fields (withAck e s t) (e .balance) (e .current) (e .acked) (set (e .acks) (s .0) (record { slot = Full t })) (e .proposed) (e .pending)
+      → Fields (withAck e s t) (e .balance) (e .current) (e .acked) (set (e .acks) (s .0) (record { slot = Full t })) (e .proposed) (e .pending) (e .retained) (e .retainedProposed)
   ack-fields s t = fields-of (withAck e s t)
 
-  pub proposed-fields : Fields (withProposed e) (e .balance) (e .current) (e .acked) (e .acks) true (e .pending)
+  pub proposed-fields : Fields (withProposed e) (e .balance) (e .current) (e .acked) (e .acks) true (e .pending) (e .retained) (e .retainedProposed)
   proposed-fields = fields-of (withProposed e)
 
-  pub pending-fields : (t : Transfer) → Fields (withPending e t) (e .balance) (e .current) (e .acked) (e .acks) (e .proposed) (Full t)
+  pub pending-fields : (t : Transfer) → Fields (withPending e t) (e .balance) (e .current) (e .acked) (e .acks) (e .proposed) (Full t) (e .retained) (e .retainedProposed)
   pending-fields t = fields-of (withPending e t)
 
-  pub booked-fields : (m : ℕ) → Fields (withBooked e m) (e .balance) m false noAcks false Empty
+  pub booked-fields : (m : ℕ) → Fields (withBooked e m) (e .balance) m false noAcks false Empty (e .retained) (e .retainedProposed)
   booked-fields m = fields-of (withBooked e m)
+
+  pub retained-fields : (t : Transfer) → Fields (withRetained e t) (e .balance) (e .current) (e .acked) (e .acks) (e .proposed) (e .pending) (Full t) (e .proposed)
+  retained-fields t = fields-of (withRetained e t)
+
+  pub late-fields : Fields (withRetainedProposed e) (e .balance) (e .current) (e .acked) (e .acks) (e .proposed) (e .pending) (e .retained) true
+  late-fields = fields-of (withRetainedProposed e)
+
+  pub none-retained-fields : Fields (withNoneRetained e) (e .balance) (e .current) (e .acked) (e .acks) (e .proposed) (e .pending) Empty false
+  none-retained-fields = fields-of (withNoneRetained e)
+
+-- the second entry is the first with something else retained
+abbrev pub SameButRetained : Entry → Entry → Type 0
+SameButRetained e e′ = e′ ≡ withRetainedOf e e′
 
 module _ (es : List Entry) (a : Account) where
   -- what is stored for an account is read back

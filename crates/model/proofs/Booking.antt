@@ -74,21 +74,32 @@ credit-sum es r v there fits =
     let more = sum-set (λ e. e .balance) es (r .0) (credited (entryAt es r) v) (freshEntry 0) there in
     omega arith
 
--- an entry in which the slip t was just booked
-pub record Cleared (t : Transfer) (e : Entry) : Type 0 where
+-- an entry e in which the slip t was just booked: what it retains is what the entry before it did
+pub record Cleared (t : Transfer) (before e : Entry) : Type 0 where
   pub current-is : e .current ≡ t .number
   pub not-acked : e .acked ≡ false
   pub no-acks : e .acks ≡ noAcks
   pub not-proposed : e .proposed ≡ false
   pub none-pending : e .pending ≡ Empty
+  pub retained-same : e .retained ≡ before .retained
+  pub late-same : e .retainedProposed ≡ before .retainedProposed
 
-cleared : (e e′ : Entry) (t : Transfer) → SameButBalance (debited e t) e′ → Cleared t e′
+cleared : (e e′ : Entry) (t : Transfer) → SameButBalance (debited e t) e′ → Cleared t e e′
 cleared e e′ t same =
-    rw same (record { current-is = refl; not-acked = refl; no-acks = refl; not-proposed = refl; none-pending = refl })
+    rw same
+    (record {
+      current-is = refl;
+      not-acked = refl;
+      no-acks = refl;
+      not-proposed = refl;
+      none-pending = refl;
+      retained-same = refl;
+      late-same = refl;
+    })
 
 -- and stays so where nothing but the balance changes
-pub cleared-kept : (e e′ : Entry) (t : Transfer) → SameButBalance e e′ → Cleared t e → Cleared t e′
-cleared-kept e e′ t same clear =
+pub cleared-kept : (before e e′ : Entry) (t : Transfer) → SameButBalance e e′ → Cleared t before e → Cleared t before e′
+cleared-kept before e e′ t same clear =
     rw same
     (record {
       current-is = clear .current-is;
@@ -96,6 +107,8 @@ cleared-kept e e′ t same clear =
       no-acks = clear .no-acks;
       not-proposed = clear .not-proposed;
       none-pending = clear .none-pending;
+      retained-same = clear .retained-same;
+      late-same = clear .late-same;
     })
 
 -- account a has a waiting slip that its balance covers
@@ -123,7 +136,7 @@ module _ (es : List Entry) (a : Account) (at : Affordable es a) where
   apply-is = ap (applySlot es a) (at .waits)
 
   -- it sets the number and clears the account's acks and marks
-  pub apply-clears : Cleared (at .transfer) (entryAt (apply es a) a)
+  pub apply-clears : Cleared (at .transfer) (entryAt es a) (entryAt (apply es a) a)
   unfolding taken paid t
   apply-clears =
       rw apply-is

@@ -14,7 +14,7 @@ use Rattle.model.specs.Acks.{hasMost, mostAcked}
 use Rattle.model.specs.Gathering.{gathered}
 use Rattle.model.specs.Settling.{lowestAffordable, apply, settleAtMost, settle}
 use Rattle.model.specs.Calls.{step}
-use Rattle.model.specs.Switches.{firstRules, sinceRequest3, stepUnder}
+use Rattle.model.specs.Switches.{firstRules, sinceRequest3, sinceRequest5, stepUnder}
 use Rattle.model.specs.Bundles.{checkBundle}
 use Rattle.model.specs.Writing.{written}
 use Rattle.model.proofs.Rows.{slip, ackBy, pageWith, A, B, C, K, N, P, R, _gives_, everyKind, offered, Row, acksNeeded, opens, runs, runsAcross, putsForward, gathers, lists, sums, checks, counts, shows, showsOpening, reads, writes, fits, leaves, rowHolds}
@@ -127,9 +127,68 @@ switching =
     (Decision w gives K 1 ∷ Circulated w gives R 6 ∷ Decision (slip 0 2 11 0) gives K 0 ∷ Circulated (slip 0 2 4 0) gives R 8 ∷ [])
     (Circulated w gives R 20 ∷ Circulated (slip 0 2 4 0) gives R 20 ∷ Circulated (slip 0 2 4 1) gives R 8 ∷ Decision (slip 1 1 1 0) gives K 2 ∷ [])
     (11 ∷ 4 ∷ [])
-    ∷ runsAcross sinceRequest3 6 1 (10 ∷ 5 ∷ []) (Circulated w gives R 20 ∷ Circulated t gives A ∷ [])
+    ∷ runsAcross sinceRequest5 6 1 (10 ∷ 5 ∷ []) (Circulated w gives R 20 ∷ Circulated t gives A ∷ [])
     (Circulated w gives R 20 ∷ Circulated u gives R 12 ∷ [])
     (10 ∷ 5 ∷ [])
+    ∷ []
+
+-- Document 02, request 5: a seat that has accepted joins in. With one seat, which accepts alone; behind 4 and 5, before 6, by an ack alone and once; before 8,
+-- and used up when the slip is booked; used up by a P before the acceptance, of a number that is booked and of one that waits; the mark of the retained number
+-- is not that of the next; a number below the retained one; an ack that was recorded before the acceptance and comes again, never 9 or 10, also where acks
+-- accepted; and that nothing but the mark changes: neither this seat's mark, nor the next number's, nor its acks, of which the late one is none.
+pub late : List Row
+late =
+    runs 1 0 (10 ∷ 3 ∷ []) (ackBy 0 t gives K 1 ∷ ackBy 0 t gives R 6 ∷ ackBy 0 u gives P t ∷ ackBy 0 u gives R 6 ∷ ackBy 0 w gives R 6 ∷ []) (6 ∷ 7 ∷ [])
+    ∷ runs 6 1 (10 ∷ 3 ∷ [])
+    (ackBy 0 u gives N ∷ Decision t gives K 1 ∷ ackBy 6 u gives R 4 ∷ ackBy 0 (slip 0 1 14 1) gives R 5 ∷ ackBy 0 (slip 0 1 5 2) gives R 5
+    ∷ ackBy 0 (slip 0 1 0 1) gives R 5 ∷ Request u gives R 6 ∷ Circulated u gives R 6 ∷ Decision u gives R 6 ∷ ackBy 1 t gives R 6
+    ∷ ackBy 1 u gives P t ∷ ackBy 1 u gives R 6 ∷ ackBy 2 x gives R 6 ∷ [])
+    (6 ∷ 7 ∷ [])
+    ∷ runs 6 1 (0 ∷ 5 ∷ [])
+    (Decision t gives K 0 ∷ Request u gives R 8 ∷ Circulated u gives R 8 ∷ Decision u gives R 8 ∷ ackBy 0 t gives R 8 ∷ ackBy 0 (slip 0 2 4 1) gives R 7
+    ∷ ackBy 0 u gives P t ∷ ackBy 1 u gives R 8 ∷ Decision (slip 1 1 5 0) gives K 2 ∷ ackBy 2 u gives R 6 ∷ ackBy 0 (slip 1 1 4 0) gives P (slip 1 1 5 0) ∷ [])
+    (1 ∷ 4 ∷ [])
+    ∷ runs 2 0 (10 ∷ 3 ∷ [])
+    (ackBy 0 t gives N ∷ ackBy 1 u gives P t ∷ Decision u gives K 1 ∷ ackBy 0 t gives R 6 ∷ ackBy 1 w gives R 6
+    ∷ ackBy 0 (slip 0 2 9 1) gives N ∷ ackBy 1 (slip 0 2 8 1) gives P (slip 0 2 9 1) ∷ Decision (slip 0 2 8 1) gives K 0 ∷ ackBy 0 (slip 0 2 9 1) gives R 8 ∷ [])
+    (5 ∷ 8 ∷ [])
+    ∷ runs 2 0 (10 ∷ 3 ∷ [])
+    (Decision t gives K 1 ∷ ackBy 0 (slip 0 2 1 1) gives N ∷ ackBy 1 (slip 0 2 2 1) gives P (slip 0 2 1 1) ∷ ackBy 0 u gives P t ∷ ackBy 1 u gives R 6
+    ∷ Decision (slip 0 2 2 1) gives K 1 ∷ ackBy 0 (slip 0 2 1 1) gives R 6 ∷ [])
+    (4 ∷ 9 ∷ [])
+    ∷ runs 2 0 (10 ∷ 3 ∷ [])
+    (Decision t gives K 1 ∷ Decision (slip 0 2 1 1) gives K 1 ∷ ackBy 0 u gives R 6 ∷ ackBy 0 (slip 0 2 2 1) gives P (slip 0 2 1 1) ∷ [])
+    (5 ∷ 8 ∷ [])
+    ∷ runs 6 1 (0 ∷ 5 ∷ []) (ackBy 5 u gives N ∷ ackBy 4 t gives N ∷ Decision t gives K 0 ∷ ackBy 4 t gives R 8 ∷ ackBy 5 u gives P t ∷ ackBy 5 u gives R 8 ∷ ackBy 5 w gives R 8 ∷ []) (0 ∷ 5 ∷ [])
+    ∷ runs 3 0 (10 ∷ 3 ∷ []) (ackBy 0 u gives N ∷ ackBy 1 t gives N ∷ ackBy 2 t gives K 1 ∷ ackBy 0 u gives P t ∷ ackBy 0 u gives R 6 ∷ []) (6 ∷ 7 ∷ [])
+    ∷ runs 2 0 (10 ∷ 3 ∷ [])
+    (Decision t gives K 1 ∷ Circulated (slip 0 2 1 1) gives A ∷ ackBy 0 u gives P t ∷ Circulated (slip 0 2 1 1) gives R 12 ∷ ackBy 0 (slip 0 2 1 1) gives N
+    ∷ ackBy 1 (slip 0 2 2 1) gives P (slip 0 2 1 1) ∷ ackBy 0 u gives R 6 ∷ [])
+    (6 ∷ 7 ∷ [])
+    ∷ runs 3 0 (10 ∷ 3 ∷ [])
+    (Decision t gives K 1 ∷ ackBy 2 u gives P t ∷ ackBy 0 (slip 0 2 1 1) gives N ∷ ackBy 1 (slip 0 2 2 1) gives N ∷ Circulated (slip 0 2 1 1) gives A ∷ [])
+    (6 ∷ 7 ∷ [])
+    ∷ runs 3 0 (10 ∷ 3 ∷ [])
+    (Decision t gives K 1 ∷ ackBy 0 (slip 0 2 1 1) gives N ∷ ackBy 2 u gives P t ∷ ackBy 0 (slip 0 2 1 1) gives R 9 ∷ [])
+    (6 ∷ 7 ∷ [])
+    ∷ []
+
+-- The same across a switch. Under the rules since request 3, and under the first, an accepted number puts nothing forward. A seat that goes on retains what
+-- waits: account 2's slip with nothing put forward, so P; account 3's with a P before its acceptance, so 8; and not account 0's, which is booked. What it
+-- accepts from then on is retained. Under the newest rules a switch drops nothing.
+pub takenOver : List Row
+takenOver =
+    runsAcross sinceRequest3 6 1 (10 ∷ 3 ∷ 0 ∷ 0 ∷ [])
+    (Decision t gives K 1 ∷ ackBy 0 u gives R 6 ∷ Decision (slip 2 1 9 0) gives K 0 ∷ ackBy 0 (slip 2 1 8 0) gives R 8
+    ∷ ackBy 0 (slip 3 1 9 0) gives N ∷ ackBy 1 (slip 3 1 9 0) gives N ∷ ackBy 2 (slip 3 1 9 0) gives N ∷ ackBy 3 (slip 3 1 8 0) gives N
+    ∷ ackBy 4 (slip 3 1 8 0) gives P (slip 3 1 9 0) ∷ Decision (slip 3 1 8 0) gives K 0 ∷ ackBy 5 (slip 3 1 9 0) gives R 8 ∷ [])
+    (ackBy 0 u gives R 6 ∷ ackBy 0 (slip 2 1 9 0) gives R 8 ∷ ackBy 0 (slip 2 1 8 0) gives P (slip 2 1 9 0) ∷ ackBy 1 (slip 2 1 8 0) gives R 8
+    ∷ ackBy 5 (slip 3 1 9 0) gives R 8 ∷ Decision (slip 0 2 1 1) gives K 1 ∷ ackBy 0 (slip 0 2 2 1) gives P (slip 0 2 1 1) ∷ [])
+    (5 ∷ 8 ∷ 0 ∷ 0 ∷ [])
+    ∷ runsAcross firstRules 6 1 (10 ∷ 3 ∷ []) (Decision t gives K 1 ∷ ackBy 0 u gives R 6 ∷ Decision (slip 0 2 9 1) gives K 0 ∷ ackBy 0 (slip 0 2 8 1) gives R 8 ∷ [])
+    (ackBy 0 u gives R 6 ∷ ackBy 0 (slip 0 2 8 1) gives R 8 ∷ [])
+    (6 ∷ 7 ∷ [])
+    ∷ runsAcross sinceRequest5 6 1 (10 ∷ 3 ∷ []) (Decision t gives K 1 ∷ []) (ackBy 0 u gives P t ∷ ackBy 0 u gives R 6 ∷ []) (6 ∷ 7 ∷ [])
     ∷ []
 
 -- Document 02, request 4: which seats are gathered for a slip. The case split 3, 3, 1, each of its slips; a slip that nobody acked, and one that differs in
@@ -148,7 +207,7 @@ gathering =
     ∷ []
 
 -- Further cases, in document 01's order: daybook's whole output; a seat's second ack;
--- the mark cleared at booking; no slip put forward once one is accepted; 12 before 11; each code, and 5 to 8 under each kind of call.
+-- the mark cleared at booking; only the accepted slip put forward once one is accepted; 12 before 11; each code, and 5 to 8 under each kind of call.
 pub further : List Row
 further =
     runs 6 1 (10 ∷ 3 ∷ [])
@@ -161,7 +220,7 @@ further =
     ∷ Circulated (slip 0 3 6 1) gives R 7 ∷ [])
     (6 ∷ 7 ∷ [])
     ∷ runs 6 1 (0 ∷ 5 ∷ [])
-    (Decision t gives K 0 ∷ ackBy 0 u gives R 8 ∷ Decision u gives R 8 ∷ Request t gives R 8 ∷ Inquiry (accountOf 2) gives R 5 ∷ [])
+    (Decision t gives K 0 ∷ ackBy 0 u gives P t ∷ ackBy 0 u gives R 8 ∷ Decision u gives R 8 ∷ Request t gives R 8 ∷ Inquiry (accountOf 2) gives R 5 ∷ [])
     (0 ∷ 5 ∷ [])
     ∷ runs 6 1 (10 ∷ 5 ∷ [])
     (Circulated (slip 0 1 10 1) gives A ∷ Circulated (slip 0 1 11 1) gives R 12 ∷ Request (slip 0 1 11 1) gives R 11
@@ -172,7 +231,7 @@ further =
     ++ everyKind (slip 0 1 0 1) (R 5) ++ everyKind (slip 0 1 14 1) (R 5) ++ everyKind (slip 0 2 4 1) (R 7)
     ++ (Decision t gives K 1 ∷ []) ++ everyKind t (R 6) ++ everyKind (slip 0 3 4 1) (R 7))
     (6 ∷ 7 ∷ [])
-    ∷ runs 6 1 (0 ∷ 5 ∷ []) ((Decision t gives K 0 ∷ []) ++ everyKind t (R 8) ++ everyKind u (R 8)) (0 ∷ 5 ∷ [])
+    ∷ runs 6 1 (0 ∷ 5 ∷ []) ((Decision t gives K 0 ∷ []) ++ everyKind t (R 8) ++ (ackBy 0 u gives P t ∷ []) ++ everyKind u (R 8)) (0 ∷ 5 ∷ [])
     ∷ opens (pageWith 1 0 (10 ∷ [])) (0 ∷ [])
     ∷ opens (pageWith 16 3 (replicate 32 1)) (0 ∷ [])
     ∷ opens (pageWith 0 0 (10 ∷ [])) (1 ∷ [])
@@ -294,9 +353,11 @@ pub facts : T (every rowHolds marked)
     × T (every rowHolds tied)
     × T (every rowHolds selfPaid)
     × T (every rowHolds switching)
+    × T (every rowHolds late)
+    × T (every rowHolds takenOver)
     × T (every rowHolds gathering)
     × T (every rowHolds further)
     × T (every rowHolds format)
     × T (every rowHolds writing)
-unfolding marked tied selfPaid switching gathering further format writing written noAcks equal conflict hasMost mostAcked gathered openReply openLedger lowestAffordable apply settleAtMost settle step stepUnder checkBundle
-facts = (tt, tt, tt, tt, tt, tt, tt, tt)
+unfolding marked tied selfPaid switching late takenOver gathering further format writing written noAcks equal conflict hasMost mostAcked gathered openReply openLedger lowestAffordable apply settleAtMost settle step stepUnder checkBundle
+facts = (tt, tt, tt, tt, tt, tt, tt, tt, tt, tt)

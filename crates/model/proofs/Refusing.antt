@@ -3,19 +3,19 @@
 use Prim.Native.Nat.{ℕ, _+_}
 use native.Mathlib.Omega.{arith}
 use borrow.Author.Tests.{leb-false, ltb-false}
-use mathlib.Core.Path.{_≡_, refl, ap, sym, _∙_}
+use mathlib.Core.Path.{_≡_, refl, ap, sym, subst, _∙_}
 use mathlib.Core.Logic.{_⊎_, inl, inr}
 use mathlib.Core.Bool.{Bool, true, false, cond}
 use mathlib.Core.List.{List, [], _∷_}
 use mathlib.Core.Option.{Option, none, some}
 use lib.Dec.{leb·zero}
 use Rattle.model.specs.Types.{Account, Transfer, Entry, Ledger, Outcome, Opening, Refusal, UnknownSeat, OutOfRange, Message, Request, Circulated, Ack, Decision, Inquiry, Reply, Propose, Note, Refuse, OpenRefused, ListRefused}
-use Rattle.model.specs.Records.{freshLedger, noLedger, withAck, withProposed, entryOf}
+use Rattle.model.specs.Records.{freshLedger, noLedger, withAck, withProposed, withRetainedOf}
 use Rattle.model.specs.Refusals.{Rule, firstRefusal, pastNumber, futureNumber, listRules}
 use Rattle.model.specs.Openings.{openRules, openReplyBy, openReply, openLedgerBy, openLedger}
 use Rattle.model.specs.Acks.{acksFor, acksRecorded, enough, mustPropose, mostAcked}
-use Rattle.model.specs.Calls.{payerOf, Effect, replies, waits, tallied, effect, unlessRefused, finished, rulesIn, step, Lists, ListsUnlessRefused}
-use Rattle.model.specs.Switches.{Rules, newest, rulesMet, stepUnder}
+use Rattle.model.specs.Calls.{payerOf, Due, replied, accepts, Effect, replies, waits, tallied, effect, unlessRefused, joins, finishedBy, finished, entryFor, lateIn, rulesIn, step, Lists, ListsUnlessRefused}
+use Rattle.model.specs.Switches.{Rules, firstRules, sinceRequest3, sinceRequest5, newest, rulesMet, lateMet, effectUnder, stepUnder}
 use Rattle.model.proofs.Sums.{impossible}
 use Rattle.model.proofs.Access.{with-entry-read}
 
@@ -52,69 +52,112 @@ pub next-number : (e : Entry) (t : Transfer) → pastNumber e t ≡ false → fu
 next-number e t past future =
     omega (arith, leb-false (t .number) (e .current) past, ltb-false (e .current + 1) (t .number) future)
 
--- the reply is no refusal
-abbrev NeverRefuses : Reply → Type 0
-NeverRefuses q = (r : Refusal) → q ≡ Refuse r → ⊥
+-- what is due is no refusal
+abbrev NeverRefuses : Due → Type 0
+NeverRefuses (replied q) = (r : Refusal) → q ≡ Refuse r → ⊥
+NeverRefuses accepts = Unit {0}
 
 -- what is true of K, of P and of N is true of what the tally decides
 pub by-tally : (P : Effect → Type 0) (l : Ledger) (e : Entry) (t : Transfer)
     → P (waits e t) → P (replies (Propose (mostAcked (e .acks))) (withProposed e)) → P (replies Note e) → P (tallied l e t)
-by-tally P l e t accepts proposes notes =
+by-tally P l e t accepted proposes notes =
     go (enough (l .seats) (l .faults) (acksFor t (e .acks))) (mustPropose (l .seats) (l .faults) (acksRecorded (e .acks)) e)
   where
     go : (full split : Bool)
         → P (cond full (waits e t) (cond split (replies (Propose (mostAcked (e .acks))) (withProposed e)) (replies Note e)))
-    go true split = accepts
+    go true split = accepted
     go false true = proposes
     go false false = notes
 
-tallied-never : (l : Ledger) (a : Account) (e : Entry) (t : Transfer) → NeverRefuses (finished l a (tallied l e t) .reply)
-tallied-never l a e t =
-    by-tally (λ x. NeverRefuses (finished l a x .reply)) l e t
-    (λ r h. impossible (cc)) (λ r h. impossible (cc)) (λ r h. impossible (cc))
+effect-never : (l : Ledger) (e : Entry) (m : Message) → NeverRefuses (effect l e m .due)
+effect-never l e (Request t) = λ r h. impossible (cc)
+effect-never l e (Circulated t) = λ r h. impossible (cc)
+effect-never l e (Ack s t) = by-tally (λ x. NeverRefuses (x .due)) l (withAck e s t) t tt (λ r h. impossible (cc)) (λ r h. impossible (cc))
+effect-never l e (Decision t) = tt
+effect-never l e (Inquiry b) = λ r h. impossible (cc)
 
-effect-never : (l : Ledger) (a : Account) (e : Entry) (m : Message) → NeverRefuses (finished l a (effect l e m) .reply)
-effect-never l a e (Request t) r h = impossible (cc)
-effect-never l a e (Circulated t) r h = impossible (cc)
-effect-never l a e (Ack s t) r h = tallied-never l a (withAck e s t) t r h
-effect-never l a e (Decision t) r h = impossible (cc)
-effect-never l a e (Inquiry b) r h = impossible (cc)
+-- and so is no reply
+finished-never : (l : Ledger) (a : Account) (d : Due) (e : Entry) → NeverRefuses d → (r : Refusal) → finishedBy l a d e .reply ≡ Refuse r → ⊥
+finished-never l a (replied q) e never r h = never r h
+finished-never l a accepts e never r h = impossible (cc)
 
--- the outcome of a message where none of its rules holds, and the outcome of a refusal
-abbrev pub effectIn : Ledger → Message → Outcome
-effectIn l m = finished l (payerOf m) (effect l (entryOf l (payerOf m)) m)
+-- under no set of rules is anything else due
+pub due-under : (v : Rules) (e : Entry) (x : Effect) → effectUnder v e x .due ≡ x .due
+due-under firstRules e x = refl
+due-under sinceRequest3 e x = refl
+due-under sinceRequest5 e x = refl
+
+under-never : (v : Rules) (l : Ledger) (a : Account) (e : Entry) (x : Effect) → NeverRefuses (x .due)
+    → (r : Refusal) → finished l a (effectUnder v e x) .reply ≡ Refuse r → ⊥
+under-never v l a e x never =
+    finished-never l a (effectUnder v e x .due) (effectUnder v e x .entry) (subst NeverRefuses (sym (due-under v e x)) never)
+
+-- a reply that leaves what is retained is the same under every set of rules
+pub replies-under : (v : Rules) (e x : Entry) (r : Reply) → withRetainedOf x e ≡ x
+    → effectUnder v e (replies r x) ≡ replies r x
+replies-under firstRules e x r same = ap (replies r) same
+replies-under sinceRequest3 e x r same = ap (replies r) same
+replies-under sinceRequest5 e x r same = refl
+
+-- The outcome of a message under a set of rules where none of its rules holds; of a late P; and of a refusal.
+abbrev pub effectIn : Rules → Ledger → Message → Outcome
+effectIn v l m = finished l (payerOf m) (effectUnder v (entryFor l m) (effect l (entryFor l m) m))
+
+abbrev pub joinsIn : Ledger → Message → Outcome
+joinsIn l m = finished l (payerOf m) (joins (entryFor l m))
 
 abbrev pub refusal : Refusal → Ledger → Outcome
 refusal r l = record { reply = Refuse r; next = l }
 
--- a reply R names the first rule that holds
-pub refused-by : (v : Rules) (l : Ledger) (m : Message) (r : Refusal) → stepUnder v l m .reply ≡ Refuse r → firstRefusal (rulesMet v l m) ≡ some r
+-- a reply R names the first rule that holds, and no late P was due
+pub refused-by : (v : Rules) (l : Ledger) (m : Message) (r : Refusal) → stepUnder v l m .reply ≡ Refuse r
+    → (lateMet v l m ≡ false) × (firstRefusal (rulesMet v l m) ≡ some r)
 unfolding stepUnder
-refused-by v l m r h = go (firstRefusal (rulesMet v l m)) h
+refused-by v l m r h = go (lateMet v l m) (firstRefusal (rulesMet v l m)) h
   where
     a : Account
     a = payerOf m
 
     e : Entry
-    e = entryOf l a
+    e = entryFor l m
 
-    go : (o : Option Refusal) → finished l a (unlessRefused o e (effect l e m)) .reply ≡ Refuse r → o ≡ some r
-    go none h = absurd (effect-never l a e m r h)
-    go (some q) h = cc
+    go : (late : Bool) (o : Option Refusal)
+        → finished l a (effectUnder v e (cond late (joins e) (unlessRefused o e (effect l e m)))) .reply ≡ Refuse r
+        → (late ≡ false) × (o ≡ some r)
+    go true o h = absurd (under-never v l a e (joins e) (λ q k. impossible (cc)) r h)
+    go false none h = absurd (under-never v l a e (effect l e m) (effect-never l e m) r h)
+    go false (some q) h =
+        let said : Refuse q ≡ Refuse r = rw (replies-under v e e (Refuse q) refl) at h in
+        (refl, cc)
 
 -- a message that a rule refuses replies its code and changes nothing
-pub refuses : (v : Rules) (l : Ledger) (m : Message) (r : Refusal) → firstRefusal (rulesMet v l m) ≡ some r → stepUnder v l m ≡ refusal r l
+pub refuses : (v : Rules) (l : Ledger) (m : Message) (r : Refusal) → lateMet v l m ≡ false → firstRefusal (rulesMet v l m) ≡ some r
+    → stepUnder v l m ≡ refusal r l
 unfolding stepUnder
-refuses v l m r e = rw e (ap (refusal r) (with-entry-read l (payerOf m)))
+refuses v l m r late e =
+    rw (late, e, replies-under v (entryFor l m) (entryFor l m) (Refuse r) refl) (ap (refusal r) (with-entry-read l (payerOf m)))
 
 -- a refusal changes nothing
 pub refusal-keeps : (v : Rules) (l : Ledger) (m : Message) (r : Refusal) → stepUnder v l m .reply ≡ Refuse r → stepUnder v l m .next ≡ l
-refusal-keeps v l m r h = rw (refuses v l m r (refused-by v l m r h))
+refusal-keeps v l m r h = let by = refused-by v l m r h in rw (refuses v l m r (by .0) (by .1))
 
 -- a message that no rule refuses has its effect
-pub not-refused : (v : Rules) (l : Ledger) (m : Message) → firstRefusal (rulesMet v l m) ≡ none → stepUnder v l m ≡ effectIn l m
+pub not-refused : (v : Rules) (l : Ledger) (m : Message) → lateMet v l m ≡ false → firstRefusal (rulesMet v l m) ≡ none
+    → stepUnder v l m ≡ effectIn v l m
 unfolding stepUnder
-not-refused v l m e = rw e
+not-refused v l m late e = rw (late, e) refl
+
+-- a late P is due under the newest rules alone, and then nothing else is
+pub late-since : (v : Rules) (l : Ledger) (m : Message) → lateMet v l m ≡ true → v ≡ sinceRequest5
+late-since firstRules l m late = impossible (cc)
+late-since sinceRequest3 l m late = impossible (cc)
+late-since sinceRequest5 l m late = refl
+
+pub joins-in : (v : Rules) (l : Ledger) (m : Message) → lateMet v l m ≡ true → stepUnder v l m ≡ joinsIn l m
+unfolding stepUnder
+joins-in v l m late =
+    let since = late-since v l m late in
+    rw late (ap (λ (w : Rules). finished l (payerOf m) (effectUnder w (entryFor l m) (joins (entryFor l m)))) since)
 
 -- today's step is the step under the newest rules
 pub newest-step : (l : Ledger) (m : Message) → stepUnder newest l m ≡ step l m
@@ -132,14 +175,14 @@ open-refused o r h l = go (firstRefusal (openRules o)) h
 
 -- the ledger with no seats and no accounts, which words that are all 0 are, refuses every message: acks with 4, all others with 5
 pub no-ledger-refuses : (m : Message) → (r : Refusal) × (step noLedger m ≡ refusal r noLedger)
-no-ledger-refuses m = (first m .0, sym (newest-step noLedger m) ∙ refuses newest noLedger m (first m .0) (first m .1))
+no-ledger-refuses m = (first m .0, sym (newest-step noLedger m) ∙ refuses newest noLedger m (first m .0) (first m .1) (first m .2))
   where
-    first : (m : Message) → (r : Refusal) × (firstRefusal (rulesIn noLedger m) ≡ some r)
-    first (Request t) = (OutOfRange, rw (leb·zero (t .account .0)))
-    first (Circulated t) = (OutOfRange, rw (leb·zero (t .account .0)))
-    first (Ack s t) = (UnknownSeat, rw (leb·zero (s .0)))
-    first (Decision t) = (OutOfRange, rw (leb·zero (t .account .0)))
-    first (Inquiry a) = (OutOfRange, rw (leb·zero (a .0)))
+    first : (m : Message) → (r : Refusal) × (lateIn noLedger m ≡ false) × (firstRefusal (rulesIn noLedger m) ≡ some r)
+    first (Request t) = (OutOfRange, refl, rw (leb·zero (t .account .0)))
+    first (Circulated t) = (OutOfRange, refl, rw (leb·zero (t .account .0)))
+    first (Ack s t) = (UnknownSeat, rw (leb·zero (s .0)), rw (leb·zero (s .0)))
+    first (Decision t) = (OutOfRange, refl, rw (leb·zero (t .account .0)))
+    first (Inquiry a) = (OutOfRange, refl, rw (leb·zero (a .0)))
 
 -- a refused waiting list leaves the buffer as it was
 pub list-refused : (l : Ledger) (before after : List ℕ) (r : Refusal) → Lists l before (ListRefused r) after → after ≡ before

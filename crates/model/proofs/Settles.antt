@@ -170,7 +170,7 @@ settle-sum =
 -- What settling made of an entry: nothing but its balance changed, or the slip that waited in it was booked.
 pub data Turned (e e′ : Entry) : Type 0 where
   kept : SameButBalance e e′ → Turned e e′
-  booked : (t : Transfer) → e .pending ≡ Full t → Cleared t e′ → Turned e e′
+  booked : (t : Transfer) → e .pending ≡ Full t → Cleared t e e′ → Turned e e′
 
 -- and so for every account
 pub settle-entry : (b : Account) (es : List Entry) → Turned (entryAt es b) (entryAt (settle es .entries) b)
@@ -182,13 +182,13 @@ settle-entry b =
         → Turned (entryAt (apply es a) b) (entryAt (settle (apply es a) .entries) b)
         → Dec (b .0 ≡ a .0) → Turned (entryAt es b) (entryAt (settle (apply es a) .entries) b)
     go es a at rest (yes same) =
-        let clear : Cleared (at .affords-it .transfer) (entryAt (apply es a) b) = rw same (apply-clears es a (at .affords-it)) in
+        let clear : Cleared (at .affords-it .transfer) (entryAt es b) (entryAt (apply es a) b) = rw same (apply-clears es a (at .affords-it)) in
         after rest clear
       where
         after : Turned (entryAt (apply es a) b) (entryAt (settle (apply es a) .entries) b)
-            → Cleared (at .affords-it .transfer) (entryAt (apply es a) b)
+            → Cleared (at .affords-it .transfer) (entryAt es b) (entryAt (apply es a) b)
             → Turned (entryAt es b) (entryAt (settle (apply es a) .entries) b)
-        after (kept more) clear = booked (at .affords-it .transfer) (rw same (at .affords-it .waits)) (cleared-kept _ _ _ more clear)
+        after (kept more) clear = booked (at .affords-it .transfer) (rw same (at .affords-it .waits)) (cleared-kept _ _ _ _ more clear)
         after (booked t waits done) clear = impossible (cc (waits, clear .none-pending))
     go es a at rest (no other) = after rest (apply-others es a (at .affords-it) b other)
       where
@@ -196,12 +196,22 @@ settle-entry b =
             → SameButBalance (entryAt es b) (entryAt (apply es a) b)
             → Turned (entryAt es b) (entryAt (settle (apply es a) .entries) b)
         after (kept more) first = kept (rw (more, first))
-        after (booked t waits done) first = booked t (ap (λ (e : Entry). e .pending) (sym first) ∙ waits) done
+        after (booked t waits done) first =
+            booked t (ap (λ (e : Entry). e .pending) (sym first) ∙ waits)
+            (record {
+              current-is = done .current-is;
+              not-acked = done .not-acked;
+              no-acks = done .no-acks;
+              not-proposed = done .not-proposed;
+              none-pending = done .none-pending;
+              retained-same = done .retained-same ∙ ap (λ (e : Entry). e .retained) first;
+              late-same = done .late-same ∙ ap (λ (e : Entry). e .retainedProposed) first;
+            })
 
 -- what holds of each account's entry, and stays where the balance changes and where a slip is booked, holds of each after settling
 pub settle-each : (I : Account → Entry → Type 0)
     → ((a : Account) (e e′ : Entry) → SameButBalance e e′ → I a e → I a e′)
-    → ((a : Account) (e e′ : Entry) (t : Transfer) → e .pending ≡ Full t → Cleared t e′ → I a e → I a e′)
+    → ((a : Account) (e e′ : Entry) (t : Transfer) → e .pending ≡ Full t → Cleared t e e′ → I a e → I a e′)
     → (es : List Entry) → ((a : Account) → I a (entryAt es a)) → (a : Account) → I a (entryAt (settle es .entries) a)
 settle-each I on-balance on-booked es each a = go (settle-entry a es)
   where

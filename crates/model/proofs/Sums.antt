@@ -3,7 +3,7 @@ use Prim.Native.Nat.{ℕ, zero, suc, _+_, _≤_, _<_}
 use native.Mathlib.Nat.{le-of-suc-le-suc, not-suc-le-zero}
 use native.Mathlib.Decide.{ℕ-discrete}
 use native.Mathlib.Omega.{arith}
-use mathlib.Core.Path.{_≡_, refl, ap}
+use mathlib.Core.Path.{_≡_, refl, ap, sym}
 use mathlib.Core.Bool.{Bool, true, false, _&&_, _||_, or-true}
 use mathlib.Core.List.{List, [], _∷_, map}
 use mathlib.Core.Option.{none, some}
@@ -53,6 +53,12 @@ sum-map f g (x ∷ xs) = ap (λ (n : ℕ). f (g x) + n) (sum-map f g xs)
 -- from two numbers that differ, anything
 pub impossible : {A : Type 0} → _≡_ {A = ℕ} 0 1 → A
 impossible e = absurd (omega arith)
+
+-- tests that hold of the same
+pub same-test : (a b : Bool) → (a ≡ true → b ≡ true) → (b ≡ true → a ≡ true) → a ≡ b
+same-test true b forth back = sym (forth refl)
+same-test false true forth back = impossible (cc (back refl))
+same-test false false forth back = refl
 
 -- a test that some element passes: one that does, and its place
 pub any-found : {A : Type 0} (p : A → Bool) (xs : List A) (d : A) → any p xs ≡ true → (i : ℕ) × (i < length xs) × (p (getD xs i d) ≡ true)

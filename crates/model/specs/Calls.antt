@@ -1,18 +1,18 @@
--- Document 01, "What each message does": for each kind of call the reply and the ledger after it. A message is about one account. What it comes to
--- is said of that account's entry (`turnBy`), which is then stored; and where its slip is accepted, settling begins (`stepBy`). `step` is by today's
--- rules; how earlier rules differ is in Switches.antt.
+-- Document 01, "What each message does": for each kind of call the reply and the ledger after it; and document 02, request 5: the late P. A message is
+-- about one account. What it comes to is said of that account's entry (`turnBy`), which is then stored; and where its slip is accepted, settling begins
+-- (`finished`). `step` is by today's rules; how earlier rules differ is in Switches.antt.
 use Prim.Native.Nat.{ℕ}
 use mathlib.Core.Path.{_≡_}
-use mathlib.Core.Bool.{cond}
+use mathlib.Core.Bool.{Bool, false, cond, not, _&&_, _||_}
 use mathlib.Core.List.{List, _++_}
 use mathlib.Core.Option.{Option, none, some}
 use lib.Dec.{eqb}
 use lib.ListN.{length, drop}
 use Rattle.model.specs.Types.{Account, Transfer, Entry, Ledger, Outcome, Refusal, Message, Request, Circulated, Ack, Decision, Inquiry, Reply, Circulate, Acknowledge, Accept, Propose, Note, Balance, Refuse, ListReply, Listed, ListRefused}
 use Rattle.model.specs.Basics.{bit, count}
-use Rattle.model.specs.Records.{accountOf, entryOf, setEntry, withEntry, withEntries, withAcked, withAck, withProposed, withPending}
-use Rattle.model.specs.Refusals.{Rule, firstRefusal, rulesOf, listRules}
-use Rattle.model.specs.Acks.{acksFor, acksRecorded, enough, mustPropose, mostAcked}
+use Rattle.model.specs.Records.{accountOf, entryOf, setEntry, withEntry, withEntries, withAcked, withAck, withProposed, withPending, withRetained, withRetainedProposed}
+use Rattle.model.specs.Refusals.{Rule, firstRefusal, unknownSeat, outOfRange, rulesOf, listRules}
+use Rattle.model.specs.Acks.{conflicts, acksFor, acksRecorded, enough, mustPropose, slipIn, mostAcked}
 use Rattle.model.specs.Settling.{isWaiting, Settled, settle}
 
 -- the account that a message is about: who pays, or the account asked for
@@ -37,9 +37,10 @@ pub record Effect : Type 0 where
 abbrev pub replies : Reply → Entry → Effect
 replies r e = record { due = replied r; entry = e }
 
--- "its slip is accepted: reply K": "An accepted slip waits"
+-- "its slip is accepted: reply K": "An accepted slip waits". And "The book retains for each account the latest accepted slip, waiting or booked, and whether
+-- anything was put forward for its number": in place of what it retained before
 abbrev pub waits : Entry → Transfer → Effect
-waits e t = record { due = accepts; entry = withPending e t }
+waits e t = record { due = accepts; entry = withPending (withRetained e t) t }
 
 -- "If twice the count of acks equal to this slip exceeds n + 3f, the slip is accepted: reply K. Otherwise, if .. reply P ..
 -- Otherwise reply N": what follows from the account's entry in which the ack is recorded. P carries the most acked slip
@@ -71,9 +72,22 @@ abbrev pub unlessRefused : Option Refusal → Entry → Effect → Effect
 unlessRefused none e x = x
 unlessRefused (some r) e x = replies (Refuse r) e
 
--- Any message at the entry of its account, by the rules that it meets.
-abbrev pub turnBy : List Rule → Ledger → Entry → Message → Effect
-turnBy rules l e m = unlessRefused (firstRefusal rules) e (effect l e m)
+-- "If an ack that passes 4 and 5 carries that account and number and a different slip, and nothing was put forward": of the slip that the account's entry
+-- retains. No other message does this
+abbrev pub mustJoin : Ledger → Entry → Message → Bool
+mustJoin l e (Request t) = false
+mustJoin l e (Circulated t) = false
+mustJoin l e (Ack s t) = not (unknownSeat l s || outOfRange l t) && (conflicts t (e .retained) && not (e .retainedProposed))
+mustJoin l e (Decision t) = false
+mustJoin l e (Inquiry a) = false
+
+-- "the reply is P with the retained slip and not 6 or 8. The ack is not recorded." The mark is set: "It happens at most once for a number"
+abbrev pub joins : Entry → Effect
+joins e = replies (Propose (slipIn (e .retained))) (withRetainedProposed e)
+
+-- Any message at the entry of its account: whether the seat joins in by a late P, and else by the rules that the message meets.
+abbrev pub turnBy : Bool → List Rule → Ledger → Entry → Message → Effect
+turnBy late rules l e m = cond late (joins e) (unlessRefused (firstRefusal rules) e (effect l e m))
 
 -- "K carries how many slips this call booked"
 abbrev pub accepted : Ledger → Settled → Outcome
@@ -87,17 +101,20 @@ finishedBy l a accepts e = accepted l (settle (setEntry (l .entries) a e))
 abbrev pub finished : Ledger → Account → Effect → Outcome
 finished l a x = finishedBy l a (x .due) (x .entry)
 
--- The outcome of a message, by the rules that it meets.
-abbrev pub stepBy : List Rule → Ledger → Message → Outcome
-stepBy rules l m = finished l (payerOf m) (turnBy rules l (entryOf l (payerOf m)) m)
+-- the entry of the account that a message is about
+abbrev pub entryFor : Ledger → Message → Entry
+entryFor l m = entryOf l (payerOf m)
 
--- the rules that a message meets in a ledger
+-- whether a message brings a late P in a ledger, and the rules that it meets there
+abbrev pub lateIn : Ledger → Message → Bool
+lateIn l m = mustJoin l (entryFor l m) m
+
 abbrev pub rulesIn : Ledger → Message → List Rule
-rulesIn l m = rulesOf l (entryOf l (payerOf m)) m
+rulesIn l m = rulesOf l (entryFor l m) m
 
 -- The outcome of a message, for every ledger and every message.
 unfoldable pub step : Ledger → Message → Outcome
-step l m = stepBy (rulesIn l m) l m
+step l m = finished l (payerOf m) (turnBy (lateIn l m) (rulesIn l m) l (entryFor l m) m)
 
 -- Waiting list: the accounts with a waiting slip, each once. Their order is left free.
 abbrev pub WaitingAccounts : Ledger → List ℕ → Type 0

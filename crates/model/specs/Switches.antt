@@ -2,13 +2,14 @@
 -- the step under earlier rules, told by how it differs from today's. A request that changes the rules adds a set, and says here what those before it lack;
 -- which reply was left free by earlier rules is said where runs are (`freeSlip`, in Runs.antt of agreement).
 use Prim.Native.Nat.{ℕ}
-use mathlib.Core.Bool.{cond}
-use mathlib.Core.List.{List, [], _∷_}
+use mathlib.Core.Bool.{Bool, false, cond}
+use mathlib.Core.List.{List, [], _∷_, map}
 use lib.Dec.{eqb}
-use Rattle.model.specs.Types.{Ledger, Outcome, Message}
+use Rattle.model.specs.Types.{Slot, Empty, Full, Entry, Ledger, Outcome, Message}
 use Rattle.model.specs.Replies.{codeOf}
 use Rattle.model.specs.Refusals.{Rule}
-use Rattle.model.specs.Calls.{rulesIn, stepBy}
+use Rattle.model.specs.Records.{withRetainedOf, withRetained, withNoneRetained, withEntries}
+use Rattle.model.specs.Calls.{payerOf, Effect, turnBy, finished, entryFor, lateIn, rulesIn}
 
 -- The sets of rules, in the order of time.
 pub data Rules : Type 0 where
@@ -16,25 +17,35 @@ pub data Rules : Type 0 where
   firstRules : Rules
   -- since request 3 of document 02, and so with request 2
   sinceRequest3 : Rules
+  -- since request 5
+  sinceRequest5 : Rules
 
 abbrev pub newest : Rules
-newest = sinceRequest3
+newest = sinceRequest5
 
 -- how many sets came before
 abbrev pub rank : Rules → ℕ
 rank firstRules = 0
 rank sinceRequest3 = 1
+rank sinceRequest5 = 2
 
 -- the rules to which a seat switches: the next in time. Under the newest, a switch changes nothing
 abbrev pub nextRules : Rules → Rules
 nextRules firstRules = sinceRequest3
-nextRules sinceRequest3 = sinceRequest3
+nextRules sinceRequest3 = sinceRequest5
+nextRules sinceRequest5 = sinceRequest5
+
+-- "A book held from before retains its waiting slips with their marks, and no booked ones": an account's entry, by what waits in it
+abbrev pub retainsWaiting : Slot → Entry → Entry
+retainsWaiting Empty e = withNoneRetained e
+retainsWaiting (Full t) e = withRetained e t
 
 -- What the ledger becomes that a seat holds when it switches from these rules to the next: "At this and every later switch a seat goes on with the book it
--- holds, marks included".
+-- holds, marks included". To request 5 it takes over what it retains from now on.
 abbrev pub switched : Rules → Ledger → Ledger
 switched firstRules l = l
-switched sinceRequest3 l = l
+switched sinceRequest3 l = withEntries l (map (λ e. retainsWaiting (e .pending) e) (l .entries))
+switched sinceRequest5 l = l
 
 -- the rules without the one of this code
 abbrev pub withoutCode : ℕ → List Rule → List Rule
@@ -46,11 +57,32 @@ withoutCode code (r ∷ rs) = cond (eqb (codeOf (r .1)) code) (withoutCode code 
 abbrev pub rulesUnder : Rules → List Rule → List Rule
 rulesUnder firstRules rules = withoutCode 20 rules
 rulesUnder sinceRequest3 rules = rules
+rulesUnder sinceRequest5 rules = rules
 
 -- the rules that a message meets in a ledger, under a set of rules
 abbrev pub rulesMet : Rules → Ledger → Message → List Rule
 rulesMet v l m = rulesUnder v (rulesIn l m)
 
+-- Whether a message brings a late P under a set of rules, given whether it does today: before request 5 none does.
+abbrev pub lateUnder : Rules → Bool → Bool
+lateUnder firstRules late = false
+lateUnder sinceRequest3 late = false
+lateUnder sinceRequest5 late = late
+
+abbrev pub lateMet : Rules → Ledger → Message → Bool
+lateMet v l m = lateUnder v (lateIn l m)
+
+-- the effect, but with what the entry before it retains
+abbrev pub retainsAs : Entry → Effect → Effect
+retainsAs e x = record { due = x .due; entry = withRetainedOf (x .entry) e }
+
+-- What a message comes to under a set of rules, given the entry before it and what it comes to today: before request 5 nothing new is retained.
+abbrev pub effectUnder : Rules → Entry → Effect → Effect
+effectUnder firstRules e x = retainsAs e x
+effectUnder sinceRequest3 e x = retainsAs e x
+effectUnder sinceRequest5 e x = x
+
 -- The outcome of a message under a set of rules.
 unfoldable pub stepUnder : Rules → Ledger → Message → Outcome
-stepUnder v l m = stepBy (rulesMet v l m) l m
+stepUnder v l m =
+    finished l (payerOf m) (effectUnder v (entryFor l m) (turnBy (lateMet v l m) (rulesMet v l m) l (entryFor l m) m))

@@ -42,6 +42,10 @@ pub record Entry : Type 0 where
   pub proposed : Bool
   -- the accepted transfer that waits, if any
   pub pending : Slot
+  -- document 02, request 5: the latest accepted transfer, waiting or booked, if any is retained
+  pub retained : Slot
+  -- whether anything was proposed (put forward) for its number
+  pub retainedProposed : Bool
 
 -- Document 01: book. One seat's record.
 pub record Ledger : Type 0 where

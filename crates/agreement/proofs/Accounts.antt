@@ -7,7 +7,7 @@ use Rattle.agreement.specs.Types.{Seat, Account, Entry, Ledger, Opening,
 use Rattle.agreement.specs.Runs.{Opens, Run, ledgerAt, Obeys}
 use Rattle.agreement.proofs.Soundness.{opened-entry, group, Sound}
 use Rattle.agreement.proofs.Reachable.{sound, everywhere}
-use Rattle.agreement.proofs.StepLaws.{Turn, keeps, accepts, turn}
+use Rattle.agreement.proofs.StepLaws.{switched-state, Turn, keeps, accepts, turn}
 use Rattle.model.specs.Basics.{sumOf}
 use Rattle.model.specs.Records.{accountOf, freshEntry, withPending, sumBalances, setEntry, entryOf}
 use Rattle.model.proofs.Sums.{sum-front}
@@ -39,9 +39,10 @@ module _ (o : Opening) where
     -- and it is so at every place of a run
     pub behind : (r : Run) → Obeys o r → (a : Account) → o .accounts ≤ a .0 → Unused (entryOf (ledgerAt o s r) a)
     behind =
-        everywhere o opens s (λ l. (a : Account) → o .accounts ≤ a .0 → Unused (entryOf l a))
-        (λ l next m q ok h old a above. turn-unused l next m q (turn o l next m q (group o opens) ok h) a above (old a above))
-        (λ a above. rw (opened-entry o a) (group o opens .rest-zero (a .0) above, refl))
+        everywhere o opens s (λ v l. (a : Account) → o .accounts ≤ a .0 → Unused (entryOf l a))
+        (λ v l ok old a above. let same = switched-state v l a in (same .0 ∙ old a above .0, same .1 ∙ old a above .1))
+        (λ v l next m q ok h old a above. turn-unused l next m q (turn o l next m q (group o opens) ok h) a above (old a above))
+        (λ v a above. rw (opened-entry o a) (group o opens .rest-zero (a .0) above, refl))
 
     -- so the balances of the k accounts add up to the opening sum
     pub accounts-sum : (r : Run) → Obeys o r → sumBalances (take (o .accounts) (ledgerAt o s r .entries)) ≡ sumOf (λ b. b) (o .balances)

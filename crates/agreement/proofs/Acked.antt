@@ -14,23 +14,27 @@ use Rattle.model.proofs.Opened.{Group}
 use Rattle.agreement.proofs.Soundness.{opened-entry, group, Sound, no-acks, recorded-read, same-range}
 use Rattle.agreement.proofs.Reachable.{sound, run-induction, past-calls, happened-at}
 use Rattle.agreement.proofs.Quorums.{bit-most}
-use Rattle.agreement.proofs.StepLaws.{Puts, puts-mark, puts-ack, puts-accepted, puts-ruled, each-entry, answer-acknowledge, Recording, Marks}
+use Rattle.agreement.proofs.StepLaws.{Puts, puts-mark, puts-ack, puts-proposal, puts-accepted, puts-ruled, puts-late, each-entry, answer-acknowledge, Recording, Marks}
 use Rattle.model.specs.Basics.{bit}
 use Rattle.model.specs.Records.{entryOf}
 use Rattle.model.specs.Transfers.{equal}
 use Rattle.model.specs.Refusals.{ackFrom, outOfRange}
-use Rattle.model.specs.Switches.{stepUnder}
+use Rattle.model.specs.Switches.{Rules, switched, stepUnder}
 use Rattle.model.proofs.Sums.{impossible, both}
-use Rattle.model.proofs.Steps.{Eligible, Recordable, entryWithAck, Happens}
+use Rattle.model.proofs.Switching.{switched-keeps}
+use Rattle.model.proofs.Steps.{Eligible, Recordable, entryWithAck, retain-keeps, waitingUnder, Happens}
 
 -- the last number of an account that this entry has booked or acked
 abbrev pub lastNumber : Entry → ℕ
 lastNumber e = e .current + bit (e .acked)
 
+retain-last : (v : Rules) (e : Entry) (t : Transfer) → lastNumber (waitingUnder v e t) ≡ lastNumber e
+retain-last v e t = ap lastNumber (retain-keeps v e t)
+
 -- it never falls
-number-rises : (o : Opening) (l next : Ledger) (m : Message) (r : Reply) → Group o → Sound o l → Happens l m r next
+number-rises : {v : Rules} (o : Opening) (l next : Ledger) (m : Message) (r : Reply) → Group o → Sound o l → Happens v l m r next
     → (a : Account) → lastNumber (entryOf l a) ≤ lastNumber (entryOf next a)
-number-rises o l next m r g ok =
+number-rises {v} o l next m r g ok =
     each-entry o l next m r g ok (λ a x. lastNumber (entryOf l a) ≤ lastNumber x)
     (λ a e e′ same h. rw same h)
     (λ a e e′ t stands waits clear h.
@@ -38,19 +42,20 @@ number-rises o l next m r g ok =
     (λ a. omega arith)
     puts
   where
-    puts : (t : Transfer) (x : Entry) → Puts l m r t x → lastNumber (entryOf l (t .account)) ≤ lastNumber x
+    puts : (t : Transfer) (x : Entry) → Puts v l m r t x → lastNumber (entryOf l (t .account)) ≤ lastNumber x
     puts t x (puts-mark e f fit is) = rw is (omega (arith, bit-most (entryOf l (t .account) .acked)))
-    puts t x (puts-ack s e fit new (inl is)) = rw is (omega arith)
-    puts t x (puts-ack s e fit new (inr is)) = rw is (omega arith)
-    puts t x (puts-accepted s c e f fit new full is) = rw is (omega arith)
-    puts t x (puts-ruled c e f fit is) = rw is (omega arith)
+    puts t x (puts-ack s e fit new is) = rw is (omega arith)
+    puts t x (puts-proposal s w e f fit new for is) = rw is (omega arith)
+    puts t x (puts-accepted s c e f fit new full is) = rw (is, retain-last v (entryWithAck l s t) t) (omega arith)
+    puts t x (puts-ruled c e f fit is) = rw (is, retain-last v (entryOf l (t .account)) t) (omega arith)
+    puts t x (puts-late s u since e f join is) = rw is (omega arith)
 
 module _ (o : Opening) (opens : Opens o) where
   -- the last number is not below that of what the seat acked
   abbrev pub AckedUpTo : Call → Ledger → Type 0
   AckedUpTo c l = (t : Transfer) → acked c ≡ some t → t .number ≤ lastNumber (entryOf l (t .account))
 
-  acked-now : (l next : Ledger) (m : Message) (q : Reply) → Sound o l → Happens l m q next → AckedUpTo (message m q) next
+  acked-now : {v : Rules} (l next : Ledger) (m : Message) (q : Reply) → Sound o l → Happens v l m q next → AckedUpTo (message m q) next
   acked-now l next m q ok h t is =
       let call = acked-is (message m q) t is in
       let kind : m ≡ Circulated t = cc in
@@ -60,8 +65,10 @@ module _ (o : Opening) (opens : Opens o) where
 
   pub acked-so-far : (s : Seat) (r : Run) → Obeys o r → (p : Run) (e : Event) → Within (p ▹ e) r → e .at ≡ s → AckedUpTo (e .call) (ledgerAt o s r)
   acked-so-far s =
-      past-calls o opens s AckedUpTo (λ l b a q t is. impossible (cc)) (λ l t is. impossible (cc)) acked-now
-      (λ l next m q c ok h yet t this. omega (arith, yet t this, number-rises o l next m q (group o opens) ok h (t .account)))
+      past-calls o opens s (λ c v l. AckedUpTo c l) (λ v l b a q t is. impossible (cc)) (λ v l t is. impossible (cc))
+      (λ v l next m q ok h. acked-now l next m q ok h)
+      (λ c v l ok yet t this. omega (arith, yet t this, ap lastNumber (switched-keeps v l (t .account))))
+      (λ c v l next m q ok h yet t this. omega (arith, yet t this, number-rises o l next m q (group o opens) ok h (t .account)))
 
 -- the call that acked a slip
 pub acked-by-found : (s : Seat) (t : Transfer) (r : Run) → ackedBy s t r ≡ true
@@ -146,33 +153,41 @@ module _ (o : Opening) (bad : Seat → Bool) (opens : Opens o) where
   genuine-ack r m q s t kind h =
       from-premise r s t (honest o bad s) refl (let this : genuine o bad r (message (Ack s t) q) ≡ true = rw kind at h in this)
 
+  -- with something else retained, and a slip that waits
+  retain-from : (r : Run) (v : Rules) (e : Entry) (t : Transfer) → FromSenders o bad r e → FromSenders o bad r (waitingUnder v e t)
+  retain-from r v e t old i u h = old i u (ap (λ (x : Entry). ackFrom x i) (sym (retain-keeps v e t)) ∙ h)
+
   -- one call keeps it
-  step-from : (r : Run) (l next : Ledger) (m : Message) (q : Reply) → Sound o l → genuine o bad r (message m q) ≡ true → Happens l m q next
+  step-from : {v : Rules} (r : Run) (l next : Ledger) (m : Message) (q : Reply) → Sound o l → genuine o bad r (message m q) ≡ true → Happens v l m q next
       → ((a : Account) → FromSenders o bad r (entryOf l a)) → (a : Account) → FromSenders o bad r (entryOf next a)
-  step-from r l next m q ok fair h old =
+  step-from {v} r l next m q ok fair h old =
       each-entry o l next m q (group o opens) ok (λ a x. FromSenders o bad r x)
       (λ a e e′ same was i t at. was i t (ap (λ (x : Entry). ackFrom x i) (sym same) ∙ at))
       (λ a e e′ t stands waits clear was i u at. impossible (cc (rw (clear .no-acks) at at, no-acks i)))
       old puts h
     where
-      puts : (t : Transfer) (x : Entry) → Puts l m q t x → FromSenders o bad r x
+      puts : (t : Transfer) (x : Entry) → Puts v l m q t x → FromSenders o bad r x
       puts t x (puts-mark e f fit is) = rw is (old (t .account))
-      puts t x (puts-ack s e fit new (inl is)) = rw is (recorded-from r l s t ok fit new (genuine-ack r m q s t e fair) (old (t .account)))
-      puts t x (puts-ack s e fit new (inr is)) = rw is (recorded-from r l s t ok fit new (genuine-ack r m q s t e fair) (old (t .account)))
+      puts t x (puts-ack s e fit new is) = rw is (recorded-from r l s t ok fit new (genuine-ack r m q s t e fair) (old (t .account)))
+      puts t x (puts-proposal s w e f fit new for is) = rw is (recorded-from r l s t ok fit new (genuine-ack r m q s t e fair) (old (t .account)))
       puts t x (puts-accepted s c e f fit new full is) =
-          rw is (recorded-from r l s t ok fit new (genuine-ack r m q s t e fair) (old (t .account)))
-      puts t x (puts-ruled c e f fit is) = rw is (old (t .account))
+          rw is
+          (retain-from r v (entryWithAck l s t) t (recorded-from r l s t ok fit new (genuine-ack r m q s t e fair) (old (t .account))))
+      puts t x (puts-ruled c e f fit is) = rw is (retain-from r v (entryOf l (t .account)) t (old (t .account)))
+      puts t x (puts-late s u since e f join is) = rw is (old (t .account))
 
   -- at every place of a run whose acks are genuine
   pub all-from : (run : Run) → throughout (λ before e. genuine o bad before (e .call)) run ≡ true → (s : Seat) (r : Run) → Obeys o r → Within r run
       → (a : Account) → FromSenders o bad r (entryOf (ledgerAt o s r) a)
   all-from run fair s =
-      run-induction o opens s (λ r l. Within r run → (a : Account) → FromSenders o bad r (entryOf l a))
+      run-induction o opens s (λ r v l. Within r run → (a : Account) → FromSenders o bad r (entryOf l a))
       (λ from w a i t h honestly. impossible (cc (h, ap (λ (e : Entry). ackFrom e i) (opened-entry o a), no-acks i)))
-      (λ r e l other old w a. more r e (entryOf l a) (old (before w) a))
-      (λ r b a q l old w c. more r (record { at = s; call = waitingList b q a }) (entryOf l c) (old (before w) c))
-      (λ r l old w c. more r (record { at = s; call = switch }) (entryOf l c) (old (before w) c))
-      (λ r m q l next ok h old w a.
+      (λ r e v l other old w a. more r e (entryOf l a) (old (before w) a))
+      (λ r b a q v l old w c. more r (record { at = s; call = waitingList b q a }) (entryOf l c) (old (before w) c))
+      (λ r v l ok old w c.
+      more r (record { at = s; call = switch }) (entryOf (switched v l) c)
+      (λ i t h. old (before w) c i t (ap (λ (e : Entry). ackFrom e i) (sym (switched-keeps v l c)) ∙ h)))
+      (λ r v m q l next ok h old w a.
       more r (record { at = s; call = message m q }) (entryOf next a)
       (step-from r l next m q ok (throughout-at (λ p e. genuine o bad p (e .call)) fair w) h (old (before w)) a))
     where

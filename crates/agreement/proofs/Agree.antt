@@ -5,13 +5,16 @@ use mathlib.Core.Bool.{Bool, true, false, not, cond}
 use mathlib.Core.List.{List, [], _∷_, _++_}
 use mathlib.Core.Option.{Option, none, some}
 use borrow.Author.Tests.{eq-eqb, eqb-true}
-use Rattle.agreement.specs.Types.{Seat, Account, Transfer, Opening, Ack, Accept, Propose}
-use Rattle.agreement.specs.Runs.{Opens, FewBad, message, Event, Run, start, _▹_, Within, at-end, sooner, ledgerAt, Obeys, accepted, proposed, ruled, passes}
+use mathlib.Core.Logic.{_⊎_, inl, inr}
+use Rattle.agreement.specs.Types.{Seat, Account, Transfer, Ledger, Opening, Message, Ack, Accept, Propose}
+use Rattle.agreement.specs.Runs.{Opens, FewBad, message, Event, Run, start, _▹_, Within, at-end, sooner, happened, rulesAt, ledgerAt, Obeys, accepted, proposed, ruled, passes}
+use Rattle.agreement.specs.Facts.{acceptedBy}
 use Rattle.agreement.specs.Premises.{ruledOn, ruledOtherwise, likewise, proposals, founded, rightful, Premises}
-use Rattle.agreement.proofs.Places.{before, within-trans, Order, same-event, earlier, later, order, happened-holds, throughout-at, obeys-before}
-use Rattle.agreement.proofs.Deeds.{Accepts, by-ack, by-ruling, accepted-is, proposed-is, passes-is}
+use Rattle.agreement.proofs.Places.{before, within-trans, Order, same-event, earlier, later, order, happened-holds, happened-later, throughout-at, obeys-before}
+use Rattle.agreement.proofs.Deeds.{Accepts, by-ack, by-ruling, accepted-is, proposed-is, passes-is, deed-found}
 use Rattle.agreement.proofs.Reachable.{sound, happened-at}
-use Rattle.agreement.proofs.StepLaws.{answer-accept, answer-propose}
+use Rattle.agreement.proofs.StepLaws.{answer-accept, Proposes, ProposesLate, answer-propose}
+use Rattle.agreement.proofs.Reasons.{all-reasons}
 use Rattle.agreement.proofs.Acked.{call-from}
 use Rattle.agreement.proofs.Votes.{Quorum, Majority, quorums-agree, quorum-proposed, accept-quorum, propose-majority}
 use Rattle.model.specs.Basics.{every}
@@ -106,17 +109,28 @@ module _ (o : Opening) (bad : Seat → Bool) (run : Run) (opens : Opens o) (few 
       let from = call-from o bad opens run (kept .acks-genuine) obeys p e (Ack s t) (Accept k) s t w is refl (found .0) in
       accept-quorum o bad run opens l ok s t (found .0) from (found .1)
 
-  -- a slip that is put forward has a majority
-  pub proposed-majority : (q : Run) (d : Event) (u : Transfer) → Within (q ▹ d) run → proposed (d .call) ≡ some u → Majority o bad run u
-  proposed-majority q d u w is =
-      let l = ledgerAt o (d .at) q in
-      let ok = sound o opens (d .at) q (obeys-before o obeys (before w)) in
-      let call = proposed-is (d .call) u is in
-      let found = answer-propose l _ (call .0) (Propose u) u refl (happened-at o (call .0) (Propose u) obeys w (call .1)) in
-      let from =
-      call-from o bad opens run (kept .acks-genuine) obeys q d (call .0) (Propose u) (found .sender) (found .slip) w (call .1) (found .is-ack)
-      (found .records) in
-      propose-majority o bad run opens l ok (call .0) u found from
+  -- a slip that is put forward has a majority, or it is put forward late, by a seat that had accepted it
+  pub proposed-why : (q : Run) (d : Event) (u : Transfer) → Within (q ▹ d) run → proposed (d .call) ≡ some u
+      → Majority o bad run u ⊎ (acceptedBy (d .at) u q ≡ true)
+  proposed-why q d u w is = go (answer-propose l _ (call .0) (Propose u) u refl (happened-at o (call .0) (Propose u) obeys w (call .1)))
+    where
+      l : Ledger
+      l = ledgerAt o (d .at) q
+
+      here : Obeys o q
+      here = obeys-before o obeys (before w)
+
+      call : (m : Message) × (d .call ≡ message m (Propose u))
+      call = proposed-is (d .call) u is
+
+      go : {next : Ledger} → Proposes l (call .0) u next ⊎ ProposesLate (rulesAt (d .at) q) l (call .0) u next
+          → Majority o bad run u ⊎ (acceptedBy (d .at) u q ≡ true)
+      go (inl found) =
+          inl
+          (propose-majority o bad run opens l (sound o opens (d .at) q here) (call .0) u found
+          (call-from o bad opens run (kept .acks-genuine) obeys q d (call .0) (Propose u) (found .sender) (found .slip) w (call .1) (found .is-ack)
+          (found .records)))
+      go (inr late) = inr (all-reasons o opens (d .at) q here (late .slip .account) .why-retained u (late .joins .is-retained))
 
   -- what the premise says at a ruling
   ruling-rightful : (p : Run) (e : Event) (t : Transfer) → Within (p ▹ e) run → ruled (e .call) ≡ some t → rightful p (some t) ≡ true
@@ -147,33 +161,62 @@ module _ (o : Opening) (bad : Seat → Bool) (run : Run) (opens : Opens o) (few 
       go (earlier first) = earlier-ruling p q e d t u v first ist isu account number
       go (later first) = sym (earlier-ruling q p d e u t w first isu ist (sym account) (sym number))
 
-  -- where only t is put forward for its account and number, a ruling for them is for t
+  -- where of its account and number only t has a majority or a quorum, a ruling for them is for t. What was put forward before the first of them has a
+  -- majority; or it is late, and its seat had accepted it: by a quorum, since a ruling would have come before
   pub ruled-only : (t u : Transfer)
-      → ((q : Run) (d : Event) (w : Transfer) → Within (q ▹ d) run → proposed (d .call) ≡ some w
-      → t .account ≡ w .account → t .number ≡ w .number → t ≡ w)
+      → ((w : Transfer) → Majority o bad run w → t .account ≡ w .account → t .number ≡ w .number → t ≡ w)
+      → ((w : Transfer) → Quorum o bad run w → t .account ≡ w .account → t .number ≡ w .number → t ≡ w)
       → (q : Run) (d : Event) → Within (q ▹ d) run → ruled (d .call) ≡ some u
       → t .account ≡ u .account → t .number ≡ u .number → u ≡ t
-  ruled-only t u only q d w is account number =
+  ruled-only t u major many q d w is account number =
       let test : Event → Bool = λ e. passes (sameNumber u) (ruled (e .call)) in
       let first = first-ruling u run (happened-holds test w (rw is (same-number u u refl refl))) in
       let alike = number-same u (first .slip) (first .likewise-it) in
       let same = rulings-agree q (first .place) d (first .event) u (first .slip) w (first .within) is (first .rules) (alike .0) (alike .1) in
       let right = ruling-rightful (first .place) (first .event) u (first .within) (first .rules ∙ ap some (sym same)) in
-      founded-on t u (proposals u (first .place)) (all-t (first .place) (before (first .within)))
+      founded-on t u (proposals u (first .place)) (all-t (first .place) (before (first .within)) (first .none-sooner))
       (rw (first .none-sooner) at (both (not (ruledOtherwise u (first .place))) _ right .1))
     where
-      all-t : (p : Run) → Within p run → every (equal t) (proposals u p) ≡ true
-      all-t p within =
+      ruling : Event → Bool
+      ruling e = passes (sameNumber u) (ruled (e .call))
+
+      -- what was put forward while there was no ruling
+      only : (q : Run) (d : Event) (w : Transfer) → Within (q ▹ d) run → happened ruling q ≡ false → proposed (d .call) ≡ some w
+          → sameNumber u w ≡ true → t ≡ w
+      only q d w v none-yet isw alike = go (proposed-why q d w v isw)
+        where
+          same : (t .account ≡ w .account) × (t .number ≡ w .number)
+          same = let found = number-same u w alike in (account ∙ found .0, number ∙ found .1)
+
+          by : (p : Run) (e : Event) → Within (p ▹ e) q → Accepts (e .call) w → t ≡ w
+          by p e first (by-ack s k this) =
+              many w (acks-quorum p e s w k (within-trans first (before v)) this) (same .0) (same .1)
+          by p e first (by-ruling k this) =
+              impossible (cc (none-yet, happened-holds ruling first (rw this alike)))
+
+          go : Majority o bad run w ⊎ (acceptedBy (d .at) w q ≡ true) → t ≡ w
+          go (inl found) = major w found (same .0) (same .1)
+          go (inr accepts) =
+              let found = deed-found accepted (d .at) w q accepts in
+              by (found .0) (found .1) (found .2) (accepted-is (found .1 .call) w (found .4))
+
+      all-t : (p : Run) → Within p run → happened ruling p ≡ false → every (equal t) (proposals u p) ≡ true
+      all-t p within none-yet =
           proposals-all t u p
-          (λ q d w v isw alike.
-          let same = number-same u w alike in
-          only q d w (within-trans v within) isw (account ∙ same .0) (number ∙ same .1))
+          (λ q d w v isw alike. only q d w (within-trans v within) (not-sooner (before v) none-yet) isw alike)
+        where
+          not-sooner : {q : Run} → Within q p → happened ruling p ≡ false → happened ruling q ≡ false
+          not-sooner {q} early never = go (happened ruling q) refl
+            where
+              go : (b : Bool) → happened ruling q ≡ b → b ≡ false
+              go true met = impossible (cc (never, happened-later ruling early met))
+              go false unmet = refl
 
   -- so it is for a slip with a quorum
   quorum-ruled : (t u : Transfer) → Quorum o bad run t → (q : Run) (d : Event) → Within (q ▹ d) run → ruled (d .call) ≡ some u
       → t .account ≡ u .account → t .number ≡ u .number → u ≡ t
   quorum-ruled t u quorum =
-      ruled-only t u (λ q d w v is. quorum-proposed o bad run opens few obeys t w quorum (proposed-majority q d w v is))
+      ruled-only t u (λ w. quorum-proposed o bad run opens few obeys t w quorum) (λ w. quorums-agree o bad run opens few obeys t w quorum)
 
   -- any two accepted slips with equal account and number are equal
   pub accepted-agree : (p q : Run) (e d : Event) (t u : Transfer)

@@ -67,6 +67,14 @@ accepted-is (message (Inquiry a) r) t e = impossible (cc)
 accepted-is (waitingList before r after) t e = impossible (cc)
 accepted-is switch t e = impossible (cc)
 
+-- it is a message
+pub accepting-call : (c : Call) (t : Transfer) → accepted c ≡ some t → (m : Message) × (r : Reply) × (c ≡ message m r)
+accepting-call c t e = go (accepted-is c t e)
+  where
+    go : Accepts c t → (m : Message) × (r : Reply) × (c ≡ message m r)
+    go (by-ack s k is) = (Ack s t, Accept k, is)
+    go (by-ruling k is) = (Decision t, Accept k, is)
+
 -- it put u forward
 pub proposed-is : (c : Call) (u : Transfer) → proposed c ≡ some u → (m : Message) × (c ≡ message m (Propose u))
 proposed-is (message m r) u e = (m, ap (message m) (carried r u e))

@@ -17,9 +17,10 @@ use Rattle.agreement.proofs.Places.{before, within-trans, nothing-yet, 
 use Rattle.agreement.proofs.Soundness.{opened-entry, next-waits, group, Sound, bounded}
 use Rattle.agreement.proofs.Reachable.{run-induction}
 use Rattle.agreement.proofs.Accounts.{behind}
-use Rattle.agreement.proofs.StepLaws.{Turn, keeps, accepts, turn}
+use Rattle.agreement.proofs.StepLaws.{SameState, switched-state, Turn, keeps, accepts, turn}
 use Rattle.agreement.proofs.Agree.{same-number, number-same}
 use Rattle.model.specs.Transfers.{sameAccount}
+use Rattle.model.specs.Switches.{switched}
 use Rattle.model.specs.Records.{accountOf, freshLedger, withPending, entryAt, setEntry, withEntry, entryOf}
 use Rattle.model.specs.Settling.{apply, settle}
 use Rattle.model.proofs.Sums.{impossible}
@@ -171,13 +172,15 @@ module _ (slipOf : Account → ℕ → Option Transfer) (o : Opening) where
       all-zero zero = refl
       all-zero (suc n) = omega (arith, all-zero n)
 
+  -- entries of the same state are balanced too
+  same-balanced : (es es′ : List Entry) → ((a : Account) → SameState (entryAt es a) (entryAt es′ a)) → Balanced es → Balanced es′
+  same-balanced es es′ same bal = restated es es′ (λ a. (same a .0, same a .1)) (λ a t h. bal .waits-are a t (sym (same a .2) ∙ h)) bal
+
   -- a call keeps the entries balanced, if an accepted slip is the slip of its number
   turn-balanced : (l next : Ledger) (m : Message) (r : Reply) → Opens o → Sound o l → Turn o l m r next
       → ((t : Transfer) → accepted (message m r) ≡ some t → slipOf (t .account) (t .number) ≡ some t)
       → Balanced (l .entries) → Balanced (next .entries)
-  turn-balanced l next m r opens ok (keeps same none-accepted not-k) slips bal =
-      restated (l .entries) (next .entries) (λ a. (same a .0, same a .1))
-      (λ a t h. bal .waits-are a t (sym (same a .2) ∙ h)) bal
+  turn-balanced l next m r opens ok (keeps same none-accepted not-k) slips bal = same-balanced (l .entries) (next .entries) same bal
   turn-balanced l next m r opens ok (accepts t this done) slips bal =
       let g = group o opens in
       let joined = setEntry (l .entries) (t .account) (withPending (done .entry) t) in
@@ -199,11 +202,11 @@ module _ (slipOf : Account → ℕ → Option Transfer) (o : Opening) where
       → ((p : Run) (e : Event) (t : Transfer) → Within (p ▹ e) run → accepted (e .call) ≡ some t → slipOf (t .account) (t .number) ≡ some t)
       → (s : Seat) (r : Run) → Obeys o r → Within r run → Balanced (ledgerAt o s r .entries)
   all-balanced opens run slips s =
-      run-induction o opens s (λ r l. Within r run → Balanced (l .entries)) (λ from w. opened-balanced)
-      (λ r e l other bal w. bal (before w))
-      (λ r b a q l bal w. bal (before w))
-      (λ r l bal w. bal (before w))
-      (λ r m q l next ok h bal w.
+      run-induction o opens s (λ r v l. Within r run → Balanced (l .entries)) (λ from w. opened-balanced)
+      (λ r e v l other bal w. bal (before w))
+      (λ r b a q v l bal w. bal (before w))
+      (λ r v l ok bal w. same-balanced (l .entries) (switched v l .entries) (switched-state v l) (bal (before w)))
+      (λ r v m q l next ok h bal w.
       turn-balanced l next m q opens ok (turn o l next m q (group o opens) ok h)
       (λ t this. slips r _ t w this) (bal (before w)))
 

@@ -248,7 +248,7 @@ witness-claim =
 
 -- What the statements say at single places. Each part is the statement's own field there, computed: whatever else a field would say
 -- does not fit. A seat alone, n 1 and f 0: one ack accepts. It books two slips of account 0, is asked for a balance, and books v.
-abbrev single : Opening
+abbrev pub single : Opening
 single = pageWith 1 0 (10 ∷ 3 ∷ [])
 
 abbrev two : Run
@@ -354,7 +354,7 @@ accounts-say f = (
 
 -- Two seats, n 2 and f 0: two acks accept, and two that conflict put forward. Seat 0 accepts t. Afterwards seat 1 puts t forward, and then
 -- accepts it by a ruling. For the next number seat 0 puts t2 forward.
-abbrev twoSeats : Opening
+abbrev pub twoSeats : Opening
 twoSeats = pageWith 2 0 (10 ∷ 3 ∷ [])
 
 abbrev acceptedThere : Run
@@ -370,24 +370,21 @@ pub disputed-obeys : Obeys twoSeats disputed
 unfolding rulesAt ledgerAt noAcks equal conflict hasMost mostAcked lowestAffordable apply settleAtMost settle stepUnder
 disputed-obeys = tt then refl then refl then refl then refl then refl then refl then refl
 
--- "Once a slip is accepted, this seat puts nothing forward for that number." It is not said of another seat, nor of the next number, nor
--- of what came before. And a run in which seat 0 did so would break the facts, also with another slip.
+-- After it accepted a slip, a seat puts forward only this one for its number. It is not said of another seat, nor of the next number, nor of what came before.
+-- (Runs that break it are in LateTried.antt.)
 pub proposals-say :
-    (Facts twoSeats disputed → seatOf 0 ≡ seatOf 1 → ⊥)
-    × (Facts twoSeats disputed → 1 is 2 → ⊥)
-    × (Facts twoSeats disputed → Within (acceptedThere ▹ ack 1 1 u (Propose t) ▹ ruling 1 t (Accept 1)) acceptedThere → ⊥)
-    × (Facts twoSeats (today ▹ ruling 0 t (Accept 1) ▹ ack 0 1 u (Propose u)) → ⊥)
+    (Facts twoSeats disputed → seatOf 0 ≡ seatOf 1 → (t ≡ t) × (2 ≤ 2))
+    × (Facts twoSeats disputed → 1 is 2 → (t ≡ t2) × (2 ≤ 2))
+    × (Facts twoSeats disputed → Within (acceptedThere ▹ ack 1 1 u (Propose t) ▹ ruling 1 t (Accept 1)) acceptedThere → (t ≡ t) × (2 ≤ 2))
+unfolding rulesAt
 proposals-say = (
   λ f same.
-      f .none-proposed-after (today ▹ ack 0 0 t Note) acceptedThere (ack 0 1 t (Accept 1)) (ack 1 1 u (Propose t)) t t
+      f .only-accepted-proposed (today ▹ ack 0 0 t Note) acceptedThere (ack 0 1 t (Accept 1)) (ack 1 1 u (Propose t)) t t
       (sooner at-end) (sooner (sooner (sooner at-end))) same refl refl refl refl,
   λ f.
-      f .none-proposed-after (today ▹ ack 0 0 t Note) nextNumber (ack 0 1 t (Accept 1)) (ack 0 1 (slip 0 2 5 1) (Propose t2)) t t2
+      f .only-accepted-proposed (today ▹ ack 0 0 t Note) nextNumber (ack 0 1 t (Accept 1)) (ack 0 1 (slip 0 2 5 1) (Propose t2)) t t2
       (sooner (sooner (sooner (sooner at-end)))) at-end refl refl refl refl,
   λ f after.
-      f .none-proposed-after (acceptedThere ▹ ack 1 1 u (Propose t)) acceptedThere (ruling 1 t (Accept 1)) (ack 1 1 u (Propose t)) t t
+      f .only-accepted-proposed (acceptedThere ▹ ack 1 1 u (Propose t)) acceptedThere (ruling 1 t (Accept 1)) (ack 1 1 u (Propose t)) t t
       after (sooner (sooner (sooner at-end))) refl refl refl refl refl,
-  λ f.
-      f .none-proposed-after today (today ▹ ruling 0 t (Accept 1)) (ruling 0 t (Accept 1)) (ack 0 1 u (Propose u)) t u
-      at-end at-end refl refl refl refl refl,
 )

@@ -11,10 +11,11 @@ pub mod Slated
 pub mod Quorums
 pub mod Acked
 pub mod Votes
+pub mod Reasons
 pub mod Agree
 pub mod EqualCounts
 pub mod Demand3
-pub mod Reasons
+pub mod Retained
 pub mod Always
 pub mod Theorem1
 pub mod Switching
@@ -22,3 +23,4 @@ pub mod Examples
 pub mod Ties
 pub mod SwitchesTried
 pub mod FactsTried
+pub mod LateTried

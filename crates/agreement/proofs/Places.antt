@@ -1,16 +1,15 @@
 -- Places in a run: how they are ordered, what the tests over a run say at each of them, and how a seat's ledger gets from one to the next.
-use mathlib.Core.Path.{_≡_, refl, ap, sym, subst}
+use mathlib.Core.Path.{_≡_, refl, ap, sym}
 use mathlib.Core.Logic.{_⊎_, inl, inr}
 use mathlib.Core.Bool.{Bool, true, false, cond, or-true}
 use borrow.Author.Tests.{eq-eqb, eqb-true}
 use Prim.Native.Nat.{ℕ}
 use mathlib.Core.List.{List}
 use Rattle.agreement.specs.Types.{Seat, Ledger, Opening, Message, Reply, ListReply}
-use Rattle.agreement.specs.Runs.{Call, message, waitingList, switch, Event, Run, start, _▹_, Within, at-end, sooner, happened, throughout, sameSeat, rulesAt, nextLedger, ledgerAt, MayReply, Conforms, Obeys}
+use Rattle.agreement.specs.Runs.{Call, message, waitingList, switch, Event, Run, start, _▹_, Within, at-end, sooner, happened, throughout, sameSeat, rulesAfter, rulesAt, nextLedger, ledgerAt, MayReply, Conforms, Obeys}
 use Rattle.model.specs.Records.{seatOf, freshLedger}
-use Rattle.model.specs.Switches.{Rules, stepUnder}
+use Rattle.model.specs.Switches.{Rules, nextRules, switched, stepUnder}
 use Rattle.model.proofs.Sums.{impossible, both}
-use Rattle.model.proofs.Switching.{switched-same}
 
 -- the rules under which each seat started; and the start is a place
 abbrev pub startedUnder : Run → Seat → Rules
@@ -104,41 +103,48 @@ seat-is s z e = ap seatOf (eqb-true (s .0) (z .0) e)
 pub seat-self : (s : Seat) → sameSeat s s ≡ true
 seat-self s = eq-eqb (s .0) (s .0) refl
 
+-- a message leaves its seat's rules
+pub rules-after : (s : Seat) (r : Run) (e : Event) (m : Message) (q : Reply) → e .at ≡ s → e .call ≡ message m q → rulesAt s (r ▹ e) ≡ rulesAt s r
+unfolding rulesAt
+rules-after s r e m q seat call = rw (seat, call, seat-self s)
+
 -- the ledger after a message is what the message left
 pub ledger-after : (o : Opening) (s : Seat) (r : Run) (e : Event) (m : Message) (q : Reply) → e .at ≡ s → e .call ≡ message m q
     → ledgerAt o s (r ▹ e) ≡ stepUnder (rulesAt s r) (ledgerAt o s r) m .next
 unfolding ledgerAt
 ledger-after o s r e m q seat call = rw (seat, call, seat-self s)
 
--- What stays true of a seat's ledger at one more event: at one elsewhere, at a waiting list, at a switch, and at a message, under whatever rules.
-module _ (o : Opening) (s : Seat) (P : Run → Ledger → Type 0)
-    (elsewhere : (r : Run) (e : Event) (l : Ledger) → sameSeat (e .at) s ≡ false → P r l → P (r ▹ e) l)
-    (listed : (r : Run) (b a : List ℕ) (q : ListReply) (l : Ledger) → P r l → P (r ▹ record { at = s; call = waitingList b q a }) l)
-    (switches : (r : Run) (l : Ledger) → P r l → P (r ▹ record { at = s; call = switch }) l)
+-- What stays true of a seat's rules and ledger at one more event: at one elsewhere, at a waiting list, at a switch, and at a message, under whatever rules.
+module _ (o : Opening) (s : Seat) (P : Run → Rules → Ledger → Type 0)
+    (elsewhere : (r : Run) (e : Event) (v : Rules) (l : Ledger) → sameSeat (e .at) s ≡ false → P r v l → P (r ▹ e) v l)
+    (listed : (r : Run) (b a : List ℕ) (q : ListReply) (v : Rules) (l : Ledger) → P r v l → P (r ▹ record { at = s; call = waitingList b q a }) v l)
+    (switches : (r : Run) (v : Rules) (l : Ledger)
+    → l ≡ ledgerAt o s r → Obeys o r → P r v l → P (r ▹ record { at = s; call = switch }) (nextRules v) (switched v l))
     (answered : (r : Run) (v : Rules) (m : Message) (q : Reply) (l : Ledger)
-    → l ≡ ledgerAt o s r → Obeys o r → MayReply v l m q → P r l → P (r ▹ record { at = s; call = message m q }) (stepUnder v l m .next))
+    → l ≡ ledgerAt o s r → Obeys o r → MayReply v l m q → P r v l → P (r ▹ record { at = s; call = message m q }) v (stepUnder v l m .next))
   where
     at-seat : (r : Run) (c : Call) → Obeys o r → Conforms (rulesAt s r) (ledgerAt o s r) c
-        → P r (ledgerAt o s r) → P (r ▹ record { at = s; call = c }) (nextLedger (rulesAt s r) (ledgerAt o s r) c)
+        → P r (rulesAt s r) (ledgerAt o s r)
+        → P (r ▹ record { at = s; call = c }) (rulesAfter (rulesAt s r) c) (nextLedger (rulesAt s r) (ledgerAt o s r) c)
     at-seat r (message m q) obeys ok yet = answered r (rulesAt s r) m q (ledgerAt o s r) refl obeys ok yet
-    at-seat r (waitingList b q a) obeys ok yet = listed r b a q (ledgerAt o s r) yet
-    at-seat r switch obeys ok yet =
-        subst (λ (l : Ledger). P (r ▹ record { at = s; call = switch }) l) (sym (switched-same (rulesAt s r) (ledgerAt o s r)))
-        (switches r (ledgerAt o s r) yet)
+    at-seat r (waitingList b q a) obeys ok yet = listed r b a q (rulesAt s r) (ledgerAt o s r) yet
+    at-seat r switch obeys ok yet = switches r (rulesAt s r) (ledgerAt o s r) refl obeys yet
 
-    pub one-event : (r : Run) (e : Event) → Obeys o (r ▹ e) → P r (ledgerAt o s r) → P (r ▹ e) (ledgerAt o s (r ▹ e))
-    unfolding ledgerAt
+    pub one-event : (r : Run) (e : Event) → Obeys o (r ▹ e) → P r (rulesAt s r) (ledgerAt o s r) → P (r ▹ e) (rulesAt s (r ▹ e)) (ledgerAt o s (r ▹ e))
+    unfolding rulesAt ledgerAt
     one-event r e ok yet = go (sameSeat (e .at) s) refl
       where
-        go : (b : Bool) → sameSeat (e .at) s ≡ b → P (r ▹ e) (cond b (nextLedger (rulesAt s r) (ledgerAt o s r) (e .call)) (ledgerAt o s r))
+        go : (b : Bool) → sameSeat (e .at) s ≡ b
+            → P (r ▹ e) (cond b (rulesAfter (rulesAt s r) (e .call)) (rulesAt s r))
+            (cond b (nextLedger (rulesAt s r) (ledgerAt o s r) (e .call)) (ledgerAt o s r))
         go true here =
             let seat = seat-is (e .at) s here in
             let this : (record { at = s; call = e .call }) ≡ e = λ i. record { at = sym seat i; call = e .call } in
             rw (← this) (at-seat r (e .call) (ok .0) (rw seat at (ok .1)) yet)
-        go false there = elsewhere r e (ledgerAt o s r) there yet
+        go false there = elsewhere r e (rulesAt s r) (ledgerAt o s r) there yet
 
     -- so at every place, if it is true of the opened ledger
-    pub ledger-induction : ((from : Seat → Rules) → P (start from) (freshLedger o)) → (r : Run) → Obeys o r → P r (ledgerAt o s r)
-    unfolding ledgerAt
+    pub ledger-induction : ((from : Seat → Rules) → P (start from) (from s) (freshLedger o)) → (r : Run) → Obeys o r → P r (rulesAt s r) (ledgerAt o s r)
+    unfolding rulesAt ledgerAt
     ledger-induction opened (start from) ok = opened from
     ledger-induction opened (r ▹ e) ok = one-event r e ok (ledger-induction opened r (ok .0))

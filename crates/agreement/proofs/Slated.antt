@@ -8,8 +8,9 @@ use Rattle.agreement.proofs.Places.{before, obeys-before, seat-self}
 use Rattle.model.proofs.Opened.{Group}
 use Rattle.agreement.proofs.Soundness.{next-waits, opened-entry, group, Sound, bounded}
 use Rattle.agreement.proofs.Reachable.{run-induction, happened-at}
-use Rattle.agreement.proofs.StepLaws.{Turn, keeps, accepts, turn, answer-balance}
+use Rattle.agreement.proofs.StepLaws.{switched-state, Turn, keeps, accepts, turn, answer-balance}
 use Rattle.agreement.proofs.SlateSettles.{Matches, quiet-matches, join-matches, settle-matches}
+use Rattle.model.specs.Switches.{switched}
 use Rattle.model.specs.Records.{freshLedger, setEntry, withPending, withEntry}
 
 opened-matches : (o : Opening) → Matches (freshLedger o .entries) (freshSlate o)
@@ -41,11 +42,11 @@ module _ (o : Opening) (opens : Opens o) (s : Seat) where
   pub slated : (r : Run) → Obeys o r → Matches (ledgerAt o s r .entries) (slateAt o s r)
   unfolding slateAt
   slated =
-      run-induction o opens s (λ r l. Matches (l .entries) (slateAt o s r)) (λ from. opened-matches o)
-      (λ r e l other match. rw other match)
-      (λ r b a q l match. rw (seat-self s) match)
-      (λ r l match. rw (seat-self s) match)
-      (λ r m q l next ok h match.
+      run-induction o opens s (λ r v l. Matches (l .entries) (slateAt o s r)) (λ from. opened-matches o)
+      (λ r e v l other match. rw other match)
+      (λ r b a q v l match. rw (seat-self s) match)
+      (λ r v l ok match. rw (seat-self s) (quiet-matches (l .entries) (switched v l .entries) (slateAt o s r) (switched-state v l) match))
+      (λ r v m q l next ok h match.
       let g = group o opens in
       rw (seat-self s) (turn-matches o l next m q (slateAt o s r) g ok (turn o l next m q g ok h) match))
 

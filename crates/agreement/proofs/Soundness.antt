@@ -11,32 +11,39 @@ use borrow.Author.Tests.{ltb-true, eq-eqb}
 use Rattle.agreement.specs.Types.{Seat, Account, Transfer, Slot, Empty, Full, AckSlot, Entry, Ledger, Opening}
 use Rattle.agreement.specs.Runs.{Opens}
 use Rattle.model.specs.Basics.{bit, sumOf}
-use Rattle.model.specs.Records.{seatOf, noAcks, freshEntry, freshLedger, withAck, withPending, sumBalances, withEntries, withEntry, entryOf}
+use Rattle.model.specs.Records.{seatOf, accountOf, noAcks, freshEntry, freshLedger, withAck, withPending, withRetained, withNoneRetained, sumBalances, withEntries, withEntry, entryOf}
 use Rattle.model.specs.Transfers.{sameNumber, equal}
 use Rattle.model.specs.Acks.{holds, conflicts, acksFor, enough}
 use Rattle.model.specs.Refusals.{outOfRange, waitsAlready, ackFrom}
 use Rattle.model.specs.Settling.{settle}
-use Rattle.model.proofs.Sums.{impossible, sum-set, sum-set-same}
+use Rattle.model.specs.Switches.{Rules, firstRules, sinceRequest3, sinceRequest5, retainsWaiting, switched}
+use Rattle.model.proofs.Sums.{impossible, sum-set, sum-set-same, sum-same-each}
 use Rattle.model.proofs.Equality.{equal-sound, equal-refl, Conflict, conflict-complete}
 use Rattle.model.proofs.Access.{no-acks-length, set-each, set-entry-length}
 use Rattle.model.proofs.Booking.{SameButBalance, Cleared}
 use Rattle.model.proofs.Settles.{Bounded, NextWaits, settle-each, settle-sum, settle-length}
 use Rattle.model.proofs.Opened.{Group, opened-group}
 use Rattle.model.proofs.Witnesses.{fresh-sum}
-use Rattle.model.proofs.Steps.{Eligible, Recordable, entryWithAck, acceptedIn}
+use Rattle.model.proofs.Switching.{takesOver, switched-entry, switched-keeps, switched-group, switched-length}
+use Rattle.model.proofs.Steps.{Eligible, Recordable, entryWithAck, waitingUnder, acceptedIn}
 
 -- the group of an opening page that a run is about
 pub group : (o : Opening) → Opens o → Group o
 group o opens = opened-group o (opens .not-refused)
 
--- An account's entry: its acks and its waiting slip are of this account and of the next number, acks are from seats of the group, and
--- a slip with enough recorded acks is the one that waits.
+-- what is retained is of this account, and waits or has been booked
+abbrev pub RetainedStands : Account → Entry → Type 0
+RetainedStands a e = (t : Transfer) → e .retained ≡ Full t → (t .account ≡ a) × ((e .pending ≡ Full t) ⊎ (t .number ≤ e .current))
+
+-- An account's entry: its acks and its waiting slip are of this account and of the next number, acks are from seats of the group, a slip with enough
+-- recorded acks is the one that waits, and what is retained stands.
 pub record SoundEntry (o : Opening) (a : Account) (e : Entry) : Type 0 where
   pub acks-size : length (e .acks) ≡ 16
   pub acks-stand : (s : Seat) (t : Transfer) → ackFrom e s ≡ Full t → (s .0 < o .seats) × (t .account ≡ a) × (t .number ≡ e .current + 1)
   pub pending-stands : (t : Transfer) → e .pending ≡ Full t
       → (t .account ≡ a) × (t .number ≡ e .current + 1) × (t .account .0 < o .accounts) × (t .recipient .0 < o .accounts)
   pub decided : (t : Transfer) → enough (o .seats) (o .faults) (acksFor t (e .acks)) ≡ true → e .pending ≡ Full t
+  pub retained-stands : RetainedStands a e
 
 pub record Sound (o : Opening) (l : Ledger) : Type 0 where
   pub seats-same : l .seats ≡ o .seats
@@ -68,32 +75,48 @@ module _ (o : Opening) where
       omega (arith, no-acks-for t)
 
   -- an entry in which nothing is recorded and nothing waits
-  quiet : (a : Account) (e : Entry) → e .acks ≡ noAcks → e .pending ≡ Empty → SoundEntry o a e
-  quiet a e acks pending =
+  quiet : (a : Account) (e : Entry) → e .acks ≡ noAcks → e .pending ≡ Empty → RetainedStands a e → SoundEntry o a e
+  quiet a e acks pending retained =
       record {
         acks-size = rw acks no-acks-length;
         acks-stand = λ s t h. impossible (cc (rw acks at h, no-acks s));
         pending-stands = λ t h. impossible (cc);
         decided = λ t h. absurd (none-enough t (rw acks at h));
+        retained-stands = retained;
       }
 
-  -- what stays where acks, current and the waiting slip stay
-  pub marked-sound : (a : Account) (e e′ : Entry) → e′ .acks ≡ e .acks → e′ .current ≡ e .current → e′ .pending ≡ e .pending
-      → SoundEntry o a e → SoundEntry o a e′
-  marked-sound a e e′ acks current pending ok =
+  -- what stays where acks, current and the waiting slip stay, with something else retained
+  retained-sound : (a : Account) (e e′ : Entry) → e′ .acks ≡ e .acks → e′ .current ≡ e .current → e′ .pending ≡ e .pending
+      → RetainedStands a e′ → SoundEntry o a e → SoundEntry o a e′
+  retained-sound a e e′ acks current pending retained ok =
       record {
         acks-size = rw acks (ok .acks-size);
         acks-stand = λ s t h. rw current (ok .acks-stand s t (rw acks at h));
         pending-stands = λ t h. rw current (ok .pending-stands t (rw pending at h));
         decided = λ t h. rw pending (ok .decided t (rw acks at h));
+        retained-stands = retained;
       }
+
+  -- and where the retained slip stays too
+  pub marked-sound : (a : Account) (e e′ : Entry) → e′ .acks ≡ e .acks → e′ .current ≡ e .current → e′ .pending ≡ e .pending → e′ .retained ≡ e .retained
+      → SoundEntry o a e → SoundEntry o a e′
+  marked-sound a e e′ acks current pending retained ok =
+      retained-sound a e e′ acks current pending (λ t h. rw (current, pending) (ok .retained-stands t (sym retained ∙ h))) ok
 
   kept-sound : (a : Account) (e e′ : Entry) → SameButBalance e e′ → SoundEntry o a e → SoundEntry o a e′
   kept-sound a e e′ same =
       marked-sound a e e′ (ap (λ (x : Entry). x .acks) same) (ap (λ (x : Entry). x .current) same) (ap (λ (x : Entry). x .pending) same)
+      (ap (λ (x : Entry). x .retained) same)
 
-  booked-sound : (a : Account) (e e′ : Entry) (t : Transfer) → e .pending ≡ Full t → Cleared t e′ → SoundEntry o a e → SoundEntry o a e′
-  booked-sound a e e′ t waits clear ok = quiet a e′ (clear .no-acks) (clear .none-pending)
+  booked-sound : (a : Account) (e e′ : Entry) (t : Transfer) → e .pending ≡ Full t → Cleared t e e′ → SoundEntry o a e → SoundEntry o a e′
+  booked-sound a e e′ t waits clear ok = quiet a e′ (clear .no-acks) (clear .none-pending) stands
+    where
+      past : (u : Transfer) → (e .pending ≡ Full u) ⊎ (u .number ≤ e .current) → u .number ≤ e′ .current
+      past u (inl this) = let same : t ≡ u = cc in omega (arith, clear .current-is, ap (λ (x : Transfer). x .number) same)
+      past u (inr before) = omega (arith, clear .current-is, ok .pending-stands t waits .1)
+
+      stands : RetainedStands a e′
+      stands u h = let was = ok .retained-stands u (sym (clear .retained-same) ∙ h) in (was .0, inr (past u (was .1)))
 
   -- an account for which a call brings an eligible slip has nothing that waits
   idle : (a : Account) (e : Entry) (t : Transfer) → SoundEntry o a e → t .account ≡ a → t .number ≡ e .current + 1
@@ -125,6 +148,14 @@ module _ (o : Opening) where
             differ = λ same. impossible (cc (differs, equal-refl t, same));
           } in
           impossible (cc (agrees, conflict-complete u t both))
+
+  -- where nothing waits, what is retained has been booked, so it stands where a slip is accepted too
+  past-retained : (a : Account) (e : Entry) (t : Transfer) → SoundEntry o a e → e .pending ≡ Empty → RetainedStands a (withPending e t)
+  past-retained a e t ok empty u h = let was = ok .retained-stands u h in (was .0, go (was .1))
+    where
+      go : (e .pending ≡ Full u) ⊎ (u .number ≤ e .current) → (withPending e t .pending ≡ Full u) ⊎ (u .number ≤ e .current)
+      go (inl waits) = impossible (cc)
+      go (inr past) = inr past
 
   -- one more ack is recorded
   module _ (a : Account) (e : Entry) (s : Seat) (t : Transfer)
@@ -192,6 +223,7 @@ module _ (o : Opening) where
             acks-stand = stand;
             pending-stands = λ u h. impossible (cc);
             decided = λ u h. impossible (let same : u ≡ t = only-this empty u h in cc (few));
+            retained-stands = ok .retained-stands;
           }
 
       accepted-sound : e .pending ≡ Empty → t .account .0 < o .accounts → t .recipient .0 < o .accounts → SoundEntry o a (withPending (withAck e s t) t)
@@ -201,6 +233,7 @@ module _ (o : Opening) where
             acks-stand = stand;
             pending-stands = λ u h. let same : t ≡ u = cc in rw (← same) (account, next, payer, recipient);
             decided = λ u h. ap Full (sym (only-this empty u h));
+            retained-stands = past-retained a e t ok empty;
           }
 
   -- a ruling's slip waits
@@ -212,6 +245,7 @@ module _ (o : Opening) where
         acks-stand = ok .acks-stand;
         pending-stands = λ u h. let same : t ≡ u = cc in rw (← same) (account, next, payer, recipient);
         decided = λ u h. impossible (cc (ok .decided u h, empty));
+        retained-stands = past-retained a e t ok empty;
       }
 
 -- the bounds under which settling is in plain numbers
@@ -240,7 +274,35 @@ opened-sound o opens =
       total-same = refl;
       size = length-map (o .balances) freshEntry ∙ opens .full-page;
       sum-same = fresh-sum (o .balances);
-      each = λ a. rw (opened-entry o a) (quiet o a (freshEntry (getD (o .balances) (a .0) 0)) refl refl);
+      each = λ a. rw (opened-entry o a) (quiet o a (freshEntry (getD (o .balances) (a .0) 0)) refl refl (λ t h. impossible (cc)));
+    }
+
+-- a switch keeps a ledger sound: what it retains waits
+takes-over-sound : (o : Opening) (a : Account) (v : Rules) (e : Entry) → SoundEntry o a e → SoundEntry o a (takesOver v e)
+takes-over-sound o a firstRules e ok = ok
+takes-over-sound o a sinceRequest3 e ok = go (e .pending) refl
+  where
+    go : (p : Slot) → e .pending ≡ p → SoundEntry o a (retainsWaiting p e)
+    go Empty is = retained-sound o a e (withNoneRetained e) refl refl refl (λ t h. impossible (cc)) ok
+    go (Full t) is =
+        retained-sound o a e (withRetained e t) refl refl refl
+        (λ u h. let same : t ≡ u = cc in rw (← same) (ok .pending-stands t is .0, inl is)) ok
+takes-over-sound o a sinceRequest5 e ok = ok
+
+pub switched-sound : (o : Opening) (l : Ledger) (v : Rules) → Sound o l → Sound o (switched v l)
+switched-sound o l v ok =
+    let same = switched-group v l in
+    let balances =
+    sum-same-each (λ e. e .balance) (switched v l .entries) (l .entries) (freshEntry 0) (switched-length v l)
+    (λ i. ap (λ (e : Entry). e .balance) (switched-keeps v l (accountOf i))) in
+    record {
+      seats-same = same .seats-same ∙ ok .seats-same;
+      faults-same = same .faults-same ∙ ok .faults-same;
+      accounts-same = same .accounts-same ∙ ok .accounts-same;
+      total-same = same .total-same ∙ ok .total-same;
+      size = switched-length v l ∙ ok .size;
+      sum-same = balances ∙ ok .sum-same;
+      each = λ a. rw (switched-entry v l a) (takes-over-sound o a v (entryOf l a) (ok .each a));
     }
 
 module _ (o : Opening) (l : Ledger) (g : Group o) (ok : Sound o l) where
@@ -339,6 +401,15 @@ ruled-entry o l t g ok fit =
     let found = admitted o l t g ok fit in
     ruled-sound o (t .account) (entryOf l (t .account)) t (ok .each (t .account)) refl (fit .is-next) (found .none-waits)
     (found .payer-known) (found .recipient-known)
+
+-- the same with what the rules retain
+pub retain-sound : (o : Opening) (v : Rules) (e : Entry) (t : Transfer) → SoundEntry o (t .account) (withPending e t)
+    → SoundEntry o (t .account) (waitingUnder v e t)
+retain-sound o firstRules e t ok = ok
+retain-sound o sinceRequest3 e t ok = ok
+retain-sound o sinceRequest5 e t ok =
+    retained-sound o (t .account) (withPending e t) (waitingUnder sinceRequest5 e t) refl refl refl
+    (λ u h. let same : t ≡ u = cc in rw (← same) (refl, inl refl)) ok
 
 -- a slip that is accepted waits, and then the waiting slips are settled
 pub waits-sound : (o : Opening) (l : Ledger) (t : Transfer) (e : Entry) → Group o → Sound o l

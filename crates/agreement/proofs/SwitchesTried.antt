@@ -23,7 +23,7 @@ use Rattle.model.specs.Openings.{openReply}
 use Rattle.model.specs.Acks.{hasMost, mostAcked}
 use Rattle.model.specs.Settling.{lowestAffordable, apply, settleAtMost, settle}
 use Rattle.model.specs.Calls.{step}
-use Rattle.model.specs.Switches.{firstRules, sinceRequest3, newest, stepUnder}
+use Rattle.model.specs.Switches.{firstRules, sinceRequest3, sinceRequest5, newest, stepUnder}
 use Rattle.model.proofs.Rows.{slip}
 use Rattle.model.proofs.Sums.{impossible}
 
@@ -41,7 +41,7 @@ abbrev z : Transfer
 z = slip 0 2 6 1
 
 -- every seat starts under the first rules
-abbrev asItWas : Run
+abbrev pub asItWas : Run
 asItWas = start (λ s. firstRules)
 
 -- seat s is asked for its waiting list, with a buffer that is too short
@@ -49,7 +49,7 @@ abbrev noRoom : ℕ → Event
 noRoom s = record { at = seatOf s; call = waitingList [] (ListRefused ShortBuffer) [] }
 
 -- seat s switches
-abbrev switches : ℕ → Event
+abbrev pub switches : ℕ → Event
 switches s = record { at = seatOf s; call = switch }
 
 -- Seat 0 switches before it could ack w, which it then refuses. Seats 1 to 4 ack w, and then seat 1 switches: the mark stands, the same slip meets 20 and
@@ -67,8 +67,8 @@ booked =
     ▹ ack 3 1 w Note ▹ ack 3 2 w Note ▹ ack 3 3 w Note ▹ switches 3 ▹ ack 3 4 w Note ▹ ack 3 5 w (Accept 1)
     ▹ ack 4 1 w Note ▹ ack 4 2 w Note ▹ ack 4 3 w Note ▹ ack 4 4 w Note ▹ ack 4 5 w (Accept 1)
 
--- Of the next number, seats 0 and 1 ack x, seats 3 and 4 ack y, and the bad seat z. Seat 1 switches once more, which changes nothing: it refuses a home that
--- pays itself, and puts x forward, the first by its lowest seat. Seat 4 never switches, whatever else it is asked, and puts y forward. Seat 2 switches
+-- Of the next number, seats 0 and 1 ack x, seats 3 and 4 ack y, and the bad seat z. Seat 1 switches once more, to the rules since request 5: it refuses a home
+-- that pays itself, and puts x forward, the first by its lowest seat. Seat 4 never switches, whatever else it is asked, and puts y forward. Seat 2 switches
 -- between these acks. The council rules for x, at all five.
 abbrev pub across : Run
 across =
@@ -126,12 +126,12 @@ pub across-has :
     × (happened (λ e. passes (equal w) (ruled (e .call))) across ≡ false)
     × (acceptedByAll x across ≡ true)
     × (happened (putsForward x) across && happened (putsForward y) across ≡ true)
-    × (rulesAt (seatOf 0) booked ≡ newest)
-    × (rulesAt (seatOf 1) booked ≡ newest)
+    × (rulesAt (seatOf 0) booked ≡ sinceRequest3)
+    × (rulesAt (seatOf 1) booked ≡ sinceRequest3)
     × (rulesAt (seatOf 2) booked ≡ firstRules)
-    × (rulesAt (seatOf 3) booked ≡ newest)
-    × (rulesAt (seatOf 1) across ≡ newest)
-    × (rulesAt (seatOf 2) across ≡ newest)
+    × (rulesAt (seatOf 3) booked ≡ sinceRequest3)
+    × (rulesAt (seatOf 1) across ≡ sinceRequest5)
+    × (rulesAt (seatOf 2) across ≡ sinceRequest3)
     × (rulesAt (seatOf 4) across ≡ firstRules)
 unfolding rulesAt equal
 across-has = (refl, refl, refl, refl, refl, refl, refl, refl, refl, refl, refl)
@@ -157,7 +157,7 @@ own-choice = tt then refl then refl
 -- "running an old bundle again is no switch, since a slip acked in it could now meet 20 and leave no mark." The old bundle has the slip w. One seat played
 -- it under the first rules, and switched; another plays it again under today's.
 abbrev heldOn : Run
-heldOn = asItWas ▹ acks 0 w ▹ switches 0
+heldOn = asItWas ▹ acks 0 w ▹ switches 0 ▹ switches 0
 
 abbrev ranAgain : Run
 ranAgain = today ▹ asked 0 (Circulated w) (Refuse SelfPayment)
@@ -165,7 +165,7 @@ ranAgain = today ▹ asked 0 (Circulated w) (Refuse SelfPayment)
 -- both obey, each by its rules, which are in the end the same
 pub no-switch-obeys : Obeys page heldOn × Obeys page ranAgain × (rulesAt (seatOf 0) heldOn ≡ rulesAt (seatOf 0) ranAgain)
 unfolding rulesAt ledgerAt noAcks equal conflict lowestAffordable apply settleAtMost settle stepUnder
-no-switch-obeys = (tt then refl then tt, tt then refl, refl)
+no-switch-obeys = (tt then refl then tt then tt, tt then refl, refl)
 
 abbrev mark : Ledger → Bool
 mark l = entryOf l (accountOf 0) .acked
@@ -183,7 +183,7 @@ no-switch = (refl, refl, λ same. false≢true (ap mark same), refl, refl)
 -- what is said of every mark is said of this one: w meets 20 there, and t 12. Once its number is booked, a mark is gone
 pub mark-tried : MarkStands page (seatOf 0) heldOn w
 unfolding rulesAt ledgerAt noAcks equal conflict lowestAffordable apply settleAtMost settle stepUnder
-mark-tried = marks-stand page heldOn asItWas heldOn (acks 0 w) w (across-keeps .0) (no-switch-obeys .0) (sooner at-end) at-end refl (lit< tt)
+mark-tried = marks-stand page heldOn asItWas heldOn (acks 0 w) w (across-keeps .0) (no-switch-obeys .0) (sooner (sooner at-end)) at-end refl (lit< tt)
 
 pub mark-says :
     (stepUnder sinceRequest3 (ledgerAt page (seatOf 0) heldOn) (Circulated w) .reply ≡ Refuse SelfPayment)

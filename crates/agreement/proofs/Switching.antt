@@ -18,11 +18,11 @@ use Rattle.model.specs.Types.{Outcome}
 use Rattle.model.specs.Basics.{bit}
 use Rattle.model.specs.Records.{entryOf}
 use Rattle.model.specs.Refusals.{outOfRange, paysItself}
-use Rattle.model.specs.Calls.{rulesIn, stepBy}
-use Rattle.model.specs.Switches.{Rules, firstRules, sinceRequest3, newest, rank, nextRules, switched, rulesMet, stepUnder}
+use Rattle.model.specs.Calls.{payerOf, turnBy, finished, entryFor, rulesIn}
+use Rattle.model.specs.Switches.{Rules, firstRules, sinceRequest3, sinceRequest5, newest, rank, nextRules, switched, rulesMet, retainsAs, stepUnder}
 use Rattle.model.proofs.Proposals.{most-acked-most}
 use Rattle.model.proofs.Refusing.{refuses}
-use Rattle.model.proofs.Switching.{switched-same, ack-rules, ruling-rules}
+use Rattle.model.proofs.Switching.{ack-rules, ruling-rules}
 
 module _ (l : Ledger) (m : Message) where
   -- what may be replied under rules v is what is due, or both are P and have the most acks
@@ -33,8 +33,8 @@ module _ (l : Ledger) (m : Message) where
           → SameSaveTies (acksWith l m) r (stepUnder v l m .reply)
       go none e is = inl is
       go (some t) e (u, is, most) =
-          let due = free-carried v (stepUnder v l m .reply) t e in
-          inr (u, t, is, due, most, rw (most-with v l m t due) (most-acked-most (acksWith l m)))
+          let due = free-carried v l m (stepUnder v l m .reply) t e in
+          inr (u, t, is, due .0, most, rw (most-with v l m t (due .1) (due .0)) (most-acked-most (acksWith l m)))
 
   -- two that are the same as one, save ties, are so
   join-ties : (q r due : Reply) → SameSaveTies (acksWith l m) q due → SameSaveTies (acksWith l m) r due → SameSaveTies (acksWith l m) q r
@@ -47,7 +47,8 @@ module _ (l : Ledger) (m : Message) where
 alike : (l : Ledger) (m : Message) → rulesMet firstRules l m ≡ rulesIn l m → Alike l m
 unfolding stepUnder
 alike l m meets q r first second =
-    let same : stepUnder firstRules l m ≡ stepUnder sinceRequest3 l m = ap (λ rules. stepBy rules l m) meets in
+    let same : stepUnder firstRules l m ≡ stepUnder sinceRequest3 l m =
+    ap (λ rules. finished l (payerOf m) (retainsAs (entryFor l m) (turnBy false rules l (entryFor l m) m))) meets in
     let theirs = subst (λ (due : Outcome). SameSaveTies (acksWith l m) r (due .reply)) (sym same) (due-save-ties l m sinceRequest3 r second) in
     (join-ties l m q r (stepUnder firstRules l m .reply) (due-save-ties l m firstRules q first) theirs, ap (λ (x : Outcome). x .next) same)
 
@@ -65,6 +66,7 @@ never-earlier v (message m r) = omega arith
 never-earlier v (waitingList b r a) = omega arith
 never-earlier firstRules switch = omega arith
 never-earlier sinceRequest3 switch = omega arith
+never-earlier sinceRequest5 switch = omega arith
 
 pub none-goes-back : NoneGoesBack
 unfolding rulesAt
@@ -85,7 +87,7 @@ newest-stays o s z run is = go (sameSeat s z) refl
         × (cond b (switched (rulesAt z run) (ledgerAt o z run)) (ledgerAt o z run) ≡ ledgerAt o z run)
     go true here =
         let there : rulesAt z run ≡ newest = rw (seat-is s z here) at is in
-        (rw there refl, switched-same (rulesAt z run) (ledgerAt o z run))
+        (rw there refl, rw there refl)
     go false other = (refl, refl)
 
 -- a mark, from a number that the seat has booked or acked
@@ -99,7 +101,7 @@ mark-set e t upto unbooked = go (e .acked) refl
 module _ (l : Ledger) (t : Transfer) where
   -- what a circulated slip meets: 20
   meets-20 : outOfRange l t ≡ false → paysItself t ≡ true → stepUnder sinceRequest3 l (Circulated t) .reply ≡ Refuse SelfPayment
-  meets-20 range itself = ap (λ (x : Outcome). x .reply) (refuses sinceRequest3 l (Circulated t) SelfPayment (rw (range, itself)))
+  meets-20 range itself = ap (λ (x : Outcome). x .reply) (refuses sinceRequest3 l (Circulated t) SelfPayment refl (rw (range, itself)))
 
   -- .. and 12
   meets-12 : outOfRange l t ≡ false → paysItself t ≡ false → t .number ≡ entryOf l (t .account) .current + 1
@@ -108,7 +110,7 @@ module _ (l : Ledger) (t : Transfer) where
   meets-12 range other next none-waits mark =
       let e = entryOf l (t .account) in
       ap (λ (x : Outcome). x .reply)
-      (refuses sinceRequest3 l (Circulated t) AlreadyAcked
+      (refuses sinceRequest3 l (Circulated t) AlreadyAcked refl
       (rw (range, other, lt-leb (t .number) (e .current) (omega arith), le-ltb (e .current + 1) (t .number) (omega arith), none-waits, mark)))
 
 pub marks-stand : MarksStand

@@ -3,7 +3,7 @@
 use Prim.Native.Nat.{ℕ, zero, suc, _+_, _*_, _≤_, _<_}
 use native.Mathlib.Decide.{decLe}
 use native.Mathlib.Omega.{arith}
-use mathlib.Core.Path.{_≡_, refl, ap, sym, _∙_}
+use mathlib.Core.Path.{_≡_, refl, ap, sym, subst, _∙_}
 use mathlib.Core.Logic.{_⊎_, inl, inr}
 use mathlib.Core.Bool.{Bool, true, false, not, _&&_}
 use mathlib.Core.Option.{some}
@@ -18,21 +18,22 @@ use Rattle.agreement.proofs.Places.{before, within-trans, happened-foun
 use Rattle.agreement.proofs.Proposals.{happens-in-run, refused-due}
 use Rattle.agreement.proofs.Deeds.{Accepts, by-ack, by-ruling, accepted-is, brings-is, deed-found}
 use Rattle.agreement.proofs.Soundness.{group, Sound}
-use Rattle.agreement.proofs.StepLaws.{Held, stays-held, now-held, BookedOrWaits, stays-settled, AckRefused, unknown-seat, out-of-range, past-number, future-number, waits-already, repeated, conflicting, ack-refused}
+use Rattle.agreement.proofs.StepLaws.{ProposesLate, Held, stays-held, now-held, BookedOrWaits, stays-settled, AckRefused, unknown-seat, out-of-range, past-number, future-number, waits-already, repeated, conflicting, ack-refused}
 use Rattle.agreement.proofs.Reachable.{sound, stays}
 use Rattle.agreement.proofs.Quorums.{count-lift, two-quorums, quorum-most}
 use Rattle.agreement.proofs.Acked.{acked-by-found, acked-by-later, acked-by-once, all-from, acked-in-range}
-use Rattle.agreement.proofs.Votes.{vote, Tally, votes-counted}
-use Rattle.agreement.proofs.Agree.{number-same, acks-quorum, proposed-majority, ruled-only}
+use Rattle.agreement.proofs.Votes.{vote, Tally, votes-counted, Quorum, Majority}
+use Rattle.agreement.proofs.Agree.{number-same, acks-quorum, proposed-why, ruled-only}
 use Rattle.agreement.proofs.Reasons.{all-reasons, decided-accepted}
 use Rattle.model.specs.Basics.{bit}
-use Rattle.model.specs.Records.{seatOf, entryOf}
+use Rattle.model.specs.Records.{seatOf, withRetainedOf, entryOf}
 use Rattle.model.specs.Transfers.{equal}
 use Rattle.model.specs.Acks.{holds, conflicts, acksFor, enough}
 use Rattle.model.specs.Refusals.{outOfRange, waitsAlready, ackFrom}
-use Rattle.model.specs.Switches.{Rules, stepUnder}
+use Rattle.model.specs.Switches.{Rules, switched, stepUnder}
 use Rattle.model.proofs.Sums.{impossible, both}
-use Rattle.model.proofs.Equality.{equal-sound, equal-refl, conflict-sound}
+use Rattle.model.proofs.Equality.{equal-sound, equal-refl, Conflict, conflict-sound}
+use Rattle.model.proofs.Switching.{switched-keeps}
 use Rattle.model.proofs.Refusing.{refusal-keeps}
 use Rattle.model.proofs.Steps.{Happens}
 
@@ -67,25 +68,38 @@ module _ (o : Opening) (bad : Seat → Bool) (run : Run) (opens : Opens o) (few 
     all-for : o .seats + 3 * o .faults < 2 * countBelow (λ i. holds t (Full t)) (o .seats)
     all-for = omega (arith, count-all (λ i. equal t t) (o .seats) (λ i. equal-refl t), group o opens .few-faults)
 
-    only-proposed : (q : Run) (d : Event) (u : Transfer) → Within (q ▹ d) run → proposed (d .call) ≡ some u
-        → t .account ≡ u .account → t .number ≡ u .number → t ≡ u
-    only-proposed q d u w is account number =
-        let major = proposed-majority o bad run opens few obeys kept q d u w is in
+    -- so of its account and number only t has a majority, or a quorum
+    only-majority : (u : Transfer) → Majority o bad run u → t .account ≡ u .account → t .number ≡ u .number → t ≡ u
+    only-majority u major account number =
         quorum-most (λ i. bad (seatOf i)) (o .seats) (o .faults) (λ i. Full t) (vote (major .entry)) few
         (honest-vote u (major .entry) (major .tally) account number)
         t u all-for (major .recorded) (major .most t)
+
+    only-quorum : (u : Transfer) → Quorum o bad run u → t .account ≡ u .account → t .number ≡ u .number → t ≡ u
+    only-quorum u quorum account number =
+        two-quorums (λ i. bad (seatOf i)) (o .seats) (o .faults) (λ i. Full t) (vote (quorum .entry)) few
+        (honest-vote u (quorum .entry) (quorum .tally) account number)
+        t u all-for (quorum .many)
 
     only-accepted : (q : Run) (d : Event) (u : Transfer) → Within (q ▹ d) run → accepted (d .call) ≡ some u
         → t .account ≡ u .account → t .number ≡ u .number → t ≡ u
     only-accepted q d u w is account number = go (accepted-is (d .call) u is)
       where
         go : Accepts (d .call) u → t ≡ u
-        go (by-ack s k this) =
-            let quorum = acks-quorum o bad run opens few obeys kept q d s u k w this in
-            two-quorums (λ i. bad (seatOf i)) (o .seats) (o .faults) (λ i. Full t) (vote (quorum .entry)) few
-            (honest-vote u (quorum .entry) (quorum .tally) account number)
-            t u all-for (quorum .many)
-        go (by-ruling k this) = sym (ruled-only o bad run opens few obeys kept t u only-proposed q d w (ap ruled this) account number)
+        go (by-ack s k this) = only-quorum u (acks-quorum o bad run opens few obeys kept q d s u k w this) account number
+        go (by-ruling k this) =
+            sym (ruled-only o bad run opens few obeys kept t u only-majority only-quorum q d w (ap ruled this) account number)
+
+    -- what is put forward has a majority, or its seat accepted it
+    only-proposed : (q : Run) (d : Event) (u : Transfer) → Within (q ▹ d) run → proposed (d .call) ≡ some u
+        → t .account ≡ u .account → t .number ≡ u .number → t ≡ u
+    only-proposed q d u w is account number = go (proposed-why o bad run opens few obeys kept q d u w is)
+      where
+        go : Majority o bad run u ⊎ (acceptedBy (d .at) u q ≡ true) → t ≡ u
+        go (inl major) = only-majority u major account number
+        go (inr accepts) =
+            let found = deed-found accepted (d .at) u q accepts in
+            only-accepted (found .0) (found .1) u (within-trans (found .2) (before w)) (found .4) account number
 
     -- the acks of all honest seats are enough
     held-enough : (p : Run) (z : Seat) → Within p run
@@ -182,9 +196,24 @@ module _ (o : Opening) (bad : Seat → Bool) (run : Run) (opens : Opens o) (few 
         v = rulesAt z q
 
         taken : (y : Reply) → MayReply v l (Ack s t) y → isRefusal y ≡ false → Arrived s t (entryOf (stepUnder v l (Ack s t) .next) (t .account))
-        taken y h is =
-            let ok = sound o opens z q (obeys-before o obeys (before w)) in
-            inl (now-held o l _ (Ack s t) y (group o opens) ok s t refl is (happens-in-run v l (Ack s t) y h))
+        taken y h is = held (now-held v o l _ (Ack s t) y (group o opens) ok s t refl is (happens-in-run v l (Ack s t) y h))
+          where
+            here : Obeys o q
+            here = obeys-before o obeys (before w)
+
+            ok : Sound o l
+            ok = sound o opens z q here
+
+            -- no late P is due to it: its seat would have accepted a slip that conflicts with t
+            held : {next : Ledger} → Held s t (entryOf next (t .account)) ⊎ ((u : Transfer) × ProposesLate v l (Ack s t) u next × Conflict u t)
+                → Arrived s t (entryOf next (t .account))
+            held (inl now) = inl now
+            held (inr (u, late, clash)) =
+                let reason = all-reasons o opens z q here (late .slip .account) .why-retained u (late .joins .is-retained) in
+                let found = deed-found accepted z u q reason in
+                let same =
+                only-accepted (found .0) (found .1) u (within-trans (found .2) (before w)) (found .4) (sym (clash .account)) (sym (clash .number)) in
+                absurd (clash .differ (sym same))
 
         go : (y : Reply) → r ≡ y → MayReply v l (Ack s t) y → Arrived s t (entryOf (stepUnder v l (Ack s t) .next) (t .account))
         go Circulate at h = taken Circulate h refl
@@ -201,12 +230,24 @@ module _ (o : Opening) (bad : Seat → Bool) (run : Run) (opens : Opens o) (few 
     stays-arrived : (z s : Seat) {p r : Run} → Obeys o r → Within p r
         → Arrived s t (entryOf (ledgerAt o z p) (t .account)) → Arrived s t (entryOf (ledgerAt o z r) (t .account))
     stays-arrived z s =
-        stays o opens z (λ l. Arrived s t (entryOf l (t .account))) go
+        stays o opens z (λ v l. Arrived s t (entryOf l (t .account))) (λ v l ok old. switched-arrived v l old) go
       where
-        go : (l next : Ledger) (m : Message) (q : Reply) → Sound o l → Happens l m q next
+        switched-arrived : (v : Rules) (l : Ledger) → Arrived s t (entryOf l (t .account)) → Arrived s t (entryOf (switched v l) (t .account))
+        switched-arrived v l old = subst (Arrived s t) (sym (switched-keeps v l (t .account))) (same old)
+          where
+            e : Entry
+            e = entryOf l (t .account)
+
+            e′ : Entry
+            e′ = entryOf (switched v l) (t .account)
+
+            same : Arrived s t e → Arrived s t (withRetainedOf e e′)
+            same old = old
+
+        go : (v : Rules) (l next : Ledger) (m : Message) (q : Reply) → Sound o l → Happens v l m q next
             → Arrived s t (entryOf l (t .account)) → Arrived s t (entryOf next (t .account))
-        go l next m q ok h (inl held) = inl (stays-held o l next m q (group o opens) ok s t h (t .account) held)
-        go l next m q ok h (inr other) =
+        go v l next m q ok h (inl held) = inl (stays-held v o l next m q (group o opens) ok s t h (t .account) held)
+        go v l next m q ok h (inr other) =
             inr (other .0, other .1, other .2, stays-settled o l next m q (group o opens) ok h (other .0) (t .account) (other .3))
 
     -- t's number was booked, or a slip of it waits, or all acks are held: either way t was accepted

@@ -15,7 +15,7 @@ use Rattle.model.specs.Records.{seatOf, noAcks}
 use Rattle.model.specs.Transfers.{equal, conflict}
 use Rattle.model.specs.Acks.{ackAt, hasMost, mostAcked}
 use Rattle.model.specs.Settling.{lowestAffordable, apply, settleAtMost, settle}
-use Rattle.model.specs.Calls.{step}
+use Rattle.model.specs.Calls.{lateIn, step}
 use Rattle.model.specs.Switches.{Rules, firstRules, newest, stepUnder}
 use Rattle.model.proofs.Rows.{slip, pageWith}
 use Rattle.model.proofs.Sums.{impossible}
@@ -89,12 +89,12 @@ unfolding rulesAt ledgerAt noAcks equal conflict hasMost mostAcked lowestAfforda
 ties-differ same = not-one u t (same (Propose u) (Propose t) (u, refl, refl) refl) (lit< tt)
 
 -- both are answered P, and with that ack they have the same acks: what is said of two such calls is said of these
-pub same-acks-tried : (step one wLast .reply ≡ Propose t) × (step other tLast .reply ≡ Propose t) × SameAcks one wLast other tLast
+pub same-acks-tried : (lateIn one wLast ≡ false) × (lateIn other tLast ≡ false) × (step one wLast .reply ≡ Propose t) × (step other tLast .reply ≡ Propose t) × SameAcks one wLast other tLast
 unfolding rulesAt ledgerAt noAcks equal conflict hasMost mostAcked lowestAffordable apply settleAtMost settle step stepUnder
 same-acks-tried =
     let first : acksWith one wLast ≡ recorded = refl in
     let second : acksWith other tLast ≡ recorded = refl in
-    (refl, refl, λ s. ap (λ (acks : List AckSlot). ackAt acks (s .0)) (first ∙ sym second))
+    (refl, refl, refl, refl, λ s. ap (λ (acks : List AckSlot). ackAt acks (s .0)) (first ∙ sym second))
 
 -- Where the acks differ, so may the slips: at one seat three acks of t and two of u, at another the other way round.
 abbrev moreT : Ledger
@@ -111,5 +111,5 @@ unfolding rulesAt ledgerAt noAcks equal conflict hasMost mostAcked lowestAfforda
 same-acks-needed = (
   refl,
   refl,
-  λ same. not-one u t (ap Propose (sym (put-forward-alike moreT moreU (Ack (seatOf 4) u) (Ack (seatOf 1) t) t u refl refl same))) (lit< tt),
+  λ same. not-one u t (ap Propose (sym (put-forward-alike moreT moreU (Ack (seatOf 4) u) (Ack (seatOf 1) t) t u refl refl refl refl same))) (lit< tt),
 )

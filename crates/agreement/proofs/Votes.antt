@@ -107,7 +107,7 @@ module _ (o : Opening) (bad : Seat → Bool) (run : Run) (opens : Opens o) (l : 
       let counted = votes-counted o bad run opens (t .account) (t .number) (entryWithAck l s t) tally (holds t) refl in
       record { entry = entryWithAck l s t; tally = tally; many = omega (arith, rw (ok .seats-same, ok .faults-same) at many) }
 
-  pub propose-majority : (m : Message) (u : Transfer) (p : Proposes l m u) → FromSenders o bad run (entryWithAck l (p .sender) (p .slip))
+  pub propose-majority : {next : Ledger} (m : Message) (u : Transfer) (p : Proposes l m u next) → FromSenders o bad run (entryWithAck l (p .sender) (p .slip))
       → Majority o bad run u
   propose-majority m u p from =
       let found = proposes-for o l m u (group o opens) ok p in

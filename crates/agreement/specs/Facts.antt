@@ -5,14 +5,17 @@ use mathlib.Core.Path.{_≡_}
 use mathlib.Core.Bool.{Bool, true, false, not, _&&_, _||_}
 use mathlib.Core.Option.{some}
 use lib.ListN.{take}
-use Rattle.agreement.specs.Types.{Seat, Account, Transfer, Full, Ledger, Opening, Message, Request, Circulated, Ack, Decision, Inquiry, Reply, Circulate, Acknowledge, Accept, Propose, Note, Balance, Refuse}
-use Rattle.agreement.specs.Runs.{Opens, Call, message, waitingList, switch, Event, Run, _▹_, Within, happened, sameSeat, ledgerAt, Obeys, isAccept, isRefusal, acked, accepted, proposed, ruled, passes}
+use Rattle.agreement.specs.Types.{Seat, Account, Transfer, Empty, Full, Ledger, Opening, Message, Request, Circulated, Ack, Decision, Inquiry, Reply, Circulate, Acknowledge, Accept, Propose, Note, Balance, Refuse}
+use Rattle.agreement.specs.Runs.{Opens, Call, message, waitingList, switch, Event, Run, _▹_, Within, happened, sameSeat, rulesAt, ledgerAt, Obeys, isAccept, isRefusal, acked, accepted, proposed, ruled, passes}
 use Rattle.agreement.specs.Slates.{slateAt}
-use Rattle.model.specs.Basics.{sumOf}
+use Rattle.model.specs.Basics.{bit, sumOf}
 use Rattle.model.specs.Records.{withAck, sumBalances, sumCurrents, entryOf}
-use Rattle.model.specs.Transfers.{equal}
+use Rattle.model.specs.Transfers.{sameNumber, equal}
 use Rattle.model.specs.Acks.{holds, acksFor, enough}
 use Rattle.model.specs.Refusals.{ackFrom}
+use Rattle.model.specs.Settling.{isWaiting}
+use Rattle.model.specs.Calls.{lateIn}
+use Rattle.model.specs.Switches.{sinceRequest5, rank}
 
 -- the call is answered K
 abbrev pub answeredK : Call → Bool
@@ -30,11 +33,14 @@ countOf Note = 0
 countOf (Balance b) = 0
 countOf (Refuse q) = 0
 
--- the call is not refused, and it is an ack with which twice the recorded acks of its slip exceed n + 3f, or a ruling
+-- the call is not refused, and it is a ruling, or an ack that is recorded, since it brings no late P, and with which twice the recorded acks of its slip
+-- exceed n + 3f. (Before request 5 no ack of a run would bring one today either, for nothing is retained.)
 abbrev pub mustAccept : Ledger → Call → Bool
 mustAccept l (message (Request t) r) = false
 mustAccept l (message (Circulated t) r) = false
-mustAccept l (message (Ack s t) r) = not (isRefusal r) && enough (l .seats) (l .faults) (acksFor t (withAck (entryOf l (t .account)) s t .acks))
+mustAccept l (message (Ack s t) r) =
+    not (isRefusal r)
+    && (not (lateIn l (Ack s t)) && enough (l .seats) (l .faults) (acksFor t (withAck (entryOf l (t .account)) s t .acks)))
 mustAccept l (message (Decision t) r) = not (isRefusal r)
 mustAccept l (message (Inquiry a) r) = false
 mustAccept l (waitingList before r after) = false
@@ -53,6 +59,10 @@ taken switch = false
 -- a ruling at seat s in this run names the slip, and is not refused
 abbrev pub ruledFor : Seat → Transfer → Run → Bool
 ruledFor s t run = happened (λ e. sameSeat (e .at) s && (passes (equal t) (ruled (e .call)) && taken (e .call))) run
+
+-- a call at seat s in this run put forward a slip with this slip's account and number
+abbrev pub proposedFor : Seat → Transfer → Run → Bool
+proposedFor s t run = happened (λ e. sameSeat (e .at) s && passes (sameNumber t) (proposed (e .call))) run
 
 pub record Facts (o : Opening) (run : Run) : Type 0 where
   -- "Balances always add up to the opening sum", which is below 2^32
@@ -76,10 +86,33 @@ pub record Facts (o : Opening) (run : Run) : Type 0 where
   -- a seat acks at most one slip per account and number
   pub acked-once : (p q : Run) (e d : Event) (t u : Transfer) → Within (p ▹ e) run → Within (q ▹ d) run → e .at ≡ d .at
       → acked (e .call) ≡ some t → acked (d .call) ≡ some u → t .account ≡ u .account → t .number ≡ u .number → t ≡ u
-  -- "Once a slip is accepted, this seat puts nothing forward for that number."
-  pub none-proposed-after : (p q : Run) (e d : Event) (t u : Transfer) → Within (p ▹ e) q → Within (q ▹ d) run → e .at ≡ d .at
-      → accepted (e .call) ≡ some t → proposed (d .call) ≡ some u → t .account ≡ u .account → t .number ≡ u .number → ⊥
-  -- a call accepts exactly if it is an ack that makes enough or a ruling, and is not refused: no other call does
+  -- after it accepted a slip, a seat puts forward for that number only the accepted slip, and under the rules before request 5 nothing
+  pub only-accepted-proposed : (p q : Run) (e d : Event) (t u : Transfer) → Within (p ▹ e) q → Within (q ▹ d) run → e .at ≡ d .at
+      → accepted (e .call) ≡ some t → proposed (d .call) ≡ some u → t .account ≡ u .account → t .number ≡ u .number
+      → (t ≡ u) × (rank sinceRequest5 ≤ rank (rulesAt (d .at) q))
+  -- "It happens at most once for a number": a seat puts forward at most one slip for an account and number, and at most one time, late or not
+  pub proposed-once : (p q : Run) (e d : Event) (t u : Transfer) → Within (p ▹ e) run → Within (q ▹ d) run → e .at ≡ d .at
+      → proposed (e .call) ≡ some t → proposed (d .call) ≡ some u → t .account ≡ u .account → t .number ≡ u .number
+      → (t ≡ u) × (p ≡ q) × (e ≡ d)
+  -- what is retained was accepted there: "the latest accepted slip, waiting or booked", so its number is current + 1 if it waits, and else current
+  pub retained-stands : (p : Run) (s : Seat) (a : Account) (t : Transfer) → Within p run → entryOf (ledgerAt o s p) a .retained ≡ Full t
+      → (t .account ≡ a) × (acceptedBy s t p ≡ true)
+      × (t .number ≡ entryOf (ledgerAt o s p) a .current + bit (isWaiting (entryOf (ledgerAt o s p) a)))
+  -- its mark says "whether anything was put forward for its number" there, late or not; and the next number's, where nothing waits, whether something was for that
+  pub retained-marked : (p : Run) (s : Seat) (a : Account) (t : Transfer) → Within p run → entryOf (ledgerAt o s p) a .retained ≡ Full t
+      → entryOf (ledgerAt o s p) a .retainedProposed ≡ proposedFor s t p
+  pub next-marked : (p : Run) (s : Seat) (t : Transfer) → Within p run
+      → t .number ≡ entryOf (ledgerAt o s p) (t .account) .current + 1 → entryOf (ledgerAt o s p) (t .account) .pending ≡ Empty
+      → entryOf (ledgerAt o s p) (t .account) .proposed ≡ proposedFor s t p
+  -- and under the rules since request 5 it is there: what was accepted under them, for as long as it is the latest
+  pub latest-retained : (p q : Run) (e : Event) (t : Transfer) → Within (p ▹ e) q → Within q run
+      → accepted (e .call) ≡ some t → rank sinceRequest5 ≤ rank (rulesAt (e .at) p)
+      → t .number ≡ entryOf (ledgerAt o (e .at) q) (t .account) .current + bit (isWaiting (entryOf (ledgerAt o (e .at) q) (t .account)))
+      → entryOf (ledgerAt o (e .at) q) (t .account) .retained ≡ Full t
+  -- before request 5 nothing is retained
+  pub none-retained : (p : Run) (s : Seat) (a : Account) → Within p run → rank (rulesAt s p) < rank sinceRequest5
+      → (entryOf (ledgerAt o s p) a .retained ≡ Empty) × (entryOf (ledgerAt o s p) a .retainedProposed ≡ false)
+  -- a call accepts exactly if it is an ack that is recorded and makes enough or a ruling, and is not refused: no other call does
   pub accepts-exactly : (p : Run) (e : Event) → Within (p ▹ e) run → answeredK (e .call) ≡ mustAccept (ledgerAt o (e .at) p) (e .call)
   -- at any place, a slip with its account's next number has been accepted exactly if twice its recorded acks exceed n + 3f or a ruling
   -- that is not refused named it

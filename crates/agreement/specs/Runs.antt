@@ -1,5 +1,5 @@
 -- Document 01, "A run, as demand 3 means it": calls, runs, the ledger of a seat at any place of a run, and what a call did. And document 02, request 3: a
--- seat that switches to newer rules, on a day of its own, and the rules of a seat at any place.
+-- seat that switches to newer rules, on a day of its own, and the rules of a seat at any place; later requests add to the rules.
 use Prim.Native.Nat.{ℕ, zero, suc, _+_, _≤_}
 use mathlib.Core.Path.{_≡_}
 use mathlib.Core.Bool.{Bool, true, false, cond, not, _&&_, _||_}
@@ -14,7 +14,7 @@ use Rattle.model.specs.Acks.{hasMost}
 use Rattle.model.specs.Replies.{letterOf}
 use Rattle.model.specs.Openings.{openReply}
 use Rattle.model.specs.Calls.{Lists}
-use Rattle.model.specs.Switches.{Rules, firstRules, sinceRequest3, nextRules, switched, stepUnder}
+use Rattle.model.specs.Switches.{Rules, firstRules, sinceRequest3, sinceRequest5, nextRules, switched, stepUnder}
 
 -- "Take any opening page that is not refused": a page has 32 balances.
 pub record Opens (o : Opening) : Type 0 where
@@ -86,7 +86,8 @@ unfoldable pub rulesAt : Seat → Run → Rules
 rulesAt s (start from) = from s
 rulesAt s (r ▹ e) = cond (sameSeat (e .at) s) (rulesAfter (rulesAt s r) (e .call)) (rulesAt s r)
 
--- the ledger that a call leaves, under the rules of its seat. A waiting list leaves it as it is; after a switch the seat goes on with the ledger that it held
+-- the ledger that a call leaves, under the rules of its seat. A waiting list leaves it as it is; after a switch the seat goes on with what the ledger that it
+-- held becomes
 abbrev pub nextLedger : Rules → Ledger → Call → Ledger
 nextLedger v l (message m r) = stepUnder v l m .next
 nextLedger v l (waitingList before r after) = l
@@ -116,10 +117,11 @@ acksWith l (Ack s t) = withAck (entryOf l (t .account)) s t .acks
 acksWith l (Decision t) = entryOf l (t .account) .acks
 acksWith l (Inquiry a) = entryOf l a .acks
 
--- the slip of a P that is left free: under the first rules, under which a seat that has taken request 2 alone is too, any; under those since request 3, none
+-- the slip of a P that is left free: under the first rules, under which a seat that has taken request 2 alone is too, any; since request 3, none
 abbrev pub freeSlip : Rules → Reply → Option Transfer
 freeSlip firstRules r = proposal r
 freeSlip sinceRequest3 r = none
+freeSlip sinceRequest5 r = none
 
 -- a reply that may stand for the one that is due, given its slip that is left free, if any, and the acks: P with any of the slips with the most acks
 abbrev pub StandsFor : Reply → Option Transfer → List AckSlot → Reply → Type 0

@@ -1,0 +1,581 @@
+-- What a seat retains, and what it puts forward: under the rules since request 5 the latest accepted slip, before them nothing; and at most one slip, one
+-- time, for an account and number.
+use Prim.Native.Nat.{ℕ, _+_, _≤_, _<_}
+use native.Mathlib.Omega.{arith}
+use mathlib.Core.Path.{_≡_, refl, ap, sym, subst, _∙_}
+use mathlib.Core.Logic.{_⊎_, inl, inr}
+use mathlib.Core.Bool.{Bool, true, false, _&&_}
+use mathlib.Core.Option.{some}
+use lib.ListN.{length}
+use Rattle.agreement.specs.Types.{Seat, Account, Transfer, Slot, Empty, Full, Entry, Ledger, Opening, Message, Reply, Propose}
+use Rattle.agreement.specs.Runs.{Opens, Call, message, waitingList, switch, Event, Run, _▹_, Within, at-end, sooner, happened, sameSeat, rulesAt, ledgerAt, Obeys, accepted, proposed, passes}
+use Rattle.agreement.specs.Facts.{proposedFor}
+use Rattle.agreement.proofs.Places.{before, within-trans, Order, same-event, earlier, later, order, happened-found, happened-holds, happened-later, obeys-before, seat-is, seat-self, rules-after, ledger-after}
+use Rattle.agreement.proofs.Deeds.{proposed-is, accepting-call, passes-is, that-slip}
+use Rattle.agreement.proofs.Agree.{same-number, number-same}
+use Rattle.agreement.proofs.Proposals.{carried}
+use Rattle.agreement.proofs.Soundness.{opened-entry, group, SoundEntry, Sound, admitted}
+use Rattle.agreement.proofs.StepLaws.{Puts, puts-mark, puts-ack, puts-proposal, puts-accepted, puts-ruled, puts-late, each-entry, just-retained, Proposes, ProposesLate, answer-propose, proposes-for}
+use Rattle.agreement.proofs.Reachable.{sound, run-induction, stays, everywhere, past-calls, happened-at}
+use Rattle.model.specs.Basics.{bit}
+use Rattle.model.specs.Records.{withBalance, withProposed, withRetainedProposed, entryOf}
+use Rattle.model.specs.Settling.{isWaiting}
+use Rattle.model.specs.Switches.{Rules, firstRules, sinceRequest3, sinceRequest5, rank, nextRules, retainsWaiting, switched}
+use Rattle.model.specs.Transfers.{sameNumber, equal}
+use Rattle.model.proofs.Sums.{impossible, both, same-test}
+use Rattle.model.proofs.Equality.{equal-refl, conflict-sound}
+use Rattle.model.proofs.Access.{with-entry-same}
+use Rattle.model.proofs.Booking.{SameButBalance, Cleared}
+use Rattle.model.proofs.Opened.{Group}
+use Rattle.model.proofs.Switching.{takesOver, switched-entry}
+use Rattle.model.proofs.Steps.{Eligible, entryWithAck, waitingUnder, Happens}
+
+-- a slip of the next number, where nothing waits, is not retained
+none-next : (o : Opening) (l : Ledger) (t u : Transfer) → Group o → Sound o l → Eligible l t → entryOf l (t .account) .retained ≡ Full u
+    → u .number ≡ t .number → ⊥
+none-next o l t u g ok fit held number = go (ok .each (t .account) .retained-stands u held .1)
+  where
+    go : (entryOf l (t .account) .pending ≡ Full u) ⊎ (u .number ≤ entryOf l (t .account) .current) → ⊥
+    go (inl waits) = impossible (cc (waits, admitted o l t g ok fit .none-waits))
+    go (inr past) = omega (arith, fit .is-next)
+
+-- What an entry retains under a set of rules: something since request 5 alone, and then what waits, or, where nothing does, what was booked last.
+pub record Latest (v : Rules) (e : Entry) : Type 0 where
+  pub slip : (t : Transfer) → e .retained ≡ Full t
+      → (v ≡ sinceRequest5) × ((e .pending ≡ Full t) ⊎ ((e .pending ≡ Empty) × (t .number ≡ e .current)))
+  pub mark : e .retainedProposed ≡ true → v ≡ sinceRequest5
+
+-- where a slip is accepted
+accepted-latest : (v : Rules) (e : Entry) (t : Transfer) → Latest v e → Latest v (waitingUnder v e t)
+accepted-latest firstRules e t old = record { slip = λ u h. impossible (let not-yet = old .slip u h .0 in cc); mark = old .mark }
+accepted-latest sinceRequest3 e t old = record { slip = λ u h. impossible (let not-yet = old .slip u h .0 in cc); mark = old .mark }
+accepted-latest sinceRequest5 e t old = record { slip = λ u h. (refl, inl h); mark = λ h. refl }
+
+-- at a switch
+taken-latest : (v : Rules) (e : Entry) → Latest v e → Latest (nextRules v) (takesOver v e)
+taken-latest firstRules e old =
+    record {
+      slip = λ t h. impossible (let not-yet = old .slip t h .0 in cc);
+      mark = λ h. impossible (let not-yet = old .mark h in cc);
+    }
+taken-latest sinceRequest3 e old = record { slip = λ t h. go t (e .pending) refl h; mark = λ h. refl }
+  where
+    go : (t : Transfer) (p : Slot) → e .pending ≡ p → retainsWaiting p e .retained ≡ Full t
+        → (sinceRequest5 ≡ sinceRequest5)
+        × ((retainsWaiting p e .pending ≡ Full t) ⊎ ((retainsWaiting p e .pending ≡ Empty) × (t .number ≡ retainsWaiting p e .current)))
+    go t Empty is h = impossible (cc)
+    go t (Full u) is h = (refl, inl (is ∙ h))
+taken-latest sinceRequest5 e old = old
+
+step-latest : (v : Rules) (o : Opening) (l next : Ledger) (m : Message) (r : Reply) → Group o → Sound o l → Happens v l m r next
+    → ((a : Account) → Latest v (entryOf l a)) → (a : Account) → Latest v (entryOf next a)
+step-latest v o l next m r g ok h old =
+    each-entry o l next m r g ok (λ a x. Latest v x) (λ a e e′ same was. rw same (as-before e (withBalance e (e′ .balance)) refl refl refl refl was))
+    booked old puts h
+  where
+    -- of an entry with the same current number, waiting slip, retained slip and mark
+    as-before : (e e′ : Entry) → e′ .current ≡ e .current → e′ .pending ≡ e .pending → e′ .retained ≡ e .retained → e′ .retainedProposed ≡ e .retainedProposed
+        → Latest v e → Latest v e′
+    as-before e e′ current pending retained mark was =
+        record { slip = λ t this. rw (pending, current) (was .slip t (sym retained ∙ this)); mark = λ this. was .mark (sym mark ∙ this) }
+
+    booked : (a : Account) (e e′ : Entry) (t : Transfer) → SoundEntry o a e → e .pending ≡ Full t → Cleared t e e′ → Latest v e → Latest v e′
+    booked a e e′ t stands waits clear was =
+        record {
+          slip = λ u this. let found = was .slip u (sym (clear .retained-same) ∙ this) in (found .0, inr (clear .none-pending, number u (found .1)));
+          mark = λ this. was .mark (sym (clear .late-same) ∙ this);
+        }
+      where
+        number : (u : Transfer) → (e .pending ≡ Full u) ⊎ ((e .pending ≡ Empty) × (u .number ≡ e .current)) → u .number ≡ e′ .current
+        number u (inl that) = let same : t ≡ u = cc in ap (λ (x : Transfer). x .number) (sym same) ∙ sym (clear .current-is)
+        number u (inr none) = impossible (cc (none .0, waits))
+
+    puts : (t : Transfer) (x : Entry) → Puts v l m r t x → Latest v x
+    puts t x (puts-mark e f fit is) = rw is (as-before (entryOf l (t .account)) _ refl refl refl refl (old (t .account)))
+    puts t x (puts-ack s e fit new is) = rw is (as-before (entryOf l (t .account)) _ refl refl refl refl (old (t .account)))
+    puts t x (puts-proposal s w e f fit new for is) = rw is (as-before (entryOf l (t .account)) _ refl refl refl refl (old (t .account)))
+    puts t x (puts-accepted s c e f fit new full is) =
+        rw is (accepted-latest v (entryWithAck l s t) t (as-before (entryOf l (t .account)) _ refl refl refl refl (old (t .account))))
+    puts t x (puts-ruled c e f fit is) = rw is (accepted-latest v (entryOf l (t .account)) t (old (t .account)))
+    puts t x (puts-late s u since e f join is) = rw is (record { slip = old (t .account) .slip; mark = λ this. since })
+
+module _ (o : Opening) (opens : Opens o) (s : Seat) where
+  -- at every place of a run
+  pub latest : (r : Run) → Obeys o r → (a : Account) → Latest (rulesAt s r) (entryOf (ledgerAt o s r) a)
+  latest =
+      everywhere o opens s (λ v l. (a : Account) → Latest v (entryOf l a))
+      (λ v l ok old a. rw (switched-entry v l a) (taken-latest v (entryOf l a) (old a)))
+      (λ v l next m q ok h old. step-latest v o l next m q (group o opens) ok h old)
+      (λ v a. rw (opened-entry o a) (record { slip = λ t h. impossible (cc); mark = λ h. impossible (cc) }))
+
+-- The slip is the latest that was accepted under the rules since request 5, and is retained; or a later one was accepted.
+abbrev Retains : Transfer → Entry → Type 0
+Retains t e = (t .number < e .current + bit (isWaiting e)) ⊎ (e .retained ≡ Full t)
+
+retains-step : (v : Rules) (o : Opening) (l next : Ledger) (m : Message) (r : Reply) (t : Transfer) → Group o → Sound o l → v ≡ sinceRequest5 → Happens v l m r next
+    → (a : Account) → Retains t (entryOf l a) → Retains t (entryOf next a)
+retains-step v o l next m r t g ok since =
+    each-entry o l next m r g ok (λ a x. Retains t (entryOf l a) → Retains t x)
+    (λ a e e′ same was old. on-balance e e′ same (was old))
+    (λ a e e′ u stands waits clear was old. on-booked a e e′ u stands waits clear (was old))
+    (λ a old. old) puts
+  where
+    on-balance : (e e′ : Entry) → SameButBalance e e′ → Retains t e → Retains t e′
+    on-balance e e′ same old = rw same old
+
+    on-booked : (a : Account) (e e′ : Entry) (u : Transfer) → SoundEntry o a e → e .pending ≡ Full u → Cleared u e e′ → Retains t e → Retains t e′
+    on-booked a e e′ u stands waits clear (inl past) =
+        let waited : bit (isWaiting e) ≡ 1 = rw waits in
+        inl (omega (arith, clear .current-is, stands .pending-stands u waits .1))
+    on-booked a e e′ u stands waits clear (inr held) = inr (clear .retained-same ∙ held)
+
+    -- a slip of the next number is accepted
+    accepts-next : (u : Transfer) (x : Entry) → Eligible l u → x .current ≡ entryOf l (u .account) .current → x .pending ≡ entryOf l (u .account) .pending
+        → x .retained ≡ entryOf l (u .account) .retained
+        → Retains t (entryOf l (u .account)) → Retains t (waitingUnder v x u)
+    accepts-next u x fit current pending retained old = rw since (go old)
+      where
+        go : Retains t (entryOf l (u .account)) → Retains t (waitingUnder sinceRequest5 x u)
+        go (inl past) =
+            let none : bit (isWaiting (entryOf l (u .account))) ≡ 0 = rw (admitted o l u g ok fit .none-waits) in
+            inl (omega arith)
+        go (inr held) = number (ok .each (u .account) .retained-stands t held .1)
+          where
+            number : (entryOf l (u .account) .pending ≡ Full t) ⊎ (t .number ≤ entryOf l (u .account) .current) → Retains t (waitingUnder sinceRequest5 x u)
+            number (inl waits) = impossible (cc (waits, admitted o l u g ok fit .none-waits))
+            number (inr past) = inl (omega arith)
+
+    puts : (u : Transfer) (x : Entry) → Puts v l m r u x → Retains t (entryOf l (u .account)) → Retains t x
+    puts u x (puts-mark e f fit is) = rw is (λ old. old)
+    puts u x (puts-ack z e fit new is) = rw is (λ old. old)
+    puts u x (puts-proposal z w e f fit new for is) = rw is (λ old. old)
+    puts u x (puts-accepted z c e f fit new full is) = rw is (accepts-next u (entryWithAck l z u) fit refl refl refl)
+    puts u x (puts-ruled c e f fit is) = rw is (accepts-next u (entryOf l (u .account)) fit refl refl refl)
+    puts u x (puts-late z w late e f join is) = rw is (λ old. old)
+
+-- the rules from request 5 on are the newest
+pub since-5 : (v : Rules) → rank sinceRequest5 ≤ rank v → v ≡ sinceRequest5
+since-5 firstRules h = absurd (omega arith)
+since-5 sinceRequest3 h = absurd (omega arith)
+since-5 sinceRequest5 h = refl
+
+module _ (o : Opening) (opens : Opens o) (run : Run) (obeys : Obeys o run) where
+  -- for as long as it is the latest
+  pub retains-latest : (p q : Run) (e : Event) (t : Transfer) → Within (p ▹ e) q → Within q run
+      → accepted (e .call) ≡ some t → rank sinceRequest5 ≤ rank (rulesAt (e .at) p)
+      → t .number ≡ entryOf (ledgerAt o (e .at) q) (t .account) .current + bit (isWaiting (entryOf (ledgerAt o (e .at) q) (t .account)))
+      → entryOf (ledgerAt o (e .at) q) (t .account) .retained ≡ Full t
+  retains-latest p q e t w v is above number = end (stays o opens s P switches steps (obeys-before o obeys v) w at-first .1)
+    where
+      s : Seat
+      s = e .at
+
+      P : Rules → Ledger → Type 0
+      P v l = (v ≡ sinceRequest5) × Retains t (entryOf l (t .account))
+
+      switches : (v : Rules) (l : Ledger) → Sound o l → P v l → P (nextRules v) (switched v l)
+      switches v l ok old = subst (λ (x : Rules). P (nextRules x) (switched x l)) (sym (old .0)) (refl, old .1)
+
+      steps : (v : Rules) (l next : Ledger) (m : Message) (q : Reply) → Sound o l → Happens v l m q next → P v l → P v next
+      steps v l next m q ok h old = (old .0, retains-step v o l next m q t (group o opens) ok (old .0) h (t .account) (old .1))
+
+      since : rulesAt s p ≡ sinceRequest5
+      since = since-5 (rulesAt s p) above
+
+      at-first : P (rulesAt s (p ▹ e)) (ledgerAt o s (p ▹ e))
+      at-first =
+          let call = accepting-call (e .call) t is in
+          let happens = happened-at o (call .0) (call .1) (obeys-before o obeys v) w (call .2) in
+          let ok = sound o opens s p (obeys-before o obeys (within-trans (before w) v)) in (
+            rules-after s p e (call .0) (call .1) refl (call .2) ∙ since,
+            inr
+                (rw (ledger-after o s p e (call .0) (call .1) refl (call .2))
+                (just-retained (rulesAt s p) o (ledgerAt o s p) _ (call .0) (call .1) t (group o opens) ok since (sym (ap accepted (call .2)) ∙ is) happens)),
+          )
+
+      end : Retains t (entryOf (ledgerAt o s q) (t .account)) → entryOf (ledgerAt o s q) (t .account) .retained ≡ Full t
+      end (inl later-one) = absurd (omega arith)
+      end (inr held) = held
+
+-- A number is used up in an entry, under a set of rules: something was put forward for it, so nothing is any more. It is not above the next; if it is the
+-- next, its mark is set, or, since request 5, it is retained; and if it is retained, that mark is set.
+pub record UsedUp (number : ℕ) (v : Rules) (e : Entry) : Type 0 where
+  pub not-above : number ≤ e .current + 1
+  pub next-marked : number ≡ e .current + 1 → (e .proposed ≡ true) ⊎ ((v ≡ sinceRequest5) × (u : Transfer) × (e .retained ≡ Full u) × (u .number ≡ number))
+  pub late-marked : (u : Transfer) → e .retained ≡ Full u → u .number ≡ number → e .retainedProposed ≡ true
+
+-- an entry of the same number with the same or more marks
+still-used : (number : ℕ) (v : Rules) (e e′ : Entry) → e′ .current ≡ e .current → (e .proposed ≡ true → e′ .proposed ≡ true) → e′ .retained ≡ e .retained
+    → (e .retainedProposed ≡ true → e′ .retainedProposed ≡ true) → UsedUp number v e → UsedUp number v e′
+still-used number v e e′ current marked retained late old =
+    record {
+      not-above = omega (arith, old .not-above);
+      next-marked = λ next. go (old .next-marked (omega arith));
+      late-marked = λ u h this. late (old .late-marked u (sym retained ∙ h) this);
+    }
+  where
+    go : (e .proposed ≡ true) ⊎ ((v ≡ sinceRequest5) × (u : Transfer) × (e .retained ≡ Full u) × (u .number ≡ number))
+        → (e′ .proposed ≡ true) ⊎ ((v ≡ sinceRequest5) × (u : Transfer) × (e′ .retained ≡ Full u) × (u .number ≡ number))
+    go (inl is) = inl (marked is)
+    go (inr (since, u, held, this)) = inr (since, u, retained ∙ held, this)
+
+-- a slip of the next number is accepted, where only a number that has been booked is retained: it is retained with its mark
+accepted-used : (number : ℕ) (v : Rules) (e : Entry) (t : Transfer) → t .number ≡ e .current + 1
+    → ((u : Transfer) → e .retained ≡ Full u → u .number ≡ t .number → ⊥) → UsedUp number v e → UsedUp number v (waitingUnder v e t)
+accepted-used number firstRules e t next none-held old = still-used number firstRules e (waitingUnder firstRules e t) refl (λ h. h) refl (λ h. h) old
+accepted-used number sinceRequest3 e t next none-held old = still-used number sinceRequest3 e (waitingUnder sinceRequest3 e t) refl (λ h. h) refl (λ h. h) old
+accepted-used number sinceRequest5 e t next none-held old =
+    record {
+      not-above = old .not-above;
+      next-marked = λ this. inl (marked this (old .next-marked this));
+      late-marked = λ u h this.
+          let slip : t ≡ u = cc in
+          let is : number ≡ e .current + 1 = omega (arith, ap (λ (x : Transfer). x .number) slip) in
+          marked is (old .next-marked is);
+    }
+  where
+    marked : number ≡ e .current + 1
+        → (e .proposed ≡ true) ⊎ ((sinceRequest5 ≡ sinceRequest5) × (u : Transfer) × (e .retained ≡ Full u) × (u .number ≡ number))
+        → e .proposed ≡ true
+    marked is (inl yes-marked) = yes-marked
+    marked is (inr (since, u, held, this)) = absurd (none-held u held (omega arith))
+
+-- at a switch what waits is retained with its mark
+taken-used : (number : ℕ) (o : Opening) (a : Account) (v : Rules) (e : Entry) → SoundEntry o a e → UsedUp number v e → UsedUp number (nextRules v) (takesOver v e)
+taken-used number o a firstRules e ok old =
+    record { not-above = old .not-above; next-marked = λ next. go (old .next-marked next); late-marked = old .late-marked }
+  where
+    go : (e .proposed ≡ true) ⊎ ((firstRules ≡ sinceRequest5) × (u : Transfer) × (e .retained ≡ Full u) × (u .number ≡ number))
+        → (e .proposed ≡ true) ⊎ ((sinceRequest3 ≡ sinceRequest5) × (u : Transfer) × (e .retained ≡ Full u) × (u .number ≡ number))
+    go (inl is) = inl is
+    go (inr (since, u, held, this)) = impossible (cc)
+taken-used number o a sinceRequest3 e ok old = go (e .pending) refl
+  where
+    marked : number ≡ e .current + 1 → e .proposed ≡ true
+    marked next = pick (old .next-marked next)
+      where
+        pick : (e .proposed ≡ true) ⊎ ((sinceRequest3 ≡ sinceRequest5) × (u : Transfer) × (e .retained ≡ Full u) × (u .number ≡ number)) → e .proposed ≡ true
+        pick (inl is) = is
+        pick (inr (since, u, held, this)) = impossible (cc)
+
+    go : (p : Slot) → e .pending ≡ p → UsedUp number sinceRequest5 (retainsWaiting p e)
+    go Empty is =
+        record { not-above = old .not-above; next-marked = λ next. inl (marked next); late-marked = λ u h this. impossible (cc) }
+    go (Full t) is =
+        record {
+          not-above = old .not-above;
+          next-marked = λ next. inl (marked next);
+          late-marked = λ u h this.
+              let slip : t ≡ u = cc in
+              marked (omega (arith, ok .pending-stands t is .1, ap (λ (x : Transfer). x .number) slip));
+        }
+taken-used number o a sinceRequest5 e ok old = old
+
+-- a call keeps it
+used-step : (v : Rules) (number : ℕ) (o : Opening) (l next : Ledger) (m : Message) (r : Reply) → Group o → Sound o l → Happens v l m r next
+    → (a : Account) → UsedUp number v (entryOf l a) → UsedUp number v (entryOf next a)
+used-step v number o l next m r g ok =
+    each-entry o l next m r g ok (λ a x. UsedUp number v (entryOf l a) → UsedUp number v x)
+    (λ a e e′ same was old. rw same (still-used number v e (withBalance e (e′ .balance)) refl (λ h. h) refl (λ h. h) (was old)))
+    (λ a e e′ t stands waits clear was old. on-booked a e e′ t stands waits clear (was old))
+    (λ a old. old) puts
+  where
+    on-booked : (a : Account) (e e′ : Entry) (t : Transfer) → SoundEntry o a e → e .pending ≡ Full t → Cleared t e e′ → UsedUp number v e → UsedUp number v e′
+    on-booked a e e′ t stands waits clear old =
+        let current : e′ .current ≡ e .current + 1 = clear .current-is ∙ stands .pending-stands t waits .1 in
+        record {
+          not-above = omega (arith, old .not-above);
+          next-marked = λ next. absurd (omega (arith, old .not-above));
+          late-marked = λ u h this. clear .late-same ∙ old .late-marked u (sym (clear .retained-same) ∙ h) this;
+        }
+
+    puts : (t : Transfer) (x : Entry) → Puts v l m r t x → UsedUp number v (entryOf l (t .account)) → UsedUp number v x
+    puts t x (puts-mark e f fit is) = rw is (still-used number v (entryOf l (t .account)) _ refl (λ h. h) refl (λ h. h))
+    puts t x (puts-ack s e fit new is) = rw is (still-used number v (entryOf l (t .account)) _ refl (λ h. h) refl (λ h. h))
+    puts t x (puts-proposal s w e f fit new for is) = rw is (still-used number v (entryOf l (t .account)) _ refl (λ h. refl) refl (λ h. h))
+    puts t x (puts-accepted s c e f fit new full is) =
+        rw is
+        (λ old.
+        accepted-used number v (entryWithAck l s t) t (fit .is-next) (λ u. none-next o l t u g ok fit)
+        (still-used number v (entryOf l (t .account)) (entryWithAck l s t) refl (λ h. h) refl (λ h. h) old))
+    puts t x (puts-ruled c e f fit is) =
+        rw is (accepted-used number v (entryOf l (t .account)) t (fit .is-next) (λ u. none-next o l t u g ok fit))
+    puts t x (puts-late s u since e f join is) = rw is (still-used number v (entryOf l (t .account)) _ refl (λ h. h) refl (λ h. refl))
+
+module _ (o : Opening) (opens : Opens o) where
+  abbrev Spent : Call → Rules → Ledger → Type 0
+  Spent c v l = (u : Transfer) → proposed c ≡ some u → UsedUp (u .number) v (entryOf l (u .account))
+
+  -- the call that puts something forward uses its number up
+  now-used : (v : Rules) (l next : Ledger) (m : Message) (q : Reply) → Sound o l → Happens v l m q next → Spent (message m q) v next
+  now-used v l next m q ok h u is = go (answer-propose l next m q u (carried q u is) h)
+    where
+      go : Proposes l m u next ⊎ ProposesLate v l m u next → UsedUp (u .number) v (entryOf next (u .account))
+      go (inl found) =
+          let t = found .slip in
+          let fit = found .records .eligible in
+          let same = proposes-for o l m u (group o opens) ok found in
+          let entry =
+          ap (λ (x : Ledger). entryOf x (t .account)) (found .marks)
+          ∙ with-entry-same l (t .account) (withProposed (entryWithAck l (found .sender) t)) (admitted o l t (group o opens) ok fit .inside) in
+          rw (same .0, entry)
+          (record {
+            not-above = omega (arith, same .1, fit .is-next);
+            next-marked = λ next. inl refl;
+            late-marked = λ w held this. absurd (none-next o l t w (group o opens) ok fit held (this ∙ same .1));
+          })
+      go (inr late) =
+          let t = late .slip in
+          let clash = conflict-sound u t (late .joins .conflicting) in
+          let inside : t .account .0 < length (l .entries) = omega (arith, late .joins .account-known, ok .accounts-same, ok .size, group o opens .accounts-fit) in
+          let entry = ap (λ (x : Ledger). entryOf x (t .account)) (late .marks) ∙ with-entry-same l (t .account) (withRetainedProposed (entryOf l (t .account))) inside in
+          rw (clash .account, entry)
+          (record {
+            not-above = number (ok .each (t .account) .retained-stands u (late .joins .is-retained) .1);
+            next-marked = λ next. inr (late .since, u, late .joins .is-retained, refl);
+            late-marked = λ w held this. refl;
+          })
+        where
+          number : (entryOf l (late .slip .account) .pending ≡ Full u) ⊎ (u .number ≤ entryOf l (late .slip .account) .current)
+              → u .number ≤ entryOf l (late .slip .account) .current + 1
+          number (inl waits) = omega (arith, ok .each (late .slip .account) .pending-stands u waits .1)
+          number (inr past) = omega arith
+
+  -- so it is at every later place
+  pub spent : (s : Seat) (r : Run) → Obeys o r → (p : Run) (e : Event) → Within (p ▹ e) r → e .at ≡ s → Spent (e .call) (rulesAt s r) (ledgerAt o s r)
+  spent s =
+      past-calls o opens s Spent (λ v l b a q u is. impossible (cc)) (λ v l u is. impossible (cc)) now-used
+      (λ c v l ok old u is. rw (switched-entry v l (u .account)) (taken-used (u .number) o (u .account) v (entryOf l (u .account)) (ok .each (u .account)) (old u is)))
+      (λ c v l next m q ok h old u is. used-step v (u .number) o l next m q (group o opens) ok h (u .account) (old u is))
+
+  module _ (run : Run) (obeys : Obeys o run) where
+    -- and nothing more is put forward for it
+    none-more : (p q : Run) (e d : Event) (t u : Transfer) → Within (q ▹ d) run → Within (p ▹ e) q → e .at ≡ d .at
+        → proposed (e .call) ≡ some t → proposed (d .call) ≡ some u → t .account ≡ u .account → t .number ≡ u .number → ⊥
+    none-more p q e d t u w first seat ist isu account number =
+        go (answer-propose l _ (call .0) (Propose u) u refl (happened-at o (call .0) (Propose u) obeys w (call .1)))
+      where
+        here : Obeys o q
+        here = obeys-before o obeys (before w)
+
+        l : Ledger
+        l = ledgerAt o (d .at) q
+
+        ok : Sound o l
+        ok = sound o opens (d .at) q here
+
+        call : (m : Message) × (d .call ≡ message m (Propose u))
+        call = proposed-is (d .call) u isu
+
+        used : UsedUp (u .number) (rulesAt (d .at) q) (entryOf l (u .account))
+        used = rw (← account, ← number) (spent (d .at) q here p e first seat t ist)
+
+        go : {next : Ledger} → Proposes l (call .0) u next ⊎ ProposesLate (rulesAt (d .at) q) l (call .0) u next → ⊥
+        go (inl found) = pick (there .next-marked (same .1 ∙ fit .is-next))
+          where
+            fit : Eligible l (found .slip)
+            fit = found .records .eligible
+
+            same : (u .account ≡ found .slip .account) × (u .number ≡ found .slip .number)
+            same = proposes-for o l (call .0) u (group o opens) ok found
+
+            there : UsedUp (u .number) (rulesAt (d .at) q) (entryOf l (found .slip .account))
+            there = rw (← same .0) used
+
+            pick : (entryOf l (found .slip .account) .proposed ≡ true)
+                ⊎ ((rulesAt (d .at) q ≡ sinceRequest5) × (x : Transfer) × (entryOf l (found .slip .account) .retained ≡ Full x) × (x .number ≡ u .number))
+                → ⊥
+            pick (inl marked) = impossible (cc (marked, found .nothing-proposed))
+            pick (inr (since, x, held, this)) = none-next o l (found .slip) x (group o opens) ok fit held (this ∙ same .1)
+        go (inr late) =
+            let clash = conflict-sound u (late .slip) (late .joins .conflicting) in
+            let there : UsedUp (u .number) (rulesAt (d .at) q) (entryOf l (late .slip .account)) = rw (← clash .account) used in
+            impossible (cc (there .late-marked u (late .joins .is-retained) refl, late .joins .nothing-proposed))
+
+    -- at most one slip, and at most one time
+    pub proposed-once : (p q : Run) (e d : Event) (t u : Transfer) → Within (p ▹ e) run → Within (q ▹ d) run → e .at ≡ d .at
+        → proposed (e .call) ≡ some t → proposed (d .call) ≡ some u → t .account ≡ u .account → t .number ≡ u .number
+        → (t ≡ u) × (p ≡ q) × (e ≡ d)
+    proposed-once p q e d t u w v seat ist isu account number = go (order run w v)
+      where
+        go : Order p q e d → (t ≡ u) × (p ≡ q) × (e ≡ d)
+        go (same-event place event) =
+            let both : some t ≡ some u = sym ist ∙ (ap (λ (x : Event). proposed (x .call)) event ∙ isu) in
+            (cc, place, event)
+        go (earlier first) = absurd (none-more p q e d t u v first seat ist isu account number)
+        go (later first) = absurd (none-more q p d e u t w first (sym seat) isu ist (sym account) (sym number))
+
+-- Why a mark is set: a call at the seat put something forward for its number.
+module _ (o : Opening) (opens : Opens o) (s : Seat) where
+  abbrev isProposed : Transfer → Event → Bool
+  isProposed u e = sameSeat (e .at) s && passes (equal u) (proposed (e .call))
+
+  abbrev WasProposed : Run → Account → ℕ → Type 0
+  WasProposed r a m = (u : Transfer) × (u .account ≡ a) × (u .number ≡ m) × (happened (isProposed u) r ≡ true)
+
+  record Marked (r : Run) (a : Account) (e : Entry) : Type 0 where
+    pub next-why : e .proposed ≡ true → WasProposed r a (e .current + 1)
+    pub retained-why : (t : Transfer) → e .retained ≡ Full t → e .retainedProposed ≡ true → WasProposed r a (t .number)
+
+  was-later : {r r′ : Run} (a : Account) (m : ℕ) → Within r r′ → WasProposed r a m → WasProposed r′ a m
+  was-later a m w was = (was .0, was .1, was .2, happened-later (isProposed (was .0)) w (was .3))
+
+  -- the same marks of the same numbers, at the same place or later
+  marks-stay : (r r′ : Run) (a : Account) (e e′ : Entry) → Within r r′ → e′ .current ≡ e .current → e′ .proposed ≡ e .proposed → e′ .retained ≡ e .retained
+      → e′ .retainedProposed ≡ e .retainedProposed → Marked r a e → Marked r′ a e′
+  marks-stay r r′ a e e′ w current proposed-same retained late why =
+      record {
+        next-why = λ h. rw current (was-later {r = r} {r′ = r′} a (e .current + 1) w (why .next-why (sym proposed-same ∙ h)));
+        retained-why = λ t held h. was-later {r = r} {r′ = r′} a (t .number) w (why .retained-why t (sym retained ∙ held) (sym late ∙ h));
+      }
+
+  -- a slip of the next number is accepted, and retained with its mark
+  accepted-marked : (r : Run) (v : Rules) (e : Entry) (t : Transfer) → t .number ≡ e .current + 1 → Marked r (t .account) e → Marked r (t .account) (waitingUnder v e t)
+  accepted-marked r firstRules e t next why = marks-stay r r (t .account) e (waitingUnder firstRules e t) at-end refl refl refl refl why
+  accepted-marked r sinceRequest3 e t next why = marks-stay r r (t .account) e (waitingUnder sinceRequest3 e t) at-end refl refl refl refl why
+  accepted-marked r sinceRequest5 e t next why =
+      record {
+        next-why = why .next-why;
+        retained-why = λ u held h. let same : t ≡ u = cc in rw (← same, next) (why .next-why h);
+      }
+
+  -- at a switch what waits is retained with its mark
+  taken-marked : (r : Run) (v : Rules) (a : Account) (e : Entry) → SoundEntry o a e → Marked r a e → Marked r a (takesOver v e)
+  taken-marked r firstRules a e ok why = why
+  taken-marked r sinceRequest3 a e ok why = go (e .pending) refl
+    where
+      go : (p : Slot) → e .pending ≡ p → Marked r a (retainsWaiting p e)
+      go Empty is = record { next-why = why .next-why; retained-why = λ t held h. impossible (cc) }
+      go (Full t) is =
+          record {
+            next-why = why .next-why;
+            retained-why = λ u held h. let same : t ≡ u = cc in rw (← same, ok .pending-stands t is .1) (why .next-why h);
+          }
+  taken-marked r sinceRequest5 a e ok why = why
+
+  step-marked : (v : Rules) (r : Run) (m : Message) (q : Reply) (l next : Ledger) → Sound o l → Happens v l m q next
+      → ((a : Account) → Marked r a (entryOf l a)) → (a : Account) → Marked (r ▹ record { at = s; call = message m q }) a (entryOf next a)
+  step-marked v r m q l next ok h old =
+      each-entry o l next m q (group o opens) ok (Marked now)
+      (λ a e e′ same was. rw same (marks-stay now now a e (withBalance e (e′ .balance)) at-end refl refl refl refl was))
+      (λ a e e′ t stands waits clear was.
+      record {
+        next-why = λ this. impossible (cc (this, clear .not-proposed));
+        retained-why = λ u held this. was .retained-why u (sym (clear .retained-same) ∙ held) (sym (clear .late-same) ∙ this);
+      })
+      later-on puts h
+    where
+      now : Run
+      now = r ▹ record { at = s; call = message m q }
+
+      later-on : (a : Account) → Marked now a (entryOf l a)
+      later-on a = marks-stay r now a (entryOf l a) (entryOf l a) (sooner at-end) refl refl refl refl (old a)
+
+      -- this call puts u forward
+      this-call : (u : Transfer) (a : Account) (k : ℕ) → q ≡ Propose u → u .account ≡ a → u .number ≡ k → WasProposed now a k
+      this-call u a k is account number =
+          (u, account, number, happened-holds (isProposed u) {p = r} {r = now} {e = record { at = s; call = message m q }} at-end (rw (seat-self s, is, equal-refl u)))
+
+      as-it-was : (a : Account) (x : Entry) → x .current ≡ entryOf l a .current → x .proposed ≡ entryOf l a .proposed → x .retained ≡ entryOf l a .retained
+          → x .retainedProposed ≡ entryOf l a .retainedProposed → Marked now a x
+      as-it-was a x current mark retained late = marks-stay now now a (entryOf l a) x at-end current mark retained late (later-on a)
+
+      puts : (t : Transfer) (x : Entry) → Puts v l m q t x → Marked now (t .account) x
+      puts t x (puts-mark e f fit is) = rw is (as-it-was (t .account) _ refl refl refl refl)
+      puts t x (puts-ack z e fit new is) = rw is (as-it-was (t .account) _ refl refl refl refl)
+      puts t x (puts-proposal z u e f fit new for is) =
+          rw is
+          (record {
+            next-why = λ this. this-call u (t .account) _ f (for .0) (for .1 ∙ fit .is-next);
+            retained-why = later-on (t .account) .retained-why;
+          })
+      puts t x (puts-accepted z c e f fit new full is) =
+          rw is (accepted-marked now v (entryWithAck l z t) t (fit .is-next) (as-it-was (t .account) (entryWithAck l z t) refl refl refl refl))
+      puts t x (puts-ruled c e f fit is) = rw is (accepted-marked now v (entryOf l (t .account)) t (fit .is-next) (later-on (t .account)))
+      puts t x (puts-late z u since e f join is) =
+          let clash = conflict-sound u t (join .conflicting) in
+          rw is
+          (record {
+            next-why = later-on (t .account) .next-why;
+            retained-why = λ w held this.
+                let same : u ≡ w = cc (held, join .is-retained) in
+                this-call u (t .account) (w .number) f (clash .account) (ap (λ (y : Transfer). y .number) same);
+          })
+
+  -- at every place of a run
+  marked : (r : Run) → Obeys o r → (a : Account) → Marked r a (entryOf (ledgerAt o s r) a)
+  marked =
+      run-induction o opens s (λ r v l. (a : Account) → Marked r a (entryOf l a))
+      (λ from a. rw (opened-entry o a) (record { next-why = λ h. impossible (cc); retained-why = λ t held h. impossible (cc) }))
+      (λ r e v l other old a. marks-stay r (r ▹ e) a (entryOf l a) (entryOf l a) (sooner at-end) refl refl refl refl (old a))
+      (λ r b c q v l old a. marks-stay r (r ▹ record { at = s; call = waitingList b q c }) a (entryOf l a) (entryOf l a) (sooner at-end) refl refl refl refl (old a))
+      (λ r v l ok old a.
+      rw (switched-entry v l a)
+      (marks-stay r (r ▹ record { at = s; call = switch }) a (takesOver v (entryOf l a)) (takesOver v (entryOf l a)) (sooner at-end) refl refl refl refl
+      (taken-marked r v a (entryOf l a) (ok .each a) (old a))))
+      (λ r v m q l next ok h old. step-marked v r m q l next ok h old)
+
+  -- something with a slip's account and number was put forward: what that is
+  was-for : (r : Run) (t : Transfer) → proposedFor s t r ≡ true
+      → (p : Run) × (e : Event) × Within (p ▹ e) r × (e .at ≡ s) × ((u : Transfer) × (proposed (e .call) ≡ some u) × (t .account ≡ u .account) × (t .number ≡ u .number))
+  was-for r t h =
+      let found = happened-found (λ e. sameSeat (e .at) s && passes (sameNumber t) (proposed (e .call))) r h in
+      let parts = both (sameSeat (found .1 .at) s) (passes (sameNumber t) (proposed (found .1 .call))) (found .3) in
+      let slip = passes-is (sameNumber t) (proposed (found .1 .call)) (parts .1) in
+      let alike = number-same t (slip .0) (slip .2) in
+      (found .0, found .1, found .2, seat-is (found .1 .at) s (parts .0), (slip .0, slip .1, alike .0, alike .1))
+
+  for-it : (r : Run) (t : Transfer) → WasProposed r (t .account) (t .number) → proposedFor s t r ≡ true
+  for-it r t (u, account, number, h) =
+      let found = happened-found (isProposed u) r h in
+      let parts = both (sameSeat (found .1 .at) s) (passes (equal u) (proposed (found .1 .call))) (found .3) in
+      let slip = that-slip u (proposed (found .1 .call)) (parts .1) in
+      happened-holds (λ e. sameSeat (e .at) s && passes (sameNumber t) (proposed (e .call))) (found .2)
+      (rw (parts .0, slip, same-number t u (sym account) (sym number)))
+
+  pub retained-marked : (r : Run) → Obeys o r → (a : Account) (t : Transfer) → entryOf (ledgerAt o s r) a .retained ≡ Full t
+      → entryOf (ledgerAt o s r) a .retainedProposed ≡ proposedFor s t r
+  retained-marked r obeys a t held = same-test _ _ forth back
+    where
+      own : t .account ≡ a
+      own = sound o opens s r obeys .each a .retained-stands t held .0
+
+      forth : entryOf (ledgerAt o s r) a .retainedProposed ≡ true → proposedFor s t r ≡ true
+      forth h = for-it r t (rw own (marked r obeys a .retained-why t held h))
+
+      back : proposedFor s t r ≡ true → entryOf (ledgerAt o s r) a .retainedProposed ≡ true
+      back h = go (was-for r t h)
+        where
+          go : (p : Run) × (e : Event) × Within (p ▹ e) r × (e .at ≡ s) × ((u : Transfer) × (proposed (e .call) ≡ some u) × (t .account ≡ u .account) × (t .number ≡ u .number))
+              → entryOf (ledgerAt o s r) a .retainedProposed ≡ true
+          go (p, e, w, seat, (u, is, account, number)) =
+              let used : UsedUp (u .number) (rulesAt s r) (entryOf (ledgerAt o s r) a) = rw (← own, account) (spent o opens s r obeys p e w seat u is) in
+              used .late-marked t held number
+
+  pub next-marked : (r : Run) → Obeys o r → (t : Transfer) → t .number ≡ entryOf (ledgerAt o s r) (t .account) .current + 1
+      → entryOf (ledgerAt o s r) (t .account) .pending ≡ Empty → entryOf (ledgerAt o s r) (t .account) .proposed ≡ proposedFor s t r
+  next-marked r obeys t next none-waits = same-test _ _ forth back
+    where
+      e : Entry
+      e = entryOf (ledgerAt o s r) (t .account)
+
+      forth : e .proposed ≡ true → proposedFor s t r ≡ true
+      forth h = for-it r t (rw next (marked r obeys (t .account) .next-why h))
+
+      back : proposedFor s t r ≡ true → e .proposed ≡ true
+      back h = go (was-for r t h)
+        where
+          go : (p : Run) × (d : Event) × Within (p ▹ d) r × (d .at ≡ s) × ((u : Transfer) × (proposed (d .call) ≡ some u) × (t .account ≡ u .account) × (t .number ≡ u .number))
+              → e .proposed ≡ true
+          go (p, d, w, seat, (u, is, account, number)) = pick (used .next-marked (sym number ∙ next))
+            where
+              used : UsedUp (u .number) (rulesAt s r) e
+              used = rw account (spent o opens s r obeys p d w seat u is)
+
+              past : (x : Transfer) → x .number ≡ u .number → (e .pending ≡ Full x) ⊎ (x .number ≤ e .current) → e .proposed ≡ true
+              past x same (inl waits) = impossible (cc (waits, none-waits))
+              past x same (inr before-it) = absurd (omega arith)
+
+              pick : (e .proposed ≡ true) ⊎ ((rulesAt s r ≡ sinceRequest5) × (x : Transfer) × (e .retained ≡ Full x) × (x .number ≡ u .number)) → e .proposed ≡ true
+              pick (inl is-set) = is-set
+              pick (inr (since, x, held, same)) = past x same (sound o opens s r obeys .each (t .account) .retained-stands x held .1)

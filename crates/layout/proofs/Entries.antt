@@ -1,5 +1,5 @@
 -- What is stored in an account's block, and what that makes of the account's entry; and the group's words.
-use Prim.Native.Nat.{ℕ, _+_, _*_, _%_, _<_}
+use Prim.Native.Nat.{ℕ, _+_, _*_, _%_, _≤_, _<_}
 use native.Mathlib.Nat.{zero-add, mod-eq-of-lt}
 use native.Mathlib.Decide.{decLt}
 use native.Mathlib.Omega.{arith}
@@ -10,16 +10,16 @@ use mathlib.Core.List.{List}
 use lib.Dec.{eqb}
 use lib.ListN.{length, getD, set, length-set}
 use lib.Seq.{getD-set-same, getD-set-other}
-use borrow.Author.Tests.{lt-ltb, le-ltb, ne-eqb}
+use borrow.Author.Tests.{lt-ltb, le-ltb, ne-eqb, eqb-false}
 use Rattle.model.specs.declared.Seat.{Seat}
 use Rattle.model.specs.declared.Account.{Account}
 use Rattle.model.specs.declared.Transfer.{Transfer}
 use Rattle.model.specs.declared.Slot.the-variants.{Empty, Full}
 use Rattle.model.specs.Types.{AckSlot, Entry}
-use Rattle.model.specs.Records.{accountOf, entryOf, withEntry, withBalance, withAcked, withAck, withProposed, withPending}
+use Rattle.model.specs.Records.{accountOf, entryOf, withEntry, withBalance, withAcked, withAck, withProposed, withPending, withRetainedAs, withRetainedProposed}
 use Rattle.model.specs.Refusals.{ackFrom}
 use Rattle.model.proofs.Sums.{impossible}
-use Rattle.layout.specs.Layout.{blockWords, groupPlace, bookWords, Block, block, currentPlace, slotBy, ackIn, tableFrom, upTo, entryBy, entriesIn, ledgerIn}
+use Rattle.layout.specs.Layout.{blockWords, groupPlace, bookWords, Block, block, currentPlace, mark, slotBy, ackIn, tableFrom, upTo, entryBy, entriesIn, ledgerIn}
 use Rattle.layout.specs.Blocks.{put, Changes}
 use Rattle.layout.proofs.Blocks.{table-at, table-each, table-length, table-same, table-set, put-here, put-else, entry-in, changed-ledger}
 
@@ -48,6 +48,10 @@ module _ (a : ℕ) (w : Block) where
   unfolding entryBy
   proposed-put = refl
 
+  pub late-put : entryBy a (put w 42 1) ≡ withRetainedProposed (entryBy a w)
+  unfolding entryBy
+  late-put = refl
+
 -- the words of a slip are a place with that slip
 pub slip-by : (t : Transfer) → 0 < t .value → t .recipient .0 < 256 → slotBy (t .account .0) (t .value) (t .number) (t .recipient .0) ≡ Full t
 slip-by t v r = rw (ne-eqb (t .value) 0 (λ e. absurd (omega arith)), mod-eq-of-lt r)
@@ -57,6 +61,13 @@ pub pending-put : (w : Block) (t : Transfer) → 0 < t .value → t .recipient .
     → entryBy (t .account .0) (put (put (put w 4 (t .value)) 5 (t .number)) 6 (t .recipient .0)) ≡ withPending (entryBy (t .account .0) w) t
 unfolding entryBy
 pending-put w t v r = rw (slip-by t v r)
+
+-- the retained slip, with a mark
+pub retained-put : (w : Block) (t : Transfer) (word : ℕ) → 0 < t .value → t .recipient .0 < 256
+    → entryBy (t .account .0) (put (put (put (put w 39 (t .value)) 40 (t .number)) 41 (t .recipient .0)) 42 word)
+    ≡ withRetainedAs (entryBy (t .account .0) w) (Full t) (mark word)
+unfolding entryBy
+retained-put w t word v r = rw (slip-by t v r)
 
 -- a seat's ack
 ack-in : (a : ℕ) (w : Block) (s : Seat) → s .0 < 16 → ackFrom (entryBy a w) s ≡ ackIn a w (s .0) .slot
@@ -74,22 +85,36 @@ pub acks-length : (ws : List ℕ) (a : Account) → a .0 < 32 → length (entryO
 unfolding entryBy
 acks-length ws a h = ap (λ e. length (e .acks)) (entry-in ws a h) ∙ table-length (ackIn (a .0) (block ws (a .0))) 16 0
 
-slot-of-next : (a value number recipient : ℕ) (u : Transfer) → slotBy a value number recipient ≡ Full u → (u .account ≡ accountOf a) × (u .number ≡ number)
-slot-of-next a value number recipient u = go (eqb value 0)
+-- a slip that stands in a place is of the block's account, has the place's number and a value, and its recipient's number is a byte
+pub slot-of-next : (a value number recipient : ℕ) (u : Transfer) → slotBy a value number recipient ≡ Full u
+    → (u .account ≡ accountOf a) × (u .number ≡ number) × (0 < u .value) × (u .recipient .0 < 256)
+slot-of-next a value number recipient u = go (eqb value 0) refl
   where
     t : Transfer
     t = record { account = accountOf a; number = number; value = value; recipient = accountOf (recipient % 256) }
 
-    go : (b : Bool) → cond b Empty (Full t) ≡ Full u → (u .account ≡ accountOf a) × (u .number ≡ number)
-    go true e = impossible (cc)
-    go false e = let same : t ≡ u = cc in (rw (← same), rw (← same))
+    go : (b : Bool) → eqb value 0 ≡ b → cond b Empty (Full t) ≡ Full u
+        → (u .account ≡ accountOf a) × (u .number ≡ number) × (0 < u .value) × (u .recipient .0 < 256)
+    go true is e = impossible (cc)
+    go false is e =
+        let same : t ≡ u = cc in
+        rw (← same) (refl, refl, omega (arith, eqb-false value 0 is), omega arith)
+
+-- so is what waits
+pub pending-of : (ws : List ℕ) (a : Account) (u : Transfer) → a .0 < 32 → entryOf (ledgerIn ws) a .pending ≡ Full u
+    → (u .account ≡ a) × (0 < u .value) × (u .recipient .0 < 256)
+unfolding entryBy
+pending-of ws a u h waits =
+    let w = block ws (a .0) in
+    let found = slot-of-next (a .0) (w 4) (w 5) (w 6) u (sym (ap (λ e. e .pending) (entry-in ws a h)) ∙ waits) in
+    (found .0, found .2, found .3)
 
 pub ack-of-next : (ws : List ℕ) (a : Account) (s : Seat) (u : Transfer) → a .0 < 32 → ackFrom (entryOf (ledgerIn ws) a) s ≡ Full u
     → (u .account ≡ a) × (u .number ≡ entryOf (ledgerIn ws) a .current + 1)
 unfolding entryBy
 ack-of-next ws a s u h = rw (entry-in ws a h)
     (table-each OfNext (ackIn (a .0) w) 16 0 (s .0) none (λ e. impossible (cc))
-    (λ k. slot-of-next (a .0) (w (7 + k)) (w currentPlace + 1) (w (23 + k)) u))
+    (λ k e. let found = slot-of-next (a .0) (w (7 + k)) (w currentPlace + 1) (w (23 + k)) u e in (found .0, found .1)))
   where
     w : Block
     w = block ws (a .0)
@@ -107,6 +132,7 @@ module _ (w : Block) (s : Seat) (t : Transfer) (seat : s .0 < 16) (value : 0 < t
   unfolding entryBy
   ack-changed w' same v r =
       let low : (k : ℕ) → k < 7 → w' k ≡ w k = λ k h. same k (λ e. absurd (omega arith)) (λ e. absurd (omega arith)) in
+      let high : (k : ℕ) → 39 ≤ k → w' k ≡ w k = λ k h. same k (λ e. absurd (omega arith)) (λ e. absurd (omega arith)) in
       let a = t .account .0 in
       let others : (k : ℕ) → k < 16 → k ≢ s .0 → ackIn a w' k ≡ ackIn a w k =
       λ k h n. rw (same (7 + k) (λ e. n (omega arith)) (λ e. absurd (omega arith)), same (23 + k) (λ e. absurd (omega arith)) (λ e. n (omega arith)), low 1 (omega arith)) in
@@ -123,6 +149,10 @@ module _ (w : Block) (s : Seat) (t : Transfer) (seat : s .0 < 16) (value : 0 < t
         low 4 (omega arith),
         low 5 (omega arith),
         low 6 (omega arith),
+        high 39 (omega arith),
+        high 40 (omega arith),
+        high 41 (omega arith),
+        high 42 (omega arith),
       )
 
   pub ack-put : entryBy (t .account .0) (put (put w (7 + s .0) (t .value)) (23 + s .0) (t .recipient .0)) ≡ withAck (entryBy (t .account .0) w) s t

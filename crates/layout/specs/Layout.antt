@@ -14,7 +14,7 @@ use Rattle.model.specs.Records.{accountOf, entryOf}
 
 -- The layout, by the names of the constants in src/lib.rt. Each of the 32 accounts has a block of so many words;
 abbrev pub blockWords : ℕ
-blockWords = 39
+blockWords = 43
 
 -- in it stand the balance and the current number,
 abbrev pub balancePlace : ℕ
@@ -40,39 +40,57 @@ pendingNumberPlace = 5
 abbrev pub pendingRecipientPlace : ℕ
 pendingRecipientPlace = 6
 
--- and the acks of 16 seats for the next number: all values, then all recipients.
+-- the acks of 16 seats for the next number: all values, then all recipients,
 abbrev pub ackValuesPlace : ℕ
 ackValuesPlace = 7
 
 abbrev pub ackRecipientsPlace : ℕ
 ackRecipientsPlace = 23
 
+-- and the retained slip, with the mark that a slip was put forward for its number.
+abbrev pub retainedValuePlace : ℕ
+retainedValuePlace = 39
+
+abbrev pub retainedNumberPlace : ℕ
+retainedNumberPlace = 40
+
+abbrev pub retainedRecipientPlace : ℕ
+retainedRecipientPlace = 41
+
+abbrev pub retainedProposedPlace : ℕ
+retainedProposedPlace = 42
+
 -- Behind the blocks stand n, f, k and the opening sum.
 abbrev pub groupPlace : ℕ
 groupPlace = 32 * blockWords
-
-abbrev pub seatsPlace : ℕ
-seatsPlace = groupPlace
-
-abbrev pub faultsPlace : ℕ
-faultsPlace = groupPlace + 1
-
-abbrev pub accountsPlace : ℕ
-accountsPlace = groupPlace + 2
-
-abbrev pub totalPlace : ℕ
-totalPlace = groupPlace + 3
 
 -- how many words a book has
 abbrev pub bookWords : ℕ
 bookWords = groupPlace + 4
 
+-- A book held from before request 5 has blocks that end before the retained slip, and the rest at the same places.
+abbrev pub heldBlockWords : ℕ
+heldBlockWords = retainedValuePlace
+
+abbrev pub heldGroupPlace : ℕ
+heldGroupPlace = 32 * heldBlockWords
+
+abbrev pub heldBookWords : ℕ
+heldBookWords = heldGroupPlace + 4
+
 -- an account's block: its words by their places, and 0 behind the last
 abbrev pub Block : Type 0
 Block = ℕ → ℕ
 
+-- the block of an account in words with blocks of this width
+abbrev pub blockOf : ℕ → List ℕ → ℕ → Block
+blockOf width ws a i = cond (ltb i width) (getD ws (a * width + i) 0) 0
+
 abbrev pub block : List ℕ → ℕ → Block
-block ws a i = cond (ltb i blockWords) (getD ws (a * blockWords + i) 0) 0
+block ws a = blockOf blockWords ws a
+
+abbrev pub heldBlock : List ℕ → ℕ → Block
+heldBlock ws a = blockOf heldBlockWords ws a
 
 -- a mark is any word but 0
 abbrev pub mark : ℕ → Bool
@@ -102,27 +120,43 @@ entryBy a w =
       acks = tableFrom (ackIn a w) 16 0;
       proposed = mark (w proposedPlace);
       pending = slotBy a (w pendingValuePlace) (w pendingNumberPlace) (w pendingRecipientPlace);
+      retained = slotBy a (w retainedValuePlace) (w retainedNumberPlace) (w retainedRecipientPlace);
+      retainedProposed = mark (w retainedProposedPlace);
     }
 
--- the entries of the 32 accounts
+-- the entries of the 32 accounts, given their blocks
+abbrev pub entriesBy : (ℕ → Block) → List Entry
+entriesBy blocks = tableFrom (λ a. entryBy a (blocks a)) 32 0
+
 unfoldable pub entriesIn : List ℕ → List Entry
-entriesIn ws = tableFrom (λ a. entryBy a (block ws a)) 32 0
+entriesIn ws = entriesBy (block ws)
 
 -- a number that is at most the limit; any other is read as 0
 abbrev pub upTo : ℕ → ℕ → ℕ
 upTo limit word = cond (leb word limit) word 0
 
+-- the ledger with these entries, and n, f, k and the opening sum from this place on
+abbrev pub ledgerBy : List ℕ → ℕ → List Entry → Ledger
+ledgerBy ws from entries =
+    record {
+      seats = upTo 16 (getD ws from 0);
+      faults = upTo 16 (getD ws (from + 1) 0);
+      accounts = upTo 32 (getD ws (from + 2) 0);
+      total = getD ws (from + 3) 0;
+      entries = entries;
+    }
+
 -- The ledger that words are.
 unfoldable pub ledgerIn : List ℕ → Ledger
-ledgerIn ws =
-    record {
-      seats = upTo 16 (getD ws seatsPlace 0);
-      faults = upTo 16 (getD ws faultsPlace 0);
-      accounts = upTo 32 (getD ws accountsPlace 0);
-      total = getD ws totalPlace 0;
-      entries = entriesIn ws;
-    }
+ledgerIn ws = ledgerBy ws groupPlace (entriesIn ws)
 
 -- its entry for an account
 abbrev pub entryIn : List ℕ → Account → Entry
 entryIn ws a = entryOf (ledgerIn ws) a
+
+-- The ledger that the words of a book are that is held from before request 5: nothing is retained in it.
+unfoldable pub heldEntriesIn : List ℕ → List Entry
+heldEntriesIn ws = entriesBy (heldBlock ws)
+
+unfoldable pub heldIn : List ℕ → Ledger
+heldIn ws = ledgerBy ws heldGroupPlace (heldEntriesIn ws)

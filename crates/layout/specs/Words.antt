@@ -1,8 +1,8 @@
 -- The words of a ledger: for every ledger whose stored slips are as their places tell, words that are this ledger. The proof is in
 -- proofs/Words.antt.
-use Prim.Native.Nat.{ℕ, _+_, _-_, _/_, _%_, _≤_, _<_}
+use Prim.Native.Nat.{ℕ, _+_, _-_, _*_, _/_, _%_, _≤_, _<_}
 use mathlib.Core.Path.{_≡_}
-use mathlib.Core.Bool.{cond}
+use mathlib.Core.Bool.{false, cond}
 use mathlib.Core.List.{List, [], _∷_}
 use lib.Dec.{ltb}
 use lib.ListN.{length, getD}
@@ -15,7 +15,7 @@ use Rattle.model.specs.Types.{Entry, Ledger}
 use Rattle.model.specs.Basics.{bit}
 use Rattle.model.specs.Records.{seatOf, accountOf, entryOf}
 use Rattle.model.specs.Refusals.{ackFrom}
-use Rattle.layout.specs.Layout.{blockWords, ackValuesPlace, ackRecipientsPlace, groupPlace, bookWords, tableFrom, ledgerIn}
+use Rattle.layout.specs.Layout.{blockWords, heldBlockWords, ackValuesPlace, ackRecipientsPlace, retainedValuePlace, tableFrom, ledgerIn, heldIn}
 
 -- a slip's value, number and recipient as words, 0 where there is none
 abbrev pub valueWord : Slot → ℕ
@@ -30,7 +30,8 @@ abbrev pub recipientWord : Slot → ℕ
 recipientWord Empty = 0
 recipientWord (Full t) = t .recipient .0
 
--- the words of an account's block: those before the acks, in the order of their places; then the values of the 16 seats' acks, and their recipients
+-- the words of an account's block: those before the acks, in the order of their places; then the values of the 16 seats' acks, and their recipients; then
+-- those of what is retained
 abbrev pub firstWords : Entry → List ℕ
 firstWords e =
     e .balance
@@ -42,19 +43,24 @@ firstWords e =
     ∷ recipientWord (e .pending)
     ∷ []
 
+abbrev pub lastWords : Entry → List ℕ
+lastWords e =
+    valueWord (e .retained) ∷ numberWord (e .retained) ∷ recipientWord (e .retained) ∷ bit (e .retainedProposed) ∷ []
+
 abbrev pub entryWord : Entry → ℕ → ℕ
 entryWord e i =
     cond (ltb i ackValuesPlace) (getD (firstWords e) i 0)
-    (cond (ltb i ackRecipientsPlace) (valueWord (ackFrom e (seatOf (i - ackValuesPlace)))) (recipientWord (ackFrom e (seatOf (i - ackRecipientsPlace)))))
+    (cond (ltb i ackRecipientsPlace) (valueWord (ackFrom e (seatOf (i - ackValuesPlace))))
+    (cond (ltb i retainedValuePlace) (recipientWord (ackFrom e (seatOf (i - ackRecipientsPlace)))) (getD (lastWords e) (i - retainedValuePlace) 0)))
 
--- a word of the ledger: those of the blocks, then the group's
-abbrev pub ledgerWord : Ledger → ℕ → ℕ
-ledgerWord l i =
-    cond (ltb i groupPlace) (entryWord (entryOf l (accountOf (i / blockWords))) (i % blockWords))
-    (getD (l .seats ∷ l .faults ∷ l .accounts ∷ l .total ∷ []) (i - groupPlace) 0)
+-- a word of the ledger, with blocks of this width: those of the blocks, then the group's
+abbrev pub ledgerWord : ℕ → Ledger → ℕ → ℕ
+ledgerWord width l i =
+    cond (ltb i (32 * width)) (entryWord (entryOf l (accountOf (i / width))) (i % width))
+    (getD (l .seats ∷ l .faults ∷ l .accounts ∷ l .total ∷ []) (i - 32 * width) 0)
 
-unfoldable pub wordsOf : Ledger → List ℕ
-wordsOf l = tableFrom (ledgerWord l) bookWords 0
+unfoldable pub wordsOf : ℕ → Ledger → List ℕ
+wordsOf width l = tableFrom (ledgerWord width l) (32 * width + 4) 0
 
 -- A place can tell its slip: it is of this account and number, has a value, and its recipient's number is a byte.
 pub record ToldBy (a : Account) (n : ℕ) (t : Transfer) : Type 0 where
@@ -68,6 +74,7 @@ pub record EntryTold (a : Account) (e : Entry) : Type 0 where
   pub acks-size : length (e .acks) ≡ 16
   pub acks : (s : Seat) (t : Transfer) → ackFrom e s ≡ Full t → ToldBy a (e .current + 1) t
   pub pending : (t : Transfer) → e .pending ≡ Full t → ToldBy a (t .number) t
+  pub retained : (t : Transfer) → e .retained ≡ Full t → ToldBy a (t .number) t
 
 pub record LedgerTold (l : Ledger) : Type 0 where
   pub seats-fit : l .seats ≤ 16
@@ -78,4 +85,11 @@ pub record LedgerTold (l : Ledger) : Type 0 where
 
 -- The words of such a ledger are that ledger.
 abbrev pub WordsAre : Type 0
-WordsAre = (l : Ledger) → LedgerTold l → ledgerIn (wordsOf l) ≡ l
+WordsAre = (l : Ledger) → LedgerTold l → ledgerIn (wordsOf blockWords l) ≡ l
+
+-- So are, in a book held from before request 5, the words of such a ledger that retains nothing.
+abbrev pub RetainsNothing : Entry → Type 0
+RetainsNothing e = (e .retained ≡ Empty) × (e .retainedProposed ≡ false)
+
+abbrev pub HeldWordsAre : Type 0
+HeldWordsAre = (l : Ledger) → LedgerTold l → ((a : Account) → RetainsNothing (entryOf l a)) → heldIn (wordsOf heldBlockWords l) ≡ l

@@ -7,6 +7,7 @@ use model::Refusal;
 use store::put_balance;
 use store::put_booked;
 use store::put_group;
+use store::put_none_retained;
 ghost use mathlib.Core.Path.{_≡_};
 ghost use mathlib.Core.Bool.{not};
 ghost use Prim.Native.Nat.{_<_};
@@ -82,6 +83,7 @@ fn put_fresh(words: &mut [u32], a: Account, balance: u32)
     ensures { λ _. ⌜ ledgerIn (now (words .exit)) ≡ withEntry (ledgerIn (now (words .entry))) a (freshEntry balance) ⌝ }
 {
     put_booked(words, a, 0);
+    put_none_retained(words, a);
     put_balance(words, a, balance);
 }
 

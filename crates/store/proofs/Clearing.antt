@@ -5,7 +5,7 @@ use native.Mathlib.Omega.{arith}
 use mathlib.Core.Path.{_≡_, refl, sym, _∙_, fun-ext}
 use mathlib.Core.List.{List}
 use borrow.Author.Tests.{lt-ltb, le-ltb, le-leb, lt-leb, eq-eqb, ne-eqb}
-use Rattle.model.specs.Records.{noAcks, withBooked}
+use Rattle.model.specs.Records.{noAcks, withBooked, withNoneRetained}
 use Rattle.layout.specs.Layout.{blockWords, Block, block, entryBy}
 use Rattle.layout.specs.Blocks.{put, Changes}
 use Rattle.layout.proofs.Blocks.{changed-more}
@@ -47,7 +47,12 @@ pub one-cleared : (ws mid after : List ℕ) (a i n : ℕ) → i ≤ n → Change
     → Changes ws a (cleared (block ws a) i (n + 1)) after
 one-cleared ws mid after a i n l c d = rw (← cleared-more (block ws a) i n l) (changed-more (cleared (block ws a) i n) n 0 c d)
 
--- all but the balance is cleared, and then the number is put
-pub booked-put : (a : ℕ) (w : Block) (number : ℕ) → entryBy a (put (cleared w 1 blockWords) 1 number) ≡ withBooked (entryBy a w) number
+-- all but the balance and what is retained is cleared, and then the number is put
+pub booked-put : (a : ℕ) (w : Block) (number : ℕ) → entryBy a (put (cleared w 1 39) 1 number) ≡ withBooked (entryBy a w) number
 unfolding noAcks entryBy
 booked-put a w number = refl
+
+-- what is retained is cleared
+pub none-retained-put : (a : ℕ) (w : Block) → entryBy a (cleared w 39 blockWords) ≡ withNoneRetained (entryBy a w)
+unfolding entryBy
+none-retained-put a w = refl

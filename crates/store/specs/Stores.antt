@@ -8,13 +8,17 @@ use Rattle.model.specs.declared.Seat.{Seat}
 use Rattle.model.specs.declared.Transfer.{Transfer}
 use Rattle.model.specs.declared.Slot.{Slot}
 use Rattle.model.specs.declared.Slot.the-variants.{Empty, Full}
-use Rattle.model.specs.Records.{withEntry, withAck, withPending}
+use Rattle.model.specs.Records.{withEntry, withAck, withPending, withRetained}
 use Rattle.layout.specs.Layout.{Block, block, pendingValuePlace, pendingNumberPlace, pendingRecipientPlace, ackValuesPlace, ackRecipientsPlace, upTo, ledgerIn, entryIn}
 use Rattle.layout.specs.Blocks.{put, Changes}
 
 -- the block with 0 at the places from i up to n
 abbrev pub cleared : Block → ℕ → ℕ → Block
 cleared w i n j = cond (leb i j && ltb j n) 0 (w j)
+
+-- the block with the words of another up to place n
+abbrev pub copied : Block → Block → ℕ → Block
+copied u w n j = cond (ltb j n) (u j) (w j)
 
 -- a slip with another number
 abbrev pub withNumber : Transfer → ℕ → Transfer
@@ -36,6 +40,10 @@ pub record AckStored (before : List ℕ) (s : Seat) (t : Transfer) (after : List
 pub record PendingStored (before : List ℕ) (t : Transfer) (after : List ℕ) : Type 0 where
   pub words : Changes before (t .account .0) (put (put (put (block before (t .account .0)) pendingValuePlace (t .value)) pendingNumberPlace (t .number)) pendingRecipientPlace (t .recipient .0)) after
   pub waits : 0 < t .value → ledgerIn after ≡ withEntry (ledgerIn before) (t .account) (withPending (entryIn before (t .account)) t)
+
+-- The slip's value, number and recipient are in the places of what is retained, with the word of the next number's mark: it is retained if it has a value.
+pub record RetainedStored (before : List ℕ) (t : Transfer) (after : List ℕ) : Type 0 where
+  pub retained : 0 < t .value → ledgerIn after ≡ withEntry (ledgerIn before) (t .account) (withRetained (entryIn before (t .account)) t)
 
 -- The group's numbers, read back as they are in their ranges; the entries are as they were.
 pub record GroupStored (before : List ℕ) (n f k total : ℕ) (after : List ℕ) : Type 0 where

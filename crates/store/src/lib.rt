@@ -8,10 +8,19 @@ use layout::BALANCE;
 use layout::BLOCK;
 use layout::CURRENT;
 use layout::FAULTS;
+use layout::HELD_ACCOUNTS;
+use layout::HELD_BLOCK;
+use layout::HELD_FAULTS;
+use layout::HELD_SEATS;
+use layout::HELD_TOTAL;
 use layout::PENDING_NUMBER;
 use layout::PENDING_RECIPIENT;
 use layout::PENDING_VALUE;
 use layout::PROPOSED;
+use layout::RETAINED_NUMBER;
+use layout::RETAINED_PROPOSED;
+use layout::RETAINED_RECIPIENT;
+use layout::RETAINED_VALUE;
 use layout::SEATS;
 use layout::TOTAL;
 use model::Account;
@@ -19,13 +28,13 @@ use model::Seat;
 use model::Slot;
 use model::Transfer;
 ghost use mathlib.Core.Path.{_≡_};
-ghost use Prim.Native.Nat.{_+_, _<_};
+ghost use Prim.Native.Nat.{_+_, _≤_, _<_};
 ghost use lib.ListN.{length};
-ghost use Rattle.model.specs.Records.{withEntry, withBalance, withAcked, withProposed, withBooked};
+ghost use Rattle.model.specs.Records.{entryOf, withEntry, withBalance, withAcked, withProposed, withBooked, withRetainedOf, withRetainedProposed, withNoneRetained, withEntries};
 ghost use Rattle.model.specs.Refusals.{ackFrom};
-ghost use Rattle.layout.specs.Layout.{blockWords, bookWords, block, slotBy, upTo, ledgerIn, entryIn};
+ghost use Rattle.layout.specs.Layout.{blockWords, bookWords, heldBlockWords, heldBookWords, block, heldBlock, slotBy, upTo, ledgerIn, entryIn, heldIn};
 ghost use Rattle.layout.specs.Blocks.{put, Changes};
-ghost use Rattle.store.specs.Stores.{cleared, numbered, AckStored, PendingStored, GroupStored};
+ghost use Rattle.store.specs.Stores.{cleared, numbered, AckStored, PendingStored, RetainedStored, GroupStored, copied};
 
 // A word of an account's block.
 fn word(words: &[u32], a: Account, at: usize) -> u32
@@ -160,6 +169,29 @@ pub fn pending_of(words: &[u32], a: Account) -> Slot
     )
 }
 
+// The retained transfer, the latest that was accepted, if any.
+pub fn retained_of(words: &[u32], a: Account) -> Slot
+    requires { ⌜ length (now words) ≡ bookWords ⌝ }
+    requires { ⌜ a .0 < 32 ⌝ }
+    ensures { λ r. ⌜ r ≡ entryIn (now (words .entry)) a .retained ⌝ }
+{
+    slot_of(
+        a,
+        word(words, a, RETAINED_VALUE),
+        word(words, a, RETAINED_NUMBER),
+        word(words, a, RETAINED_RECIPIENT),
+    )
+}
+
+// A transfer was proposed for the number of the retained one.
+pub fn is_retained_proposed(words: &[u32], a: Account) -> bool
+    requires { ⌜ length (now words) ≡ bookWords ⌝ }
+    requires { ⌜ a .0 < 32 ⌝ }
+    ensures { λ r. ⌜ r ≡ entryIn (now (words .entry)) a .retainedProposed ⌝ }
+{
+    word(words, a, RETAINED_PROPOSED) != 0
+}
+
 // A seat's ack for the account's next number, if any is recorded, told with a number: the next, as the caller has found it.
 pub fn ack_from(words: &[u32], a: Account, s: Seat, next: u32) -> Slot
     requires { ⌜ length (now words) ≡ bookWords ⌝ }
@@ -223,25 +255,96 @@ pub fn put_pending(words: &mut [u32], t: Transfer)
     put_word(words, t.account, PENDING_RECIPIENT, recipient.0 as u32);
 }
 
-// All words of an account's block but its balance are 0.
-fn clear(words: &mut [u32], a: Account)
+// A transfer of the account's next number is retained, with the mark that this number has.
+pub fn put_retained(words: &mut [u32], t: Transfer)
+    requires { ⌜ length (now words) ≡ bookWords ⌝ }
+    requires { ⌜ t .account .0 < 32 ⌝ }
+    ensures { λ _. ⌜ RetainedStored (now (words .entry)) t (now (words .exit)) ⌝ }
+{
+    let recipient = t.recipient;
+    let proposed = word(words, t.account, PROPOSED);
+    put_word(words, t.account, RETAINED_VALUE, t.value);
+    put_word(words, t.account, RETAINED_NUMBER, t.number);
+    put_word(words, t.account, RETAINED_RECIPIENT, recipient.0 as u32);
+    put_word(words, t.account, RETAINED_PROPOSED, proposed);
+}
+
+pub fn put_retained_proposed(words: &mut [u32], a: Account)
     requires { ⌜ length (now words) ≡ bookWords ⌝ }
     requires { ⌜ a .0 < 32 ⌝ }
-    ensures { λ _. ⌜ Changes (now (words .entry)) (a .0) (cleared (block (now (words .entry)) (a .0)) 1 blockWords) (now (words .exit)) ⌝ }
+    ensures { λ _. ⌜ ledgerIn (now (words .exit)) ≡ withEntry (ledgerIn (now (words .entry))) a (withRetainedProposed (entryIn (now (words .entry)) a)) ⌝ }
 {
-    let mut at: usize = CURRENT;
-    while at < BLOCK {
+    put_word(words, a, RETAINED_PROPOSED, 1);
+}
+
+// The words of an account's block from one place up to another are 0.
+fn clear(words: &mut [u32], a: Account, from: usize, to: usize)
+    requires { ⌜ length (now words) ≡ bookWords ⌝ }
+    requires { ⌜ (a .0 < 32) × (from ≤ to) × (to ≤ blockWords) ⌝ }
+    ensures { λ _. ⌜ Changes (now (words .entry)) (a .0) (cleared (block (now (words .entry)) (a .0)) from to) (now (words .exit)) ⌝ }
+{
+    let mut at: usize = from;
+    while at < to {
         put_word(words, a, at, 0);
         at += 1;
     }
 }
 
-// A number was booked: it is the current one, and the account's acks, marks and what waited are cleared.
+// Nothing is retained.
+pub fn put_none_retained(words: &mut [u32], a: Account)
+    requires { ⌜ length (now words) ≡ bookWords ⌝ }
+    requires { ⌜ a .0 < 32 ⌝ }
+    ensures { λ _. ⌜ ledgerIn (now (words .exit)) ≡ withEntry (ledgerIn (now (words .entry))) a (withNoneRetained (entryIn (now (words .entry)) a)) ⌝ }
+{
+    clear(words, a, RETAINED_VALUE, BLOCK);
+}
+
+// A number was booked: it is the current one, and the account's acks, marks and what waited are cleared. What is retained stays.
 pub fn put_booked(words: &mut [u32], a: Account, number: u32)
     requires { ⌜ length (now words) ≡ bookWords ⌝ }
     requires { ⌜ a .0 < 32 ⌝ }
     ensures { λ _. ⌜ ledgerIn (now (words .exit)) ≡ withEntry (ledgerIn (now (words .entry))) a (withBooked (entryIn (now (words .entry)) a) number) ⌝ }
 {
-    clear(words, a);
+    clear(words, a, CURRENT, RETAINED_VALUE);
     put_word(words, a, CURRENT, number);
+}
+
+// The words of an account's block in a book held from before, which ends before what is retained, are those of its block now.
+fn copy_block(held: &[u32], words: &mut [u32], a: Account)
+    requires { ⌜ length (now held) ≡ heldBookWords ⌝ }
+    requires { ⌜ length (now words) ≡ bookWords ⌝ }
+    requires { ⌜ a .0 < 32 ⌝ }
+    ensures { λ _. ⌜ Changes (now (words .entry)) (a .0) (copied (heldBlock (now (held .entry)) (a .0)) (block (now (words .entry)) (a .0)) heldBlockWords) (now (words .exit)) ⌝ }
+{
+    let start = (a.0 as usize) * HELD_BLOCK;
+    let mut at: usize = 0;
+    while at < HELD_BLOCK {
+        put_word(words, a, at, held[start + at]);
+        at += 1;
+    }
+}
+
+// An account is as in a book held from before; what is retained stays.
+pub fn take_entry(held: &[u32], words: &mut [u32], a: Account)
+    requires { ⌜ length (now held) ≡ heldBookWords ⌝ }
+    requires { ⌜ length (now words) ≡ bookWords ⌝ }
+    requires { ⌜ a .0 < 32 ⌝ }
+    ensures { λ _. ⌜ ledgerIn (now (words .exit)) ≡ withEntry (ledgerIn (now (words .entry))) a (withRetainedOf (entryOf (heldIn (now (held .entry))) a) (entryIn (now (words .entry)) a)) ⌝ }
+{
+    copy_block(held, words, a);
+}
+
+// n, f, k and the opening sum are as in a book held from before.
+pub fn take_group(held: &[u32], words: &mut [u32])
+    requires { ⌜ length (now held) ≡ heldBookWords ⌝ }
+    requires { ⌜ length (now words) ≡ bookWords ⌝ }
+    ensures { λ _. ⌜ ledgerIn (now (words .exit)) ≡ withEntries (heldIn (now (held .entry))) (ledgerIn (now (words .entry)) .entries) ⌝ }
+{
+    put_group(
+        words,
+        up_to(16, held[HELD_SEATS]),
+        up_to(16, held[HELD_FAULTS]),
+        up_to(32, held[HELD_ACCOUNTS]),
+        held[HELD_TOTAL],
+    );
 }

@@ -1,7 +1,7 @@
--- The block is cleared, and then the number is put.
+-- The block is cleared up to what is retained, and then the number is put.
 use native.Mathlib.Omega.{arith}
 use Rattle.model.specs.Records.{withBooked}
-use Rattle.layout.specs.Layout.{blockWords, block}
+use Rattle.layout.specs.Layout.{retainedValuePlace, block}
 use Rattle.layout.specs.Blocks.{put}
 use Rattle.layout.proofs.Blocks.{changed-more}
 use Rattle.layout.proofs.Entries.{entry-changed}
@@ -25,7 +25,7 @@ returns c =
     let start = c .before .before .before .before .before .before .before .before .before in
     let a = start .args .a in
     let ws = start .args .words .now in
-    let bare = cleared (block ws (a .0)) 1 blockWords in
+    let bare = cleared (block ws (a .0)) 1 retainedValuePlace in
     entry-changed
     ws
     (c .before .before .put-word .last .0)

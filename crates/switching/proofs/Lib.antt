@@ -1,0 +1,2 @@
+-- Accounts of a held book, taken over one after another.
+pub mod Accounts

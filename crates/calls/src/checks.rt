@@ -12,7 +12,9 @@ use store::ack_from;
 use store::balance_of;
 use store::current_of;
 use store::is_acked;
+use store::is_retained_proposed;
 use store::pending_of;
+use store::retained_of;
 use store::seats_of;
 use store::total_of;
 ghost use mathlib.Core.Path.{_≡_};
@@ -21,6 +23,7 @@ ghost use Prim.Native.Nat.{_<_};
 ghost use Rattle.model.specs.Refusals.{firstRefusal, outOfRange, waitsAlready, numberRules, transferRules, offerRules, requestRules, circulatedRules, ackRules};
 ghost use Rattle.layout.specs.Layout.{bookWords, ledgerIn, entryIn};
 ghost use Rattle.basics.specs.Results.{checkOf};
+ghost use Rattle.calls.specs.Promises.{lateSlip};
 
 fn is_out_of_range(words: &[u32], t: Transfer) -> bool
     requires { ⌜ length (now words) ≡ bookWords ⌝ }
@@ -148,4 +151,32 @@ pub fn ack_check(words: &[u32], s: Seat, t: Transfer) -> Check
             Check::Passed
         }
     }
+}
+
+// The transfer that a late proposal carries, if an ack brings one: the retained one, where the ack passes 4 and 5, its transfer is another of that account and
+// number, and nothing was proposed for it.
+pub fn late_proposal(words: &[u32], s: Seat, t: Transfer) -> Slot
+    requires { ⌜ length (now words) ≡ bookWords ⌝ }
+    ensures { λ r. ⌜ r ≡ lateSlip (ledgerIn (now (words .entry))) (entryIn (now (words .entry)) (t .account)) s t ⌝ }
+{
+    // what is retained comes first, which tells most acks apart; behind the last account nothing is
+    if 32 <= t.account.0 {
+        return Slot::Empty;
+    }
+    let retained = retained_of(words, t.account);
+    if !is_against(t, retained) {
+        return Slot::Empty;
+    }
+    if is_retained_proposed(words, t.account) {
+        return Slot::Empty;
+    }
+    let seats = seats_of(words);
+    if seats <= s.0 {
+        return Slot::Empty;
+    }
+    let outside = is_out_of_range(words, t);
+    if outside {
+        return Slot::Empty;
+    }
+    retained
 }

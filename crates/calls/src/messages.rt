@@ -1,6 +1,7 @@
 // The five kinds of message, each where the ledger lies. What a function promises is in specs/Promises.antt.
 use crate::checks::ack_check;
 use crate::checks::circulated_check;
+use crate::checks::late_proposal;
 use crate::checks::request_check;
 use crate::checks::transfer_check;
 use basics::quorums::is_enough;
@@ -9,6 +10,7 @@ use model::Account;
 use model::Refusal;
 use model::Reply;
 use model::Seat;
+use model::Slot;
 use model::Transfer;
 use settling::settle_all;
 use store::accounts_of;
@@ -18,6 +20,8 @@ use store::put_ack;
 use store::put_acked;
 use store::put_pending;
 use store::put_proposed;
+use store::put_retained;
+use store::put_retained_proposed;
 use store::seats_of;
 use tally::Tally;
 use tally::gather;
@@ -28,7 +32,7 @@ ghost use Prim.Native.Nat.{_<_};
 ghost use lib.ListN.{length};
 ghost use Rattle.model.specs.declared.Message.the-variants.{Request, Circulated, Ack, Decision, Inquiry};
 ghost use Rattle.layout.specs.Layout.{bookWords};
-ghost use Rattle.calls.specs.Promises.{Answered, NotEnough, Accepted};
+ghost use Rattle.calls.specs.Promises.{Answered, NotLate, NotEnough, Accepted};
 
 // A home's new transfer: circulate it.
 pub fn request(words: &[u32], t: Transfer) -> Reply
@@ -55,10 +59,25 @@ pub fn acknowledge(words: &mut [u32], t: Transfer) -> Reply
     }
 }
 
-// A seat's ack of a transfer, beside lines 35 to 37 of Algorithm 1 in document 000, with document 01's threshold in line 37.
-pub fn record_ack(words: &mut [u32], s: Seat, t: Transfer) -> Reply
+// A seat's ack of a transfer. Where it conflicts with one that this seat has accepted, for whose number nothing was proposed yet, the seat joins in and
+// proposes the accepted one, and the ack is not recorded (document 02, request 5). Else it is tried and recorded.
+pub fn receive_ack(words: &mut [u32], s: Seat, t: Transfer) -> Reply
     requires { ⌜ length (now words) ≡ bookWords ⌝ }
     ensures { λ r. ⌜ Answered (now (words .entry)) (Ack s t) r (now (words .exit)) ⌝ }
+{
+    match late_proposal(words, s, t) {
+        Slot::Full(retained) => {
+            put_retained_proposed(words, t.account);
+            Reply::Propose(retained)
+        }
+        Slot::Empty => record_ack(words, s, t),
+    }
+}
+
+// A seat's ack of a transfer, beside lines 35 to 37 of Algorithm 1 in document 000, with document 01's threshold in line 37.
+fn record_ack(words: &mut [u32], s: Seat, t: Transfer) -> Reply
+    requires { ⌜ length (now words) ≡ bookWords ⌝ }
+    ensures { λ r. ⌜ NotLate (now (words .entry)) s t r (now (words .exit)) ⌝ }
 {
     // line 35: an ack of t from seat s is delivered; that its number is valid is among the checks, 4 to 10
     match ack_check(words, s, t) {
@@ -114,12 +133,13 @@ fn propose_or_note(words: &mut [u32], t: Transfer, tally: Tally) -> Reply
     Reply::Note
 }
 
-// The accepted transfer waits, and settling begins: K carries how many transfers it applied.
+// The accepted transfer is retained, it waits, and settling begins: K carries how many transfers it applied.
 fn accept(words: &mut [u32], t: Transfer) -> Reply
     requires { ⌜ length (now words) ≡ bookWords ⌝ }
     requires { ⌜ t .account .0 < 32 ⌝ }
     ensures { λ r. ⌜ Accepted (now (words .entry)) t r (now (words .exit)) ⌝ }
 {
+    put_retained(words, t);
     put_pending(words, t);
     Reply::Accept(settle_all(words))
 }

@@ -5,9 +5,11 @@ use basics::codes::letter_of;
 use basics::quorums::is_enough;
 use bundle::sums::body_sum;
 use layout::BOOK_WORDS;
+use layout::HELD_WORDS;
 use ledger::call;
 use ledger::list_waiting;
 use ledger::open;
+use ledger::switch;
 use model::ListReply;
 use model::OpenReply;
 use model::Reply;
@@ -24,7 +26,7 @@ ghost use mathlib.Core.Path.{_≡_};
 ghost use Rattle.model.specs.Acks.{enough};
 ghost use Rattle.model.specs.Bundles.{bodySum};
 ghost use Rattle.layout.specs.Layout.{ledgerIn};
-ghost use Rattle.ledger.specs.Promises.{ListedAs};
+ghost use Rattle.ledger.specs.Promises.{SwitchedAs, ListedAs};
 ghost use Rattle.replay.specs.Lists.{ListOf};
 ghost use Rattle.replay.specs.Text.{textOf};
 ghost use Rattle.replay.specs.Promises.{Replayed};
@@ -36,8 +38,9 @@ ghost use Rattle.host.specs.BundleWriting.{numberOfWrite, ToldWriting};
 // How many words a reply has: its letter, and the four values of the longest.
 pub const REPLY_WORDS: usize = 5;
 
-// A book is 1,252 words that the host lends and keeps: `ledger_open` opens it, `ledger_call` plays a message on it, `ledger_waiting` lists what
-// waits in it. Words that are all 0 are a book that refuses every message.
+// A book is 1,380 words that the host lends and keeps: `ledger_open` opens it, `ledger_call` plays a message on it, `ledger_waiting` lists what
+// waits in it. Words that are all 0 are a book that refuses every message. A book held from before request 5 of document 02 is 1,252 words:
+// `ledger_switch` takes it over.
 
 // Opens the book from a page, a bundle's body of kind 0: n, f, k, 32 balances (a byte that is missing reads as 0). Returns 0, and the book is
 // the page's, whatever it was; or the code that the page is refused by, and each word is as it was.
@@ -50,6 +53,15 @@ pub extern "C" fn ledger_open(words: &mut [u32; BOOK_WORDS], page: &[u8]) -> u8
         OpenReply::Opened => 0,
         OpenReply::OpenRefused(r) => code_of(r),
     }
+}
+
+// Takes over a book held from before request 5: the book is what the held one becomes, whatever it was. The held one stays as it was; the two must not
+// overlap, as no lent buffers may.
+#[no_mangle]
+pub extern "C" fn ledger_switch(held: &[u32; HELD_WORDS], words: &mut [u32; BOOK_WORDS])
+    ensures { λ _. ⌜ SwitchedAs (now (held .entry)) (now (words .exit)) ⌝ }
+{
+    switch(held, words);
 }
 
 // The words of a reply: its letter, what it carries, and zeros.

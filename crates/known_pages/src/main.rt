@@ -1,4 +1,4 @@
-// Plays document 01's known pages, and those of document 02's requests 2 and 3, on the compiled ledger and writes each reply as a line: the letter, then the values in two digits.
+// Plays document 01's known pages, and those of document 02's requests 2, 3 and 5, on the compiled ledger and writes each reply as a line: the letter, then the values in two digits.
 // What it must write is the file `stdout` beside src/, taken from the documents.
 use basics::codes::code_of;
 use basics::codes::letter_of;
@@ -182,6 +182,27 @@ fn self_payment() {
     question(&mut book, 0);
 }
 
+// A seat that has accepted t puts it forward when an ack of u comes, once: while it waits, in place of 8, and once it is booked, in place of 6. An equal ack, and a
+// ruling, bring nothing; nor does an ack of a number that was put forward while it waited.
+fn late_proposal() {
+    let t = transfer(0, 1, 4, 1);
+    let u = transfer(0, 1, 5, 1);
+    let mut book = [0u32; BOOK_WORDS];
+    opening(&mut book, 1, 0, 10, 3);
+    ack(&mut book, 0, t);
+    ack(&mut book, 0, t);
+    play(&mut book, Message::Decision(u));
+    ack(&mut book, 0, u);
+    ack(&mut book, 0, u);
+    opening(&mut book, 6, 1, 0, 5);
+    play(&mut book, Message::Decision(t));
+    ack(&mut book, 0, t);
+    ack(&mut book, 0, u);
+    ack(&mut book, 0, u);
+    play(&mut book, Message::Decision(transfer(1, 1, 5, 0)));
+    ack(&mut book, 1, u);
+}
+
 // "Balances 10 and 5, just opened: a first slip from account 0 of 10 gives A; one of 11 in its place gives 11; one of 16 gives 5."
 fn funds() {
     let mut book = [0u32; BOOK_WORDS];
@@ -226,6 +247,7 @@ fn main() {
     split_four_one();
     split_three_three();
     self_payment();
+    late_proposal();
     funds();
     rulings();
     whole_case();

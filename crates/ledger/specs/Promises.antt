@@ -1,4 +1,4 @@
--- What opening and the waiting list promise, by document 01's definitions in the model, of the ledger that the words are: for every content of the words
+-- What the opening, the switch and the waiting list promise, by the documents' definitions in the model, of the ledger that the words are: for every content of the words
 -- and every argument the reply, the ledger after it and each lent buffer. What a message promises is `Answered`, of crate calls.
 -- "Each enum answer has a definition that gives this paper's number and values for each of its cases. The promises use that
 -- definition": the fields `told`.
@@ -16,6 +16,8 @@ use Rattle.model.specs.Replies.{codeOf, valuesOfOpen, valuesOfList}
 use Rattle.model.specs.Openings.{openRules}
 use Rattle.model.specs.Settling.{waiting}
 use Rattle.model.specs.Calls.{Lists}
+use Rattle.model.specs.Switches.{sinceRequest3, switched}
+use Rattle.layout.specs.Layout.{ledgerIn, heldIn}
 use Rattle.opening.specs.Promises.{Opens}
 pub use Rattle.calls.specs.Promises.{Answered}
 
@@ -28,6 +30,10 @@ codeIfAny (some r) = codeOf r
 pub record OpenedAs (before : List ℕ) (page : Opening) (r : OpenReply) (after : List ℕ) : Type 0 where
   pub opens : Opens before page r after
   pub told : valuesOfOpen r ≡ codeIfAny (firstRefusal (openRules page)) ∷ []
+
+-- The switch of a book held from before request 5: what the ledger that it is becomes.
+pub record SwitchedAs (held after : List ℕ) : Type 0 where
+  pub ledger : ledgerIn after ≡ switched sinceRequest3 (heldIn held)
 
 -- the code and the count of a list of so many accounts
 abbrev pub listValues : Option Refusal → ℕ → List ℕ

@@ -1,9 +1,10 @@
-// The ledger's operations, on a book that the caller lends: the opening, the five kinds of message, and the waiting list. Each is total: it takes any
-// words and any value of its types, and its contract says what it replies and leaves, by document 01's definitions. What a function promises is a
+// The ledger's operations, on a book that the caller lends: the opening, the switch, the five kinds of message, and the waiting list. Each is total: it takes any
+// words and any value of its types, and its contract says what it replies and leaves, by the documents' definitions. What a function promises is a
 // record of specs/Promises.antt.
 use calls::lists;
 use calls::messages;
 use layout::BOOK_WORDS;
+use layout::HELD_WORDS;
 use model::Account;
 use model::ListReply;
 use model::Message;
@@ -13,15 +14,23 @@ use model::Reply;
 use model::Seat;
 use model::Transfer;
 use opening::open_page;
+use switching::take_over;
 ghost use Rattle.model.specs.declared.Message.the-variants.{Request, Circulated, Ack, Decision, Inquiry};
 ghost use Rattle.layout.specs.Layout.{ledgerIn};
-ghost use Rattle.ledger.specs.Promises.{Answered, OpenedAs, ListedAs};
+ghost use Rattle.ledger.specs.Promises.{Answered, OpenedAs, SwitchedAs, ListedAs};
 
 // The opening: the words are the page's ledger, whatever they were; or it is refused, and they are as they were.
 pub fn open(words: &mut [u32; BOOK_WORDS], page: Opening) -> OpenReply
     ensures { λ r. ⌜ OpenedAs (now (words .entry)) page r (now (words .exit)) ⌝ }
 {
     open_page(words, page)
+}
+
+// The switch of a book held from before request 5 of document 02: the words are the ledger that the held one becomes, whatever they were.
+pub fn switch(held: &[u32; HELD_WORDS], words: &mut [u32; BOOK_WORDS])
+    ensures { λ _. ⌜ SwitchedAs (now (held .entry)) (now (words .exit)) ⌝ }
+{
+    take_over(held, words);
 }
 
 // Any message.
@@ -31,7 +40,7 @@ pub fn call(words: &mut [u32; BOOK_WORDS], m: Message) -> Reply
     match m {
         Message::Request(t) => messages::request(words, t),
         Message::Circulated(t) => messages::acknowledge(words, t),
-        Message::Ack(s, t) => messages::record_ack(words, s, t),
+        Message::Ack(s, t) => messages::receive_ack(words, s, t),
         Message::Decision(t) => messages::decide(words, t),
         Message::Inquiry(a) => messages::inquire(words, a),
     }
@@ -51,11 +60,11 @@ pub fn acknowledge(words: &mut [u32; BOOK_WORDS], t: Transfer) -> Reply
     messages::acknowledge(words, t)
 }
 
-// A seat's ack of a transfer: it is recorded, and the tally decides.
-pub fn record_ack(words: &mut [u32; BOOK_WORDS], s: Seat, t: Transfer) -> Reply
+// A seat's ack of a transfer: it is recorded, and the tally decides; or it brings a late proposal.
+pub fn receive_ack(words: &mut [u32; BOOK_WORDS], s: Seat, t: Transfer) -> Reply
     ensures { λ r. ⌜ Answered (now (words .entry)) (Ack s t) r (now (words .exit)) ⌝ }
 {
-    messages::record_ack(words, s, t)
+    messages::receive_ack(words, s, t)
 }
 
 // The council's decision (document 01: ruling): its transfer is accepted.

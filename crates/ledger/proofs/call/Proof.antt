@@ -18,8 +18,8 @@ acknowledge-requires c κs = search needs
 enum-known-m-3 : tie.Need-enum-known-m-3
 enum-known-m-3 c = search needs
 
-record-ack-requires : tie.Need-record-ack-requires
-record-ack-requires c κs = search needs
+receive-ack-requires : tie.Need-receive-ack-requires
+receive-ack-requires c κs = search needs
 
 enum-known-m-4 : tie.Need-enum-known-m-4
 enum-known-m-4 c = search needs
@@ -40,7 +40,7 @@ returns-2 : tie.Need-returns-2
 returns-2 c = rw (c .before .before .before .m2 .given .1) (c .acknowledge .ensures)
 
 returns-3 : tie.Need-returns-3
-returns-3 c = rw (c .before .before .before .m3 .given .1) (c .record-ack .ensures)
+returns-3 c = rw (c .before .before .before .m3 .given .1) (c .receive-ack .ensures)
 
 returns-4 : tie.Need-returns-4
 returns-4 c = rw (c .before .before .before .m4 .given .1) (c .decide .ensures)
@@ -57,7 +57,7 @@ call-spec =
     enum-known-m-2
     acknowledge-requires
     enum-known-m-3
-    record-ack-requires
+    receive-ack-requires
     enum-known-m-4
     decide-requires
     enum-known-m-5

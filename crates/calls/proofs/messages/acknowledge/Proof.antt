@@ -29,7 +29,7 @@ same-length c = search needs
 returns : tie.Need-returns
 returns c =
     let start = c .before .before .before .before .before .before in
-    refused (start .args .words .now) (Circulated (start .args .t)) _ (c .before .before .before .circulated-check .ensures) _ (c .before .r .given .1)
+    refused (start .args .words .now) (Circulated (start .args .t)) refl _ (c .before .before .before .circulated-check .ensures) _ (c .before .r .given .1)
 
 same-length-2 : tie.Need-same-length-2
 same-length-2 c = search needs
@@ -37,7 +37,7 @@ same-length-2 c = search needs
 returns-2 : tie.Need-returns-2
 returns-2 c =
     let start = c .before .before .before .before .before .before .before .before .before in
-    served (start .args .words .now) (Circulated (start .args .t)) _ (c .before .before .before .before .before .before .circulated-check .ensures) _ _ (c .before .before .before .before .enum-told .given .1)
+    served (start .args .words .now) (Circulated (start .args .t)) refl _ (c .before .before .before .before .before .before .circulated-check .ensures) _ _ (c .before .before .before .before .enum-told .given .1)
     (record { reply = refl; ledger = c .before .before .put-acked .ensures; not-refused = λ code e. impossible (cc) })
 
 pub acknowledge-spec : {M : Type 1} → statement M

@@ -1,5 +1,5 @@
 -- Refused by its rules, or accepted.
-use mathlib.Core.Path.{sym, _∙_}
+use mathlib.Core.Path.{refl, sym, _∙_}
 use Rattle.basics.proofs.ReadBack.{passed}
 use Rattle.model.specs.declared.Message.the-variants.{Decision}
 use Rattle.calls.proofs.Ranges.{fits}
@@ -28,7 +28,7 @@ same-length c = search needs
 returns : tie.Need-returns
 returns c =
     let start = c .before .before .before .before .before .before in
-    refused (start .args .words .now) (Decision (start .args .t)) _ (c .before .before .before .transfer-check .ensures) _ (c .before .r .given .1)
+    refused (start .args .words .now) (Decision (start .args .t)) refl _ (c .before .before .before .transfer-check .ensures) _ (c .before .r .given .1)
 
 same-length-2 : tie.Need-same-length-2
 same-length-2 c = search needs
@@ -37,7 +37,7 @@ returns-2 : tie.Need-returns-2
 returns-2 c =
     let start = c .before .before .before .before .before .before .before .before .before in
     let fit = fits (start .args .words .now) (start .args .t) (passed _ (sym (c .before .before .before .before .before .before .transfer-check .ensures) ∙ c .before .before .before .before .enum-told .given .1)) in
-    served (start .args .words .now) (Decision (start .args .t)) _ (c .before .before .before .before .before .before .transfer-check .ensures) _ _ (c .before .before .before .before .enum-told .given .1) (c .before .before .accept .ensures .settled (fit .range .value))
+    served (start .args .words .now) (Decision (start .args .t)) refl _ (c .before .before .before .before .before .before .transfer-check .ensures) _ _ (c .before .before .before .before .enum-told .given .1) (c .before .before .accept .ensures .settled (fit .range .value))
 
 pub decide-spec : {M : Type 1} → statement M
 decide-spec =

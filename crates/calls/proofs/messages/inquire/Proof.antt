@@ -20,7 +20,7 @@ accounts-of-requires c κs = search needs
 returns : tie.Need-returns
 returns c =
     let start = c .before .before .before .before in
-    refused (start .args .words .now) (Inquiry (start .args .a)) (Failed OutOfRange) (rw (← c .before .before .accounts-of .ensures, le-leb _ _ (c .if1 .taken))) OutOfRange refl
+    refused (start .args .words .now) (Inquiry (start .args .a)) refl (Failed OutOfRange) (rw (← c .before .before .accounts-of .ensures, le-leb _ _ (c .if1 .taken))) OutOfRange refl
 
 balance-of-requires : tie.Need-balance-of-requires
 balance-of-requires c κs =
@@ -30,7 +30,7 @@ balance-of-requires c κs =
 returns-2 : tie.Need-returns-2
 returns-2 c =
     let start = c .before .before .before .before .before in
-    served (start .args .words .now) (Inquiry (start .args .a)) Passed (rw (← c .before .before .before .accounts-of .ensures, lt-leb _ _ (c .before .if1 .left))) _ _ refl
+    served (start .args .words .now) (Inquiry (start .args .a)) refl Passed (rw (← c .before .before .before .accounts-of .ensures, lt-leb _ _ (c .before .if1 .left))) _ _ refl
     (record { reply = ap Balance (c .balance-of .ensures); ledger = sym (with-entry-read (ledgerIn (start .args .words .now)) (start .args .a)); not-refused = λ code e. impossible (cc) })
 
 pub inquire-spec : {M : Type 1} → statement M

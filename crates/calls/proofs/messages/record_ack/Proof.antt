@@ -22,7 +22,7 @@ use Rattle.store.specs.Stores.{AckStored}
 use Rattle.tally.specs.declared.Tally.{Tally}
 use Rattle.tally.specs.Results.{tallyOf, atNext}
 use Rattle.tally.proofs.Nexts.{tally-next}
-use Rattle.calls.specs.Promises.{Next, Taken, Answered, Accepted, NotEnough}
+use Rattle.calls.specs.Promises.{Next, Taken, NotLate, Accepted, NotEnough}
 use Rattle.calls.proofs.Ranges.{Fits, ack-fits}
 use Rattle.calls.proofs.Taking.{refused, served, still-next, recorded, whole, tally-accepts}
 use borrow.Author.Needs.{needs}
@@ -50,8 +50,9 @@ module _ (ws : List ℕ) (s : Seat) (t : Transfer) (q : Check) (q-is : q ≡ che
 
     -- what follows from it in the words is what the message does
     follows : (r : Reply) (after : List ℕ) → Taken (finished (ledgerIn mid) (t .account) (tallied (ledgerIn mid) (entryIn mid (t .account)) t)) r after
-        → Answered ws (Ack s t) r after
-    follows r after x = served ws (Ack s t) q q-is r after ok (whole ws mid s t account in-words r after x)
+        → NotLate ws s t r after
+    follows r after x =
+        record { answered = λ in-time. served ws (Ack s t) in-time q q-is r after ok (whole ws mid s t account in-words r after x) }
 
     -- the seats are gathered,
     module _ (y : Tally) (gathers : y ≡ tallyOf (atNext (entryIn mid (t .account)) t) (entryIn mid (t .account) .acks)) where
@@ -63,10 +64,10 @@ module _ (ws : List ℕ) (s : Seat) (t : Transfer) (q : Check) (q-is : q ≡ che
         compares : k ≡ enough (ledgerIn mid .seats) (ledgerIn mid .faults) (y .equal)
         compares = k-is ∙ rw (n-is, f-is)
 
-        accepts : k ≡ true → (r : Reply) (after : List ℕ) → Accepted mid t r after → Answered ws (Ack s t) r after
+        accepts : k ≡ true → (r : Reply) (after : List ℕ) → Accepted mid t r after → NotLate ws s t r after
         accepts more r after x = follows r after (tally-accepts mid t y tally k compares r after more (x .settled (next .value)))
 
-        undecided : k ≡ false → (r : Reply) (after : List ℕ) → NotEnough mid t y r after → Answered ws (Ack s t) r after
+        undecided : k ≡ false → (r : Reply) (after : List ℕ) → NotEnough mid t y r after → NotLate ws s t r after
         undecided few r after x = follows r after (x .decided next among tally (sym compares ∙ few))
 
 -- the same of the words at the end, whatever was done first: it asks that the ack is recorded in them and that the tally is theirs
@@ -74,7 +75,7 @@ undecided-in : (ws mid : List ℕ) (s : Seat) (t : Transfer) (y : Tally) (r : Re
     → (q : Check) → q ≡ checkOf (firstRefusal (rulesIn (ledgerIn ws) (Ack s t))) → q ≡ Passed
     → (n f : ℕ) → n ≡ ledgerIn mid .seats → f ≡ ledgerIn mid .faults → (k : Bool) → k ≡ enough n f (y .equal) → k ≡ false
     → AckStored ws s t mid → y ≡ tallyOf (atNext (entryIn mid (t .account)) t) (entryIn mid (t .account) .acks)
-    → Answered ws (Ack s t) r after
+    → NotLate ws s t r after
 undecided-in ws mid s t y r after x q q-is ok n f n-is f-is k k-is few stored gathers =
     undecided ws s t q q-is ok mid stored y gathers n f n-is f-is k k-is few r after x
 
@@ -123,7 +124,11 @@ same-length c = search needs
 returns : tie.Need-returns
 returns c =
     let start = c .before .before .before .before .before .before in
-    refused (start .args .words .now) (Ack (start .args .s) (start .args .t)) _ (c .before .before .before .ack-check .ensures) _ (c .before .r .given .1)
+    record {
+      answered =
+          λ in-time.
+          refused (start .args .words .now) (Ack (start .args .s) (start .args .t)) in-time _ (c .before .before .before .ack-check .ensures) _ (c .before .r .given .1);
+    }
 
 same-length-2 : tie.Need-same-length-2
 same-length-2 c = search needs

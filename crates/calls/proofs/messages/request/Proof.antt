@@ -21,12 +21,12 @@ enum-told c = search needs
 returns : tie.Need-returns
 returns c =
     let start = c .before .before .before .before .before in
-    refused (start .args .words .now) (Request (start .args .t)) _ (c .before .before .before .request-check .ensures) _ (c .before .r .given .1)
+    refused (start .args .words .now) (Request (start .args .t)) refl _ (c .before .before .before .request-check .ensures) _ (c .before .r .given .1)
 
 returns-2 : tie.Need-returns-2
 returns-2 c =
     let start = c .before .before .before .before in
-    served (start .args .words .now) (Request (start .args .t)) _ (c .before .before .request-check .ensures) _ _ (c .enum-told .given .1)
+    served (start .args .words .now) (Request (start .args .t)) refl _ (c .before .before .request-check .ensures) _ _ (c .enum-told .given .1)
     (record { reply = refl; ledger = sym (with-entry-read (ledgerIn (start .args .words .now)) (start .args .t .account)); not-refused = λ code e. impossible (cc) })
 
 pub request-spec : {M : Type 1} → statement M

@@ -89,7 +89,7 @@ pub enum Reply {
     /// K: the slip is accepted, and this call booked so many slips
     Accepted { booked: u32 },
     /// P: the slip with the most acks, or of several such the first by its lowest acknowledging seat; under the first
-    /// rules any of them
+    /// rules any of them. A late P carries the retained slip, and its ack is not recorded
     PutForward { slip: Slip },
     /// N: the ack is recorded, and that is all
     Noted,
@@ -97,6 +97,14 @@ pub enum Reply {
     Balance(u32),
     /// R: the code of the refusal
     Refused(u8),
+}
+
+/// The latest accepted slip of an account, waiting or booked.
+#[derive(Clone, Copy, PartialEq, Eq, Debug)]
+pub struct Retained {
+    pub slip: Slip,
+    /// whether anything was put forward for its number, before it was accepted or late
+    pub put_forward: bool,
 }
 
 /// What the book holds for one account.
@@ -109,10 +117,12 @@ pub struct Account {
     pub acked: bool,
     /// each seat's first ack for the next number
     pub acks: [Option<Slip>; MOST_SEATS],
-    /// whether a slip was put forward for the next number
+    /// whether a slip was put forward for the next number, before one was accepted
     pub put_forward: bool,
     /// the accepted slip that waits to be booked
     pub waiting: Option<Slip>,
+    /// none before the first acceptance, and under the rules before request 5
+    pub retained: Option<Retained>,
 }
 
 impl Account {
@@ -124,7 +134,14 @@ impl Account {
             acks: [None; MOST_SEATS],
             put_forward: false,
             waiting: None,
+            retained: None,
         }
+    }
+
+    /// The waiting slip with its mark, which is what a book held from before request 5 retains.
+    fn retained_from_before(&self) -> Option<Retained> {
+        let put_forward = self.put_forward;
+        self.waiting.map(|slip| Retained { slip, put_forward })
     }
 
     /// How many seats' acks are recorded for the next number.
@@ -185,9 +202,16 @@ impl Book {
         Book { rules, ..self }
     }
 
-    /// The seat switches to the next rules, and goes on with the book that it holds, marks included.
+    /// The seat switches to the next rules, and goes on with the book that it holds, marks included. With request 5 it
+    /// retains its waiting slips, and no booked ones.
     pub fn switch(&mut self) {
-        self.rules = self.rules.next();
+        let next = self.rules.next();
+        if next.put_forward_late() && !self.rules.put_forward_late() {
+            for account in &mut self.accounts {
+                account.retained = account.retained_from_before();
+            }
+        }
+        self.rules = next;
     }
 
     pub fn rules(&self) -> Rules {
@@ -227,6 +251,11 @@ impl Book {
         Ok(count)
     }
 
+    /// n
+    pub fn seats(&self) -> usize {
+        self.n
+    }
+
     /// k
     pub fn accounts(&self) -> usize {
         self.accounts.len()
@@ -235,6 +264,15 @@ impl Book {
     /// All that is held for an account below k.
     pub fn account(&self, account: usize) -> &Account {
         &self.accounts[account]
+    }
+
+    /// The retained slip that an ack of this slip puts forward late, once it has passed 4 and 5: they conflict, and nothing
+    /// was put forward for their number.
+    pub fn late(&self, slip: &Slip) -> Option<Slip> {
+        let retained = self.accounts.get(usize::from(slip.account))?.retained?;
+        let conflict = retained.slip.number == slip.number && retained.slip != *slip;
+        let late = self.rules.put_forward_late() && conflict && !retained.put_forward;
+        late.then_some(retained.slip)
     }
 
     /// The balance of an account below k.
@@ -268,7 +306,11 @@ impl Book {
         if seat >= self.n {
             return Err(4);
         }
-        let number = self.check_slip(&slip)?;
+        self.check_fields(&slip)?;
+        if let Some(retained) = self.late(&slip) {
+            return Ok(self.put_forward_late(retained));
+        }
+        let number = self.check_number(&slip)?;
         let account = &mut self.accounts[number];
         if let Some(first) = account.acks[seat] {
             return Err(if first == slip { 9 } else { 10 });
@@ -294,8 +336,16 @@ impl Book {
         Ok(Reply::PutForward { slip })
     }
 
+    /// The retained slip is put forward: once, and that is all.
+    fn put_forward_late(&mut self, slip: Slip) -> Reply {
+        let put_forward = true;
+        self.accounts[usize::from(slip.account)].retained = Some(Retained { slip, put_forward });
+        Reply::PutForward { slip }
+    }
+
     fn ruling(&mut self, slip: Slip) -> Result<Reply, u8> {
-        let account = self.check_slip(&slip)?;
+        self.check_fields(&slip)?;
+        let account = self.check_number(&slip)?;
         Ok(self.accept(account, slip))
     }
 
@@ -310,12 +360,6 @@ impl Book {
         if slip.pays_itself() && self.rules.turn_down_self_payments() {
             return Err(20);
         }
-        self.check_number(slip)
-    }
-
-    /// Codes 5 to 8, which acks and rulings can meet. Returns the payer's place in `accounts`.
-    fn check_slip(&self, slip: &Slip) -> Result<usize, u8> {
-        self.check_fields(slip)?;
         self.check_number(slip)
     }
 
@@ -353,9 +397,14 @@ impl Book {
         Ok(())
     }
 
-    /// The accepted slip waits, then settling begins.
+    /// The accepted slip is retained and waits, then settling begins.
     fn accept(&mut self, account: usize, slip: Slip) -> Reply {
-        self.accounts[account].waiting = Some(slip);
+        let account = &mut self.accounts[account];
+        account.waiting = Some(slip);
+        if self.rules.put_forward_late() {
+            let put_forward = account.put_forward;
+            account.retained = Some(Retained { slip, put_forward });
+        }
         Reply::Accepted { booked: self.settle() }
     }
 
@@ -377,12 +426,13 @@ impl Book {
             .find_map(|account| account.waiting.filter(|slip| slip.value <= account.balance))
     }
 
-    /// Takes the value from the payer, who starts afresh at the next number, and gives it to the recipient, who may be
-    /// the payer.
+    /// Takes the value from the payer, who starts afresh at the next number but retains what was accepted, and gives it to
+    /// the recipient, who may be the payer.
     fn book(&mut self, slip: Slip) {
         let payer = &mut self.accounts[usize::from(slip.account)];
         *payer = Account {
             current: slip.number,
+            retained: payer.retained,
             ..Account::open(payer.balance - slip.value)
         };
         // never above the opening sum, as no portion is made or lost

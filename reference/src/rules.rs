@@ -7,16 +7,21 @@ pub enum Rules {
     First,
     /// Since request 3 of document 02, and with request 2.
     NoSelfPayments,
+    /// Since request 5: a seat that has accepted puts its slip forward late.
+    LateProposals,
 }
 
 impl Rules {
     /// Those of today.
-    pub const NEWEST: Rules = Rules::NoSelfPayments;
+    pub const NEWEST: Rules = Rules::LateProposals;
+    /// All of them, the first first.
+    pub const ALL: [Rules; 3] = [Rules::First, Rules::NoSelfPayments, Rules::LateProposals];
 
     /// The rules that a seat switches to. Behind the newest there are none, so a switch changes nothing.
     pub fn next(self) -> Rules {
         match self {
-            Rules::First | Rules::NoSelfPayments => Rules::NoSelfPayments,
+            Rules::First => Rules::NoSelfPayments,
+            Rules::NoSelfPayments | Rules::LateProposals => Rules::LateProposals,
         }
     }
 
@@ -28,5 +33,10 @@ impl Rules {
     /// Whether P may carry any of the slips with the most acks, as before request 2.
     pub fn leave_ties_free(self) -> bool {
         self < Rules::NoSelfPayments
+    }
+
+    /// Whether the latest accepted slip is retained, and put forward late when an ack conflicts with it: request 5.
+    pub fn put_forward_late(self) -> bool {
+        self >= Rules::LateProposals
     }
 }

@@ -1,6 +1,6 @@
 //! Any bytes shown as a bundle, entry by entry, for people.
 
-use crate::book::{Book, OpeningPage};
+use crate::book::{Book, Message, OpeningPage, Reply};
 use crate::bundle::{self, Entry, Fault, Wrong, BODY_LENGTHS, MOST_ENTRIES, OPENING};
 use crate::daybook;
 use crate::written::KIND_WORDS;
@@ -29,6 +29,7 @@ pub fn shown(bytes: &[u8]) -> String {
     }
     let printed = daybook::printed(bytes);
     let mut replies = printed.lines().filter(|line| !line.starts_with('F'));
+    let late = late_entries(bytes);
     let width = rows.iter().skip(1).map(|row| row.body.len()).max().unwrap_or(0);
     // 13 and 15 are no single entry's fault
     let decides = fault
@@ -38,7 +39,7 @@ pub fn shown(bytes: &[u8]) -> String {
         let reply = if row.number == 0 { None } else { replies.next() };
         let behind = match &row.wrong {
             Some((code, what)) => format!("<- {code}: {what}"),
-            None => reply.map_or(String::new(), arrow),
+            None => reply.map_or(String::new(), |line| arrow(line, late.contains(&row.number))),
         };
         text += &line(row, decides == Some(row.number), width, &behind);
     }
@@ -174,10 +175,29 @@ fn wrong_opening(page: &OpeningPage, code: u8) -> String {
     }
 }
 
-/// The reply from its line.
-fn arrow(line: &str) -> String {
+/// The entries that are answered by a late P; none if the book does not open.
+fn late_entries(bytes: &[u8]) -> Vec<usize> {
+    let read = bundle::read(bytes).ok();
+    let opened = read.and_then(|(page, messages)| Some((Book::open(&page).ok()?, messages)));
+    let (mut book, messages) = match opened {
+        Some(opened) => opened,
+        None => return Vec::new(),
+    };
+    let mut late = |message: &Message| {
+        let conflicts = matches!(message, Message::Ack { slip, .. } if book.late(slip).is_some());
+        matches!(book.call(message), Reply::PutForward { .. }) && conflicts
+    };
+    let entries = (1..).zip(&messages);
+    entries
+        .filter_map(|(entry, message)| late(message).then_some(entry))
+        .collect()
+}
+
+/// The reply from its line. A late P, which looks like any other, is told as such.
+fn arrow(line: &str, late: bool) -> String {
     let reply = line.split_once(' ').map_or(line, |(_, reply)| reply);
-    format!("-> {reply}")
+    let told = if late { ", late: the slip that was accepted" } else { "" };
+    format!("-> {reply}{told}")
 }
 
 /// A row's line; the entry whose fault decides is marked in front.

@@ -286,7 +286,7 @@ fn codes_in_their_order() {
         (Message::Question { account: 2 }, 5),
         (Message::Request(slip(0, 1, 15, 0)), 20),
         (Message::Slip(slip(0, 1, 15, 1)), 6),
-        (ack(1, slip(0, 1, 15, 0)), 6),
+        (ack(1, slip(0, 1, 1, 0)), 6),
         (Message::Ruling(slip(0, 3, 15, 0)), 7),
         (Message::Request(slip(1, u32::MAX, 15, 0)), 7),
         (Message::Request(slip(1, 1, 15, 0)), 8),

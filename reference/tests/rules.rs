@@ -1,5 +1,5 @@
 //! Request 3 of document 02: a home that pays itself is turned down, the first rules behind their parameter, and the
-//! switch from one to the other.
+//! switch from one to the next. What request 5 brings has tests of its own.
 
 mod common;
 
@@ -12,6 +12,7 @@ const SELF: Slip = Slip { recipient: 0, ..T };
 const OTHER: Slip = Slip { value: 5, ..T };
 
 const NOTED: Reply = Reply::Noted;
+const SECOND: Rules = Rules::NoSelfPayments;
 
 fn first_rules(n: u8, f: u8, given: &[u32]) -> Book {
     open(n, f, given).under(Rules::First)
@@ -21,7 +22,7 @@ fn replies(book: &mut Book, messages: &[Message]) -> Vec<Reply> {
     messages.iter().map(|message| book.call(message)).collect()
 }
 
-/// A first slip of account 0, which has 10 of 15 portions: the code under the newest rules and the one under the first,
+/// A first slip of account 0, which has 10 of 15 portions: the code since request 3 and the one under the first rules,
 /// where 0 is none.
 const FIRST_SLIPS: &[(Slip, u8, u8)] = &[
     (SELF, 20, 0),
@@ -58,8 +59,8 @@ const FIRST_SLIPS: &[(Slip, u8, u8)] = &[
 #[test]
 fn self_payments_meet_20_behind_5() {
     let due = |code, reply| if code > 0 { Reply::Refused(code) } else { reply };
-    for (slip, newest, first) in FIRST_SLIPS {
-        for (rules, code) in [(Rules::NEWEST, *newest), (Rules::First, *first)] {
+    for (slip, since, first) in FIRST_SLIPS {
+        for (rules, code) in [(Rules::NEWEST, *since), (SECOND, *since), (Rules::First, *first)] {
             let book = open(6, 1, &[10, 5]).under(rules);
             let asked = book.clone().call(&Message::Request(*slip));
             assert_eq!(asked, due(code, Reply::Circulate), "request {slip}, {rules:?}");
@@ -94,7 +95,7 @@ fn twenty_before_6_8_and_12() {
     }
 }
 
-/// Acks and rulings get the same replies under both rules, and leave the same accounts.
+/// Acks and rulings get the same replies under all rules, and leave the same balances and numbers.
 #[test]
 fn acks_and_rulings_for_self_payments_are_taken() {
     let (accepted, put_forward) = (Reply::Accepted { booked: 1 }, Reply::PutForward { slip: SELF });
@@ -116,7 +117,7 @@ fn acks_and_rulings_for_self_payments_are_taken() {
         ),
     ];
     for (messages, due, closing) in cases {
-        for rules in [Rules::First, Rules::NEWEST] {
+        for rules in Rules::ALL {
             let mut book = open(6, 1, &[10, 5]).under(rules);
             assert_eq!(replies(&mut book, &messages), due, "{messages:?}, {rules:?}");
             assert_eq!((book.balance(0), book.current(0)), closing, "{messages:?}, {rules:?}");
@@ -124,8 +125,8 @@ fn acks_and_rulings_for_self_payments_are_taken() {
     }
 }
 
-/// From any book, a message gets the same reply under both rules and leaves the same book, save a request or slip that
-/// is a self-payment, and a tie, of which `call` chooses what the newest rules do.
+/// From any book, a message gets the same reply under the first two rules and leaves the same book, save a request or slip
+/// that is a self-payment, and a tie, of which `call` chooses what the second rules do.
 #[test]
 fn nothing_else_differs() {
     let mut chance = Chance(3);
@@ -134,16 +135,16 @@ fn nothing_else_differs() {
         let page = chance.good_page();
         let mut book = Book::open(&page).expect("a good page opens").under(Rules::First);
         for message in chance.messages(200) {
-            let mut newest = book.clone().under(Rules::NEWEST);
-            let (first_reply, newest_reply) = (book.call(&message), newest.call(&message));
+            let mut second = book.clone().under(SECOND);
+            let (first_reply, second_reply) = (book.call(&message), second.call(&message));
             match message {
                 Message::Request(slip) | Message::Slip(slip) if slip.pays_itself() => {
-                    assert!([5, 20].map(Reply::Refused).contains(&newest_reply), "{message:?}");
-                    differed += u32::from(first_reply != newest_reply);
+                    assert!([5, 20].map(Reply::Refused).contains(&second_reply), "{message:?}");
+                    differed += u32::from(first_reply != second_reply);
                 }
                 _ => {
-                    assert_eq!(first_reply, newest_reply, "{message:?}");
-                    assert_eq!(book.clone().under(Rules::NEWEST), newest, "{message:?}");
+                    assert_eq!(first_reply, second_reply, "{message:?}");
+                    assert_eq!(book.clone().under(SECOND), second, "{message:?}");
                 }
             }
         }
@@ -159,8 +160,8 @@ fn the_switch_keeps_the_book() {
     assert_eq!(replies(&mut book, &before), [Reply::Ack, NOTED, NOTED]);
     let held = book.clone();
     book.switch();
-    assert_eq!((held.rules(), book.rules()), (Rules::First, Rules::NEWEST));
-    assert_eq!(book, held.under(Rules::NEWEST));
+    assert_eq!((held.rules(), book.rules()), (Rules::First, SECOND));
+    assert_eq!(book, held.under(SECOND));
     let after = [Message::Slip(SELF), Message::Slip(T), ack(2, SELF), ack(0, T)];
     let due = [Reply::Refused(20), Reply::Refused(12), NOTED, Reply::Refused(10)];
     assert_eq!(replies(&mut book, &after), due);
@@ -178,8 +179,6 @@ fn a_switch_under_the_newest_rules_changes_nothing() {
     let before = book.clone();
     book.switch();
     assert_eq!(book, before);
-    assert!(Rules::First < Rules::NEWEST);
-    assert_eq!(Rules::First.next(), Rules::NEWEST);
     assert_eq!(Rules::NEWEST.next(), Rules::NEWEST);
 }
 

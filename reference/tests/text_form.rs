@@ -331,6 +331,31 @@ question 12
     assert_eq!(shown(&parse(text).expect("the text is right")), due);
 }
 
+/// A late P is told as such, an ordinary one is not.
+#[test]
+fn shown_with_a_late_put_forward() {
+    let text = "open n 2, f 0, k 2, balances 10 3
+ruling (0, 1, 4, 1)
+ack 0 (0, 2, 4, 1)
+ack 1 (0, 2, 4, 0)
+ack 1 (0, 1, 9, 1)
+ack 1 (0, 1, 9, 1)
+";
+    let due = [
+        "-> K 1",
+        "-> N",
+        "-> P 0 2 4 1",
+        "-> P 0 1 4 1, late: the slip that was accepted",
+        "-> R 6",
+    ];
+    let text = shown(&parse(text).expect("the text is right"));
+    let replies: Vec<&str> = text
+        .lines()
+        .filter_map(|line| Some(&line[line.find("->")?..]))
+        .collect();
+    assert_eq!(replies, due);
+}
+
 /// The lines behind `OPENING`, and how the shown text begins.
 const FAULTS: &[(&str, &str)] = &[
     (

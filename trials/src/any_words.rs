@@ -5,16 +5,16 @@ use crate::daybook::UNTOUCHED;
 use crate::dice::Dice;
 use crate::held::same_words;
 use crate::ledgers::with_slip;
-use crate::lent::{told, Lent, Sent, BLOCK, GROUP, NOTHING, REPLY, WORDS};
+use crate::lent::{told, HeldWords, Lent, Sent, BLOCK, GROUP, NOTHING, REPLY, WORDS};
 use crate::ties::{self, Ack};
 use crate::trial::caught;
 use crate::waiting;
-use reference::book::{Account, Book, Message, Reply, Slip};
+use reference::book::{Account, Book, Message, Reply, Retained, Slip};
 use reference::bundle::read_opening;
 use std::collections::BTreeMap;
 
 /// So many contents, each of which gets so many messages.
-const CONTENTS: u64 = 3_000;
+const CONTENTS: u64 = 8_000;
 const MESSAGES: usize = 12;
 
 const MAX: u32 = u32::MAX;
@@ -50,25 +50,70 @@ pub fn try_messages(checks: &mut Checks, seed: u64) {
         let refused = refused_by_none(&mut dice);
         checks.same("words that are all 0", refused, Ok(()));
     }
-    let mut seen = BTreeMap::new();
+    let mut seen = Seen::new();
     for index in 1..=CONTENTS {
         let mut dice = Dice::of(seed, index);
         let mut lent = content(&mut dice);
-        for _ in 0..MESSAGES {
-            let met = caught(|| meet(&mut dice, &mut lent)).and_then(|met| met);
-            if let Ok(row) = &met {
-                *seen.entry(row.clone()).or_insert(0) += 1;
-            }
-            checks.same(&format!("content {index} of seed {seed}"), met.map(drop), Ok(()));
-        }
+        let what = format!("content {index} of seed {seed}");
+        meet_some(checks, &mut dice, &mut lent, &mut seen, &what);
     }
-    let letters = ["C", "A", "K", "N", "B"].iter().chain(&ties::SIZES);
+    let letters = ["C", "A", "K", "N", "B"].iter().chain(&ties::SIZES).chain(&LATE);
     let codes = (4..=12).chain([20]).map(|code| format!("R {code}"));
     for row in letters.map(|row| row.to_string()).chain(codes) {
-        let times: u64 = seen.get(&row).copied().unwrap_or(0);
-        println!("{row:22} {times:>9}");
-        checks.that(&format!("never seen: {row}"), times > 0);
+        see(checks, &seen, &row);
     }
+}
+
+/// Words of before request 5, of many contents, are taken over, and get messages.
+pub fn try_switches(checks: &mut Checks, seed: u64) {
+    let mut seen = Seen::new();
+    for index in 1..=CONTENTS {
+        let mut dice = Dice::of(seed, CONTENTS + index);
+        let held = content(&mut dice).as_before();
+        let mut lent = Lent::taken_over(&held);
+        let what = format!("content {index} of seed {seed}, taken over");
+        checks.same(&what, taken_over(&held, &lent), Ok(()));
+        meet_some(checks, &mut dice, &mut lent, &mut seen, &what);
+    }
+    // what is retained is just what waits
+    LATE[..1].iter().for_each(|row| see(checks, &seen, row));
+}
+
+/// How often each row was seen.
+type Seen = BTreeMap<String, u64>;
+
+fn see(checks: &mut Checks, seen: &Seen, row: &str) {
+    let times = seen.get(row).copied().unwrap_or(0);
+    println!("{row:22} {times:>9}");
+    checks.that(&format!("never seen: {row}"), times > 0);
+}
+
+fn meet_some(checks: &mut Checks, dice: &mut Dice, lent: &mut Lent, seen: &mut Seen, what: &str) {
+    for _ in 0..MESSAGES {
+        let met = caught(|| meet(dice, lent)).and_then(|met| met);
+        if let Ok(row) = &met {
+            *seen.entry(row.clone()).or_insert(0) += 1;
+        }
+        checks.same(what, met.map(drop), Ok(()));
+    }
+}
+
+/// Whether the words are the book that those of before request 5 were, and retain its waiting slips with their marks.
+fn taken_over(held: &HeldWords, lent: &Lent) -> Result<(), String> {
+    let before = Lent::widened(held);
+    let words = |lent: &Lent| (group(lent), lent.words[GROUP + 3]);
+    if words(lent) != words(&before) {
+        return Err(format!("the group is {:?} and not {:?}", words(lent), words(&before)));
+    }
+    for account in 0..32 {
+        let (mut due, now) = (before.account(account), lent.account(account));
+        let put_forward = due.put_forward;
+        due.retained = due.waiting.map(|slip| Retained { slip, put_forward });
+        if now != due {
+            return Err(format!("account {account} is {now:?} and not {due:?}"));
+        }
+    }
+    Ok(())
 }
 
 /// Words that are all 0 are a book with no seats and no accounts: every message is refused, an ack by its seat.
@@ -102,8 +147,11 @@ fn meet(dice: &mut Dice, lent: &mut Lent) -> Result<String, String> {
     waiting::answered(length, |list| lent.waiting(list), wanted).map(drop)?;
     Ok(match reply[0] as u8 as char {
         'R' => format!("R {}", reply[1]),
-        // behind P stands the account
-        'P' => ties::size(&recorded(&lent.account(reply[1] as usize))).to_string(),
+        'P' => match late_in_place_of(&before, &message) {
+            Some(row) => row.to_string(),
+            // behind P stands the account
+            None => ties::size(&recorded(&lent.account(reply[1] as usize))).to_string(),
+        },
         letter => letter.to_string(),
     })
 }
@@ -116,6 +164,12 @@ fn content(dice: &mut Dice) -> Lent {
     let full = dice.within(1, 8);
     for word in lent.words.iter_mut() {
         *word = if dice.below(8) < full { any_word(dice) } else { 0 };
+    }
+    // the retained slip is mostly of the current or the next number, and its mark is 0 more often
+    for block in lent.words[..GROUP].chunks_mut(BLOCK) {
+        let current = block[1];
+        block[40] = *dice.pick(&[current, current.wrapping_add(1), current.wrapping_add(1), block[40]]);
+        block[42] = *dice.pick(&[0, block[42]]);
     }
     let group = &mut lent.words[GROUP..];
     for (word, limit) in group.iter_mut().zip([16, 3, 32]) {
@@ -157,9 +211,16 @@ fn message(dice: &mut Dice, lent: &Lent) -> Message {
         value,
         recipient,
     };
-    // or a slip that is recorded
+    // or a slip that is recorded, or the retained one, or one that conflicts with it
     let other = *dice.pick(&held.acks);
-    let slip = dice.pick(&[None, None, own, other]).unwrap_or(slip);
+    let retained = held.retained.map(|retained| retained.slip);
+    let rival = retained.map(|retained| Slip {
+        number: retained.number,
+        ..slip
+    });
+    let slip = dice
+        .pick(&[None, None, None, own, other, retained, rival])
+        .unwrap_or(slip);
     with_slip(dice, seat, slip)
 }
 
@@ -178,8 +239,41 @@ fn group(lent: &Lent) -> [u32; 3] {
     [word(0, 16), word(1, 16), word(2, 32)].map(|word| word.unwrap_or(0))
 }
 
-/// The code by which the message is refused.
-fn refusal(lent: &Lent, message: &Message) -> Option<u8> {
+/// The rows of a late P by the code in whose place it comes; where that would be none, the ack would be recorded.
+const LATE: [&str; 6] = [
+    "late P for 8",
+    "late P for 6",
+    "late P for 7",
+    "late P for 9",
+    "late P for 10",
+    "late P for none",
+];
+
+/// The row of a message that is answered by a late P.
+fn late_in_place_of(lent: &Lent, message: &Message) -> Option<&'static str> {
+    late(lent, message)?;
+    let mut without = lent.clone();
+    for block in without.words[..GROUP].chunks_mut(BLOCK) {
+        block[39] = 0;
+    }
+    let code = refusal(&without, message);
+    let row = code.map_or("late P for none".to_string(), |code| format!("late P for {code}"));
+    LATE.into_iter().find(|late| **late == row)
+}
+
+/// The retained slip that is put forward late: an ack that meets neither 4 nor 5 conflicts with it, and its mark is 0.
+fn late(lent: &Lent, message: &Message) -> Option<Slip> {
+    let slip = match *message {
+        Message::Ack { slip, .. } if out_of_range(lent, message).is_none() => slip,
+        _ => return None,
+    };
+    let retained = lent.account(slip.account.into()).retained?;
+    let conflict = retained.slip.number == slip.number && retained.slip != slip;
+    (conflict && !retained.put_forward).then_some(retained.slip)
+}
+
+/// Codes 4 and 5.
+fn out_of_range(lent: &Lent, message: &Message) -> Option<u8> {
     let [n, _, k] = group(lent);
     let unknown = |account: u8| u32::from(account) >= k;
     let slip = match *message {
@@ -191,6 +285,19 @@ fn refusal(lent: &Lent, message: &Message) -> Option<u8> {
     if unknown(slip.account) || unknown(slip.recipient) || slip.number == 0 || slip.value == 0 || above {
         return Some(5);
     }
+    None
+}
+
+/// The code by which the message is refused.
+fn refusal(lent: &Lent, message: &Message) -> Option<u8> {
+    if let Some(code) = out_of_range(lent, message) {
+        return Some(code);
+    }
+    let slip = match *message {
+        Message::Question { .. } => return None,
+        Message::Ack { .. } if late(lent, message).is_some() => return None,
+        Message::Ack { slip, .. } | Message::Request(slip) | Message::Slip(slip) | Message::Ruling(slip) => slip,
+    };
     let held = lent.account(slip.account.into());
     let funds = (slip.value > held.balance).then_some(11);
     match *message {
@@ -219,6 +326,7 @@ fn judge(before: &Lent, message: &Message, reply: [u32; REPLY], after: &Lent) ->
             accounts[usize::from(slip.account)].acked = true;
             Reply::Ack
         }
+        Message::Ack { slip, .. } if late(before, message).is_some() => put_forward_late(&mut accounts, slip),
         Message::Ack { seat, slip } => {
             let held = &mut accounts[usize::from(slip.account)];
             held.acks[usize::from(seat)] = Some(slip);
@@ -228,6 +336,14 @@ fn judge(before: &Lent, message: &Message, reply: [u32; REPLY], after: &Lent) ->
     };
     wanted(reply, &due)?;
     stored(before, &accounts, after)
+}
+
+/// P with the slip that the account retains; its mark is set, and that is all.
+fn put_forward_late(accounts: &mut [Account], ack: Slip) -> Reply {
+    let retained = accounts[usize::from(ack.account)].retained.as_mut();
+    let retained = retained.expect("a retained slip");
+    retained.put_forward = true;
+    Reply::PutForward { slip: retained.slip }
 }
 
 fn wanted(reply: [u32; REPLY], due: &Reply) -> Result<(), String> {
@@ -259,10 +375,12 @@ fn tallied(before: &Lent, held: &mut Account, slip: Slip) -> Option<Reply> {
     Some(Reply::PutForward { slip })
 }
 
-/// The slip waits at its account; then, while some waiting slip's value is at most its payer's balance, the one with the
-/// lowest account is booked.
+/// The slip is retained, with the mark of its number, and waits at its account; then, while some waiting slip's value is at
+/// most its payer's balance, the one with the lowest account is booked.
 fn accepted(accounts: &mut [Account], slip: Slip) -> Reply {
-    accounts[usize::from(slip.account)].waiting = Some(slip);
+    let held = &mut accounts[usize::from(slip.account)];
+    let put_forward = held.put_forward;
+    (held.waiting, held.retained) = (Some(slip), Some(Retained { slip, put_forward }));
     let mut booked = 0;
     while let Some(slip) = accounts.iter().find_map(bookable) {
         book(accounts, slip);
@@ -281,6 +399,7 @@ fn book(accounts: &mut [Account], slip: Slip) {
     *payer = Account {
         balance: payer.balance - slip.value,
         current: slip.number,
+        retained: payer.retained,
         ..Account::default()
     };
     if let Some(recipient) = accounts.get_mut(usize::from(slip.recipient)) {

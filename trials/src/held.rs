@@ -145,14 +145,14 @@ impl Held {
     }
 }
 
-/// Whether every word is as it was.
-pub fn same_words(before: &Lent, after: &Lent) -> Result<(), String> {
-    let mut places = before.words.iter().zip(&after.words[..]);
-    match places.position(|(was, is)| was != is) {
+/// Whether every word is as it was, or has to be.
+pub fn same_words(due: &Lent, is: &Lent) -> Result<(), String> {
+    let mut places = due.words.iter().zip(&is.words[..]);
+    match places.position(|(due, is)| due != is) {
         None => Ok(()),
         Some(place) => Err(format!(
-            "word {place} was {} and is {}, where nothing may be stored",
-            before.words[place], after.words[place]
+            "word {place} has to be {} and is {}",
+            due.words[place], is.words[place]
         )),
     }
 }

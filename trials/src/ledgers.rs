@@ -1,9 +1,9 @@
 //! Ledgers that live: messages made beside a book of the second program, so that most are not refused, and so that
-//! quorums, conflicts, put-forwards, ties, waits and chains are frequent.
+//! quorums, conflicts, put-forwards, late ones too, ties, waits and chains are frequent.
 
 use crate::dice::Dice;
 use crate::openings;
-use reference::book::{Book, Message, OpeningPage, Reply, Slip};
+use reference::book::{Account, Book, Message, OpeningPage, Reply, Slip};
 use reference::bundle;
 
 /// From so many messages on a bundle is long.
@@ -94,7 +94,8 @@ impl<'a> Life<'a> {
 
     /// A few messages that belong together, at least one.
     fn scene(&mut self) {
-        match self.dice.below(17) {
+        match self.dice.below(19) {
+            17 | 18 => self.dispute(),
             0..=4 => self.vote(),
             5 => self.tie(),
             6 | 7 => self.pay(),
@@ -368,6 +369,9 @@ impl<'a> Life<'a> {
             value: has + missing,
             ..self.slip(poor)
         };
+        if self.dice.once_in(2) {
+            self.voices(slip);
+        }
         self.say(Message::Ruling(slip));
         for _ in 0..self.dice.below(4) {
             self.late(slip);
@@ -383,12 +387,62 @@ impl<'a> Life<'a> {
         }
     }
 
+    /// Acks of some seats for this slip, or for one that conflicts with it.
+    fn voices(&mut self, slip: Slip) {
+        for seat in self.seats() {
+            let slip = if self.dice.once_in(3) { slip } else { self.rival(slip) };
+            self.say(Message::Ack { seat, slip });
+        }
+    }
+
     /// A message of any kind for this slip, or for one that conflicts with it.
     fn late(&mut self, slip: Slip) {
         let slip = if self.dice.once_in(2) { slip } else { self.rival(slip) };
         let seat = self.dice.below(u64::from(self.page.n)) as u8;
         let message = with_slip(self.dice, seat, slip);
         self.say(message);
+    }
+
+    /// Acks for the number that an account accepted last, often while its slip waits: rivals of that slip, itself, recorded
+    /// ones once more, or of a lower number; some come twice. None of them can be accepted.
+    fn dispute(&mut self) {
+        let waiting = |account: &Account| account.waiting.is_some();
+        let only_waiting = self.dice.once_in(2);
+        let accounts = (0..self.page.k).filter(|account| {
+            let account = self.book.account(usize::from(*account));
+            account.retained.is_some() && (!only_waiting || waiting(account))
+        });
+        let accounts: Vec<u8> = accounts.collect();
+        if accounts.is_empty() {
+            return self.rule();
+        }
+        let account = *self.dice.pick(&accounts);
+        for _ in 0..self.dice.within(1, 4) {
+            let seat = self.dice.below(u64::from(self.page.n)) as u8;
+            if let Some(slip) = self.disputed(account, seat) {
+                self.tell(Message::Ack { seat, slip });
+                if self.dice.once_in(3) {
+                    self.tell(Message::Ack { seat, slip });
+                }
+            }
+        }
+    }
+
+    /// What this seat acks in a dispute about the slip that the account retains.
+    fn disputed(&mut self, account: u8, seat: u8) -> Option<Slip> {
+        let account = self.book.account(usize::from(account));
+        let retained = account.retained?.slip;
+        let recorded = account.acks[usize::from(seat)].filter(|ack| ack.number == retained.number);
+        let rival = self.rival(retained);
+        Some(match self.dice.below(8) {
+            0 => retained,
+            1 if retained.number > 1 => Slip {
+                number: retained.number - 1,
+                ..rival
+            },
+            2..=4 => recorded.unwrap_or(rival),
+            _ => rival,
+        })
     }
 
     /// Rulings that wait for each other's funds, in any order, and last the one that lets all of them be booked.

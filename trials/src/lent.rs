@@ -1,7 +1,7 @@
 //! A book in words that a host lends, through the functions that the static library exports; and a reader of the words.
 
 use crate::dice::Dice;
-use reference::book::{Account, Book, Message, OpeningPage, Reply, Slip};
+use reference::book::{Account, Book, Message, OpeningPage, Reply, Retained, Slip};
 use reference::bundle::{ACK, QUESTION, REQUEST, RULING, SLIP};
 
 extern "C" {
@@ -16,16 +16,23 @@ extern "C" {
         reply: *mut [u32; REPLY],
     );
     fn ledger_waiting(words: *const [u32; WORDS], list: *mut u8, length: usize) -> u32;
+    fn ledger_switch(held: *const HeldWords, words: *mut [u32; WORDS]);
 }
 
 /// How many words a book has, and how many a reply.
-pub const WORDS: usize = 1_252;
+pub const WORDS: usize = 1_380;
 pub const REPLY: usize = 5;
 /// How many words an account has: balance, current number, two marks, value, number and recipient of the slip that waits,
-/// and for each seat the value and then for each seat the recipient of its ack.
-pub const BLOCK: usize = 39;
+/// for each seat the value and then for each seat the recipient of its ack; and value, number, recipient and mark of the
+/// retained slip.
+pub const BLOCK: usize = 43;
 /// Behind the accounts stand n, f, k and the opening sum.
 pub const GROUP: usize = 32 * BLOCK;
+
+/// A book's words before request 5 of document 02, when nothing was retained: an account's block ended with the acks.
+pub type HeldWords = [u32; HELD_WORDS];
+pub const HELD_WORDS: usize = 1_252;
+pub const HELD_BLOCK: usize = 39;
 
 /// The reply to what is no message.
 pub const NOTHING: [u32; REPLY] = [0; REPLY];
@@ -74,6 +81,36 @@ impl Lent {
         ((reply / 256) as u8, (reply % 256) as u8)
     }
 
+    /// The book that goes on with words of before request 5. What the new words held is to be replaced.
+    pub fn taken_over(held: &HeldWords) -> Lent {
+        let mut lent = Lent {
+            words: Box::new([u32::MAX; WORDS]),
+        };
+        unsafe { ledger_switch(held, &mut *lent.words) };
+        lent
+    }
+
+    /// The words as they were before request 5.
+    pub fn as_before(&self) -> Box<HeldWords> {
+        let mut held = Box::new([0; HELD_WORDS]);
+        let (blocks, group) = held.split_at_mut(32 * HELD_BLOCK);
+        for (before, block) in blocks.chunks_mut(HELD_BLOCK).zip(self.words.chunks(BLOCK)) {
+            before.copy_from_slice(&block[..HELD_BLOCK]);
+        }
+        group.copy_from_slice(&self.words[GROUP..]);
+        held
+    }
+
+    /// The words of before request 5 in their new places, with nothing retained.
+    pub fn widened(held: &HeldWords) -> Lent {
+        let mut lent = Lent::default();
+        for (block, before) in lent.words.chunks_mut(BLOCK).zip(held.chunks(HELD_BLOCK)).take(32) {
+            block[..HELD_BLOCK].copy_from_slice(before);
+        }
+        lent.words[GROUP..].copy_from_slice(&held[32 * HELD_BLOCK..]);
+        lent
+    }
+
     /// What the words hold for an account below 32.
     pub fn account(&self, account: usize) -> Account {
         let block = &self.words[account * BLOCK..(account + 1) * BLOCK];
@@ -87,7 +124,8 @@ impl Lent {
             })
         };
         let next = block[1].wrapping_add(1);
-        let (values, recipients) = (&block[7..23], &block[23..]);
+        let (values, recipients) = (&block[7..23], &block[23..39]);
+        let put_forward = block[42] > 0;
         Account {
             balance: block[0],
             current: block[1],
@@ -95,6 +133,7 @@ impl Lent {
             put_forward: block[3] > 0,
             waiting: slip(block[4], block[5], block[6]),
             acks: std::array::from_fn(|seat| slip(values[seat], next, recipients[seat])),
+            retained: slip(block[39], block[40], block[41]).map(|slip| Retained { slip, put_forward }),
         }
     }
 
@@ -106,7 +145,11 @@ impl Lent {
             let marks = [account.acked, account.put_forward].map(u32::from);
             block[..4].copy_from_slice(&[account.balance, account.current, marks[0], marks[1]]);
             if let Some(slip) = account.waiting {
-                block[4..7].copy_from_slice(&[slip.value, slip.number, slip.recipient.into()]);
+                block[4..7].copy_from_slice(&of_slip(&slip));
+            }
+            if let Some(Retained { slip, put_forward }) = account.retained {
+                block[39..42].copy_from_slice(&of_slip(&slip));
+                block[42] = put_forward.into();
             }
             for (seat, ack) in account.acks.iter().enumerate() {
                 let slip = ack.map_or([0; 2], |slip| [slip.value, slip.recipient.into()]);
@@ -144,6 +187,11 @@ impl Lent {
         }
         Ok(())
     }
+}
+
+/// Value, number and recipient.
+fn of_slip(slip: &Slip) -> [u32; 3] {
+    [slip.value, slip.number, slip.recipient.into()]
 }
 
 /// n, f, k and the opening sum.

@@ -2,6 +2,7 @@
 //! printed.
 
 use crate::checks::Checks;
+use crate::late;
 use crate::rows::Before;
 use crate::self_payments;
 use crate::ties;
@@ -25,11 +26,12 @@ const KINDS: [(&str, &[&str]); 5] = [
 ];
 
 /// The other rows of every table.
-const ROWS: [&[&str]; 7] = [
+const ROWS: [&[&str]; 8] = [
     &["A", "C", "K", "P", "N", "B", "R"],
     &["K 0", "K 1", "K 2", "K 3 to 31", "K 32"],
     &ties::SIZES,
     &ties::ORDERS,
+    &late::ROWS,
     &["R 4", "R 5", "R 6", "R 7", "R 8", "R 9", "R 10", "R 11", "R 12", "R 20"],
     &self_payments::ROWS,
     &["none waits", "one waits", "more wait", "waiting list 17"],

@@ -68,15 +68,17 @@ fn rows(acks: &[Ack]) -> Vec<&'static str> {
     rows
 }
 
-/// The acks that a book has recorded for each account's next number, in the order in which they came.
+/// The acks that a book has recorded for each account's next number, in the order in which they came; and the number of
+/// each account's latest accepted slip.
 #[derive(Default)]
 pub struct Arrivals {
     acks: BTreeMap<u8, Vec<Ack>>,
+    accepted: BTreeMap<u8, u32>,
 }
 
 impl Arrivals {
     /// One more is recorded: gives all for its account and number, this one last.
-    pub fn record(&mut self, seat: u8, slip: Slip) -> &[Ack] {
+    fn record(&mut self, seat: u8, slip: Slip) -> &[Ack] {
         let acks = self.acks.entry(slip.account).or_default();
         // booking has cleared those of an earlier number
         acks.retain(|(_, earlier)| earlier.number == slip.number);
@@ -84,16 +86,32 @@ impl Arrivals {
         acks
     }
 
-    /// Takes a message and its reply, letter and values: N and P tell that an ack is recorded. Gives the rows of a P.
-    pub fn rows(&mut self, message: &Message, reply: &[&str]) -> Vec<&'static str> {
-        let acks = match (message, reply) {
-            (Message::Ack { seat, slip }, ["N" | "P", ..]) => self.record(*seat, *slip),
-            _ => return Vec::new(),
-        };
-        if reply[0] == "P" {
-            rows(acks)
-        } else {
-            Vec::new()
+    /// Takes a message and the letter of its reply: N tells that an ack is recorded, K that a slip is accepted, and P that
+    /// an ack is recorded, unless it is late. Gives the acks that an ordinary P rests on.
+    pub fn take(&mut self, message: &Message, letter: &str) -> Option<&[Ack]> {
+        match (message, letter) {
+            (Message::Ack { slip, .. } | Message::Ruling(slip), "K") => {
+                self.accepted.insert(slip.account, slip.number);
+                None
+            }
+            (Message::Ack { slip, .. }, "P") if self.has_accepted(slip) => None,
+            (Message::Ack { seat, slip }, "P") => Some(self.record(*seat, *slip)),
+            (Message::Ack { seat, slip }, "N") => {
+                self.record(*seat, *slip);
+                None
+            }
+            _ => None,
         }
+    }
+
+    /// Whether the latest accepted slip of this account has this number: then a P is a late one.
+    pub fn has_accepted(&self, slip: &Slip) -> bool {
+        self.accepted.get(&slip.account) == Some(&slip.number)
+    }
+
+    /// Takes a message and its reply, letter and values, and gives the rows of an ordinary P.
+    pub fn rows(&mut self, message: &Message, reply: &[&str]) -> Vec<&'static str> {
+        let letter = reply.first().unwrap_or(&"");
+        self.take(message, letter).map_or(Vec::new(), rows)
     }
 }

@@ -1,5 +1,5 @@
-//! Runs of whole groups with bad seats and with seats that switch on different days, checked against demand 3 and requests 2
-//! and 3 of document 02.
+//! Runs of whole groups with bad seats and with seats that switch on different days, checked against demand 3 and requests 2,
+//! 3 and 5 of document 02.
 //!
 //!     groups [--program PATH] [--seed N] [--runs N] [--only INDEX]
 //!
@@ -151,8 +151,8 @@ fn print_run(world: &World) {
     let page = &world.plan.pages[0];
     let balances = &page.balances[..page.k.into()];
     println!(
-        "n {}, f {}, k {}, balances {balances:?}, bad {:?}, switches {:?}",
-        page.n, page.f, page.k, world.plan.bad, world.plan.switches
+        "n {}, f {}, k {}, balances {balances:?}, bad {:?}, courses {:?}, the council waits {:?}",
+        page.n, page.f, page.k, world.plan.bad, world.plan.courses, world.plan.wait
     );
     for event in &world.record.events {
         match event {

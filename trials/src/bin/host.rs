@@ -14,7 +14,7 @@ use trials::dice::Dice;
 use trials::edges::wait_of;
 use trials::known::{self, page};
 use trials::lent::{Lent, Sent};
-use trials::writing;
+use trials::{taken_over, writing};
 
 /// The two functions on acks against each other and against document 01: twice the count exceeds n + 3f.
 fn acks(checks: &mut Checks) {
@@ -132,8 +132,8 @@ fn waiting_lists(checks: &mut Checks, folder: &str) {
     }
 }
 
-/// A book held from before request 3, in which this seat has acked a home that pays itself: the host goes on with its words.
-/// That slip meets 20, another of its number 12; acks and rulings for it are taken.
+/// A book held from before request 3, in which this seat has acked a home that pays itself: its words are taken over, and the
+/// host goes on with the new ones. That slip meets 20, another of its number 12; acks and rulings for it are taken.
 fn held_book(checks: &mut Checks) {
     let page = OpeningPage::of(2, 0, &[10, 5]);
     let slip = Slip {
@@ -146,7 +146,9 @@ fn held_book(checks: &mut Checks) {
     let next = Slip { number: 2, ..slip };
     let mut book = Book::open(&page).expect("a good page").under(Rules::First);
     book.call(&Message::Slip(slip));
-    let mut lent = Lent::of(&page, &book);
+    let mut lent = Lent::taken_over(&Lent::of(&page, &book).as_before());
+    book.switch();
+    book.switch();
     checks.same("the words of a book that is held", lent.holds(&page, &book), Ok(()));
     let calls = [
         (Message::Slip(slip), b'R', 20),
@@ -183,6 +185,8 @@ fn main() -> ExitCode {
     openings(&mut checks, &mut dice);
     checks.part("host: a book held from before");
     held_book(&mut checks);
+    taken_over::example(&mut checks, &folder);
+    taken_over::random(&mut checks, 0);
     checks.part("host: inputs that are too long or damaged");
     long_inputs(&mut checks, &folder);
     damaged(&mut checks, &folder);

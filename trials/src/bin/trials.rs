@@ -13,7 +13,8 @@ use trials::checks::Checks;
 use trials::dice::{self, Dice};
 use trials::records::written_again;
 use trials::tallies::{Tallies, CLASSES, WRITTEN_AGAIN};
-use trials::{any_words, damage, daybook, edges, held, known, ledgers, openings, trial, waiting, wild, writing};
+use trials::{any_words, damage, daybook, edges, held, known, ledgers, openings};
+use trials::{taken_over, trial, waiting, wild, writing};
 
 const USAGE: &str = "trials --examples DIR --program PATH [--seed N] [--bundles N] [--only INDEX]";
 
@@ -196,6 +197,9 @@ fn run(checks: &mut Checks, options: &Options) {
     try_functions(checks, options.seed);
     checks.part("words of any content");
     any_words::try_messages(checks, options.seed);
+    checks.part("books taken over from before request 5");
+    any_words::try_switches(checks, options.seed);
+    taken_over::random(checks, options.seed);
     checks.part("books held for long");
     held::lives(checks, options.seed);
     checks.part("bundles written");

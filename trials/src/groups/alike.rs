@@ -1,15 +1,15 @@
 //! Request 2 of document 02 on a recorded run: what two seats, or one, put forward on equal acks is equal. The first rules
-//! left it free, so this holds of seats that answer by the newest.
+//! left it free, so this holds of seats that answer by later ones. A late P rests on no acks.
 
 use super::printed::Reply;
 use super::record::Record;
 use crate::ties::{self, Ack, Arrivals};
-use reference::book::{Message, Slip};
+use reference::book::Slip;
 use reference::rules::Rules;
 use std::collections::hash_map::{Entry, HashMap};
 
-/// A reply P: the seat that gave it and by which rules, the slip that it carries, and the recorded acks that it rests on,
-/// as they came, the ack at hand last.
+/// A reply P that is not late: the seat that gave it and by which rules, the slip that it carries, and the recorded acks
+/// that it rests on, as they came, the ack at hand last.
 pub struct PutForward {
     pub seat: usize,
     pub rules: Rules,
@@ -29,17 +29,13 @@ impl PutForward {
     }
 }
 
-/// Every P of the run. An ack is recorded if it was answered N or P.
+/// Every P of the run that is not late.
 pub fn put_forwards(record: &Record) -> Vec<PutForward> {
     let mut recorded: Vec<Arrivals> = record.pages.iter().map(|_| Arrivals::default()).collect();
     let mut all = Vec::new();
     for call in record.calls() {
-        let (sender, at_hand) = match (call.message, call.reply) {
-            (Message::Ack { seat, slip }, Reply::Noted | Reply::PutForward(_)) => (seat, slip),
-            _ => continue,
-        };
-        let acks = recorded[call.seat].record(sender, at_hand);
-        if let Some(slip) = call.put_forward() {
+        let acks = recorded[call.seat].take(&call.message, letter(call.reply));
+        if let (Some(acks), Some(slip)) = (acks, call.put_forward()) {
             all.push(PutForward {
                 seat: call.seat,
                 rules: call.rules,
@@ -51,12 +47,22 @@ pub fn put_forwards(record: &Record) -> Vec<PutForward> {
     all
 }
 
-/// Each P by the newest rules that rests on the same acks, seat by seat, as an earlier one, and before it the first that
-/// does.
+/// The letters by which acks are told to be recorded, and slips to be accepted.
+fn letter(reply: Reply) -> &'static str {
+    match reply {
+        Reply::Noted => "N",
+        Reply::PutForward(_) => "P",
+        Reply::Accepted { .. } => "K",
+        _ => "",
+    }
+}
+
+/// Each P that rests on the same acks, seat by seat, as an earlier one, and before it the first that does; both by rules
+/// that leave no tie free.
 pub fn pairs(all: &[PutForward]) -> Vec<[&PutForward; 2]> {
     let mut first: HashMap<Vec<Ack>, &PutForward> = HashMap::new();
     let mut pairs = Vec::new();
-    for one in all.iter().filter(|one| one.rules == Rules::NEWEST) {
+    for one in all.iter().filter(|one| !one.rules.leave_ties_free()) {
         match first.entry(ties::by_seat(&one.acks)) {
             Entry::Vacant(entry) => drop(entry.insert(one)),
             Entry::Occupied(entry) => pairs.push([*entry.get(), one]),

@@ -43,6 +43,7 @@ impl Breach {
         all.push(Breach::TwoPages);
         all.extend([Lie::BalanceOneMore, Lie::AcceptedAsNoted, Lie::AcceptedTwice].map(Breach::Told));
         all.extend([Lie::LastOfTied, Lie::TiedAtHand].map(Breach::Told));
+        all.extend([Lie::LateAtHand, Lie::LateAgain].map(Breach::Told));
         all.push(Breach::RunAgain);
         all
     }
@@ -60,6 +61,8 @@ impl Breach {
             Breach::Told(Lie::AcceptedTwice) => "a text with two K at one number",
             Breach::Told(Lie::LastOfTied) => "a text with P for the last of the tied slips",
             Breach::Told(Lie::TiedAtHand) => "a text with P for the tied slip at hand",
+            Breach::Told(Lie::LateAtHand) => "a text with a late P for the slip at hand",
+            Breach::Told(Lie::LateAgain) => "a text with a late P twice",
             Breach::RunAgain => "a seat that in the place of its switch runs its old bundle again, and loses a mark",
         };
         name.to_string()
@@ -75,6 +78,15 @@ impl Breach {
             Breach::BadSeats { .. } => Some(Premise::AtMostFBad),
             Breach::TwoPages => Some(Premise::OnePage),
             Breach::Told(_) | Breach::RunAgain => None,
+        }
+    }
+
+    /// Whether this check has to notice it. Two acks, or put-forwards that are not due, are only the way to books that part; a
+    /// false late P may part them too, but has to be noticed as such.
+    fn shows_in(self, check: Check) -> bool {
+        match self {
+            Breach::Told(Lie::LateAtHand | Lie::LateAgain) => check == Check::PutForward,
+            _ => ![Check::AckedOnce, Check::PutForward].contains(&check),
         }
     }
 
@@ -115,8 +127,7 @@ fn attempt(breach: Breach, dice: &mut Dice) -> Result<Option<String>, String> {
     let record = world::run(plan, dice).record;
     let broken: Vec<Premise> = premises::broken(&record).into_keys().collect();
     let mut failures = demand3::failures(&record).into_iter();
-    // Two acks are only the way to books that part.
-    let failed = match failures.find(|failed| failed.check != Check::AckedOnce) {
+    let failed = match failures.find(|failed| breach.shows_in(failed.check)) {
         Some(failed) => failed,
         None => return Ok(None),
     };

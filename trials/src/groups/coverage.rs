@@ -1,8 +1,10 @@
 //! What the runs met, counted: a row that stays 0 shows that the runs prove too little.
 
 use super::alike;
+use super::council::Wait;
 use super::demand3::currents_of;
-use super::plan::Switch;
+use super::late;
+use super::plan::Course;
 use super::printed::Reply;
 use super::record::{Call, Event};
 use super::switches;
@@ -12,7 +14,7 @@ use reference::rules::Rules;
 use std::collections::HashMap;
 
 /// The first rows; behind them stand those of each code, n and f.
-const FIRST_ROWS: [&str; 39] = [
+const FIRST_ROWS: [&str; 45] = [
     "calls",
     "places looked at",
     "runs looked at after each call",
@@ -21,6 +23,8 @@ const FIRST_ROWS: [&str; 39] = [
     NEVER,
     IN_THE_MIDDLE,
     ALL_SORTS,
+    ALL_RULES,
+    TWICE,
     IDLE_SWITCHES,
     switches::ACKED,
     switches::TURNED_DOWN,
@@ -32,7 +36,6 @@ const FIRST_ROWS: [&str; 39] = [
     switches::RULED,
     FREE,
     "conflicts made",
-    "P printed",
     "P printed on a tie",
     "P on the acks of an earlier P",
     "P on the acks of an earlier P, tied",
@@ -41,6 +44,11 @@ const FIRST_ROWS: [&str; 39] = [
     "rulings for the only slip put forward",
     "rulings for one of several put forward",
     "rulings for one that nobody put forward",
+    WAITING_COUNCILS,
+    MIXED_COUNCILS,
+    "rulings once n - f seats had put something forward",
+    "rulings once they had, with a late P among it",
+    "rulings on fewer, in a mixed group and after a while",
     "slips accepted by acks",
     "slips accepted by a ruling",
     "K 0",
@@ -57,7 +65,11 @@ const BEFORE: &str = "runs with seats that switched before";
 const NEVER: &str = "runs with seats that do not switch";
 const IN_THE_MIDDLE: &str = "runs with seats that switch in the middle";
 const ALL_SORTS: &str = "runs with seats of all three sorts";
-const IDLE_SWITCHES: &str = "switches of seats that had switched";
+const ALL_RULES: &str = "runs with seats that start under each of the three sets of rules";
+const TWICE: &str = "seats that switch from the first rules to the newest in a run";
+const IDLE_SWITCHES: &str = "switches of seats that had the newest rules";
+const WAITING_COUNCILS: &str = "runs whose council waits for n - f seats";
+const MIXED_COUNCILS: &str = "runs whose council waits for them for a while";
 const FREE: &str = "P under the first rules for another of the tied slips";
 const MEETINGS: &str = "places with counts, not all 0, that another seat had before";
 const MOST_BOOKED: &str = "most numbers booked at one account";
@@ -70,6 +82,7 @@ impl Coverage {
     /// All rows, at 0.
     pub fn new() -> Coverage {
         let mut names: Vec<String> = FIRST_ROWS.iter().map(|name| name.to_string()).collect();
+        names.extend(late::ROWS.map(str::to_string));
         names.extend([MEETINGS, MOST_BOOKED].map(str::to_string));
         names.extend((4..=12).chain([20]).map(|code| format!("R {code}")));
         names.extend((1..=16).map(|n| format!("runs with n {n}")));
@@ -110,6 +123,15 @@ impl Coverage {
         self.add("rulings for the only slip put forward", world.council.only);
         self.add("rulings for one of several put forward", world.council.several);
         self.add("rulings for one that nobody put forward", world.council.nobody);
+        self.add(
+            "rulings once n - f seats had put something forward",
+            world.council.on_most,
+        );
+        self.add("rulings once they had, with a late P among it", world.council.with_late);
+        self.add(
+            "rulings on fewer, in a mixed group and after a while",
+            world.council.on_fewer,
+        );
         self.add("messages lost", world.network.lost);
         self.add("messages repeated", world.network.repeated);
         self.add("messages reordered", world.network.reordered);
@@ -120,7 +142,7 @@ impl Coverage {
             }
         }
         self.count_sorts(world);
-        for row in switches::met(&world.record) {
+        for row in switches::met(&world.record).into_iter().chain(late::met(&world.record)) {
             self.add(row, 1);
         }
         self.count_put_forwards(world);
@@ -130,21 +152,37 @@ impl Coverage {
 
     /// Counts a run by when its honest seats switch.
     fn count_sorts(&mut self, world: &World) {
-        let honest: Vec<Switch> = world.seats.keys().map(|seat| world.plan.switches[*seat]).collect();
-        let before = honest.contains(&Switch::Before);
-        let never = honest.contains(&Switch::Never);
-        let in_the_middle = honest.iter().any(|switch| matches!(switch, Switch::AtRound(_)));
+        let honest: Vec<(&usize, Course)> = world
+            .seats
+            .keys()
+            .map(|seat| (seat, world.plan.courses[*seat]))
+            .collect();
+        let starts = |rules: Rules| honest.iter().any(|(_, course)| course.start == rules);
+        let before = starts(Rules::NEWEST);
+        let never = honest
+            .iter()
+            .any(|(_, course)| course.start < Rules::NEWEST && course.switch.is_none());
+        let in_the_middle = honest.iter().any(|(_, course)| course.switch.is_some());
         self.add(BEFORE, before as u64);
         self.add(NEVER, never as u64);
         self.add(IN_THE_MIDDLE, in_the_middle as u64);
         self.add(ALL_SORTS, (before && never && in_the_middle) as u64);
+        self.add(ALL_RULES, Rules::ALL.into_iter().all(starts) as u64);
+        for (seat, course) in honest {
+            let twice = course.start == Rules::First && world.seats[seat].rules() == Rules::NEWEST;
+            self.add(TWICE, twice as u64);
+        }
         self.add(IDLE_SWITCHES, world.idle_switches);
+        self.add(WAITING_COUNCILS, matches!(world.plan.wait, Wait::ForMost(_)) as u64);
+        self.add(
+            MIXED_COUNCILS,
+            matches!(world.plan.wait, Wait::ForMostAWhile(..)) as u64,
+        );
     }
 
     fn count_call(&mut self, call: &Call) {
         self.add("calls", 1);
         match call.reply {
-            Reply::PutForward(_) => self.add("P printed", 1),
             Reply::Refused { code } => self.add(&format!("R {code}"), 1),
             Reply::Accepted { booked } if booked < 3 => self.add(&format!("K {booked}"), 1),
             Reply::Accepted { .. } => self.add("K 3 or more", 1),

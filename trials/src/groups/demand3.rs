@@ -1,7 +1,8 @@
 //! Demand 3 on a recorded run: agreement, the slate, and equal counts; and beside it that each seat acks once, that P are
-//! alike, and that each seat answers by its rules.
+//! alike, that each seat answers by its rules, and that it puts forward once for a number.
 
 use super::alike;
+use super::late;
 use super::printed::{Closing, Reply};
 use super::record::{key_of, Call, Event, Key, Record};
 use super::slate::Slate;
@@ -19,9 +20,10 @@ pub enum Check {
     EqualCounts,
     /// Not of demand 3, but what it rests on.
     AckedOnce,
-    /// Not of demand 3, but of document 02, requests 2 and 3.
+    /// Not of demand 3, but of document 02, requests 2, 3 and 5.
     Alike,
     Rules,
+    PutForward,
 }
 
 pub struct Failure {
@@ -29,7 +31,7 @@ pub struct Failure {
     pub what: String,
 }
 
-/// Every failure in the order of the run; none if the run is as demand 3, `alike` and `switches` say.
+/// Every failure in the order of the run; none if the run is as demand 3, `alike`, `switches` and `late` say.
 pub fn failures(record: &Record) -> Vec<Failure> {
     let of = |check, faults: Vec<String>| faults.into_iter().map(move |what| Failure { check, what });
     let mut all: Vec<Failure> = of(Check::Text, record.faults.clone()).collect();
@@ -39,6 +41,7 @@ pub fn failures(record: &Record) -> Vec<Failure> {
     all.extend(of(Check::AckedOnce, acked_once(record)));
     all.extend(of(Check::Alike, alike::faults(record)));
     all.extend(of(Check::Rules, switches::faults(record)));
+    all.extend(of(Check::PutForward, late::faults(record)));
     all
 }
 

@@ -1,5 +1,5 @@
-//! A seat's book that was opened under the first rules: the second program keeps it. Once the seat switches, the real library
-//! goes on with the same book in lent words.
+//! A seat's book that was opened under earlier rules: the second program keeps it. Once the seat switches to the newest, the
+//! real library takes over its words and goes on with the same book.
 
 use super::printed::{Closing, Reply};
 use crate::dice::Dice;
@@ -12,13 +12,13 @@ pub struct Keeper {
     book: Book,
     /// They choose the slip of a P that the first rules leave free.
     dice: Dice,
-    /// Since the switch, what the real library goes on with: the words of the book as it was held before.
+    /// Since the switch to the newest rules, what the real library goes on with.
     lent: Option<Lent>,
 }
 
 impl Keeper {
-    pub fn open(page: &OpeningPage, dice: Dice) -> Keeper {
-        let book = Book::open(page).expect("a page that opens").under(Rules::First);
+    pub fn open(page: &OpeningPage, rules: Rules, dice: Dice) -> Keeper {
+        let book = Book::open(page).expect("a page that opens").under(rules);
         Keeper {
             page: page.clone(),
             book,
@@ -31,11 +31,13 @@ impl Keeper {
         self.book.rules()
     }
 
-    /// The seat goes on with the book that it holds; if it has switched before, nothing changes.
+    /// The seat goes on with the book that it holds; under the newest rules nothing changes.
     pub fn switch(&mut self) {
-        let (page, book) = (&self.page, &self.book);
-        self.lent.get_or_insert_with(|| Lent::of(page, book));
+        let words = Lent::of(&self.page, &self.book).as_before();
         self.book.switch();
+        if self.lent.is_none() && self.rules() == Rules::NEWEST {
+            self.lent = Some(Lent::taken_over(&words));
+        }
     }
 
     /// What is no switch: a book opened anew, to which the same messages come again.
@@ -50,7 +52,7 @@ impl Keeper {
     /// The replies; Err beside them says where the real library first differs.
     pub fn answer(&mut self, messages: &[Message]) -> (Vec<Reply>, Result<(), String>) {
         let mut replies = Vec::new();
-        let mut same = Ok(());
+        let mut same = self.holds_alike();
         for message in messages {
             let dice = &mut self.dice;
             let due = self.book.call_choosing(message, |tied| *dice.pick(tied));
@@ -62,16 +64,18 @@ impl Keeper {
 
     /// Whether the real library, once it goes on with the book, replies the same and is left with the same book.
     fn answered_alike(&mut self, message: &Message, due: &book::Reply) -> Result<(), String> {
-        let lent = match &mut self.lent {
-            Some(lent) => lent,
-            None => return Ok(()),
-        };
-        let reply = lent.call(&Sent::of(message));
-        if reply != told(due) {
-            return Err(format!("{message}: the library replies {reply:?} and not {due}"));
+        if let Some(lent) = &mut self.lent {
+            let reply = lent.call(&Sent::of(message));
+            if reply != told(due) {
+                return Err(format!("{message}: the library replies {reply:?} and not {due}"));
+            }
         }
-        lent.holds(&self.page, &self.book)
-            .map_err(|what| format!("{message}: {what}"))
+        self.holds_alike().map_err(|what| format!("{message}: {what}"))
+    }
+
+    fn holds_alike(&self) -> Result<(), String> {
+        let lent = self.lent.as_ref();
+        lent.map_or(Ok(()), |lent| lent.holds(&self.page, &self.book))
     }
 
     pub fn closings(&self) -> Vec<Closing> {

@@ -17,6 +17,10 @@ pub enum Lie {
     LastOfTied,
     /// Each P carries the slip of the ack at hand, if it is one of the tied ones.
     TiedAtHand,
+    /// Each late P carries the slip of the ack at hand, and not the retained one.
+    LateAtHand,
+    /// An ack that brought a late P brings it again when it comes again.
+    LateAgain,
 }
 
 impl Lie {
@@ -35,6 +39,8 @@ impl Lie {
             }
             Lie::LastOfTied => put_others_forward(&mut lines, messages, last_of_tied),
             Lie::TiedAtHand => put_others_forward(&mut lines, messages, tied_at_hand),
+            Lie::LateAtHand => late_at_hand(&mut lines, messages),
+            Lie::LateAgain => late_again(&mut lines, messages),
         }
         lines.join("\n") + "\n"
     }
@@ -54,7 +60,16 @@ fn put_reply(lines: &mut [String], place: Option<usize>, reply: &str) {
 }
 
 fn has_letter(line: &str, letter: &str) -> bool {
-    line.split(' ').nth(1) == Some(letter)
+    letter_of(line) == letter
+}
+
+fn letter_of(line: &str) -> &str {
+    line.split(' ').nth(1).unwrap_or("")
+}
+
+/// The letter and what it carries.
+fn reply_of(line: &str) -> String {
+    line.split_once(' ').map_or("", |(_, reply)| reply).to_string()
 }
 
 /// Where the first ack or ruling stands that conflicts with a slip accepted before it.
@@ -76,26 +91,54 @@ fn second_place(lines: &[String], messages: &[Message]) -> Option<usize> {
     None
 }
 
-/// Each P carries what is chosen of the acks that it rests on, of which the ack at hand is the last.
+/// Each ordinary P carries what is chosen of the acks that it rests on, of which the ack at hand is the last.
 fn put_others_forward(lines: &mut [String], messages: &[Message], chosen: fn(&[Ack]) -> Option<Slip>) {
     let mut recorded = Arrivals::default();
     for (place, message) in messages.iter().enumerate() {
-        let put_forward = has_letter(&lines[place], "P");
-        let acks = match message {
-            Message::Ack { seat, slip } if put_forward || has_letter(&lines[place], "N") => {
-                recorded.record(*seat, *slip)
-            }
-            _ => continue,
-        };
-        if let (true, Some(slip)) = (put_forward, chosen(acks)) {
-            let Slip {
-                account,
-                number,
-                value,
-                recipient,
-            } = slip;
-            put_reply(lines, Some(place), &format!("P {account} {number} {value} {recipient}"));
+        let acks = recorded.take(message, letter_of(&lines[place]));
+        if let Some(slip) = acks.and_then(chosen) {
+            put_forward(lines, place, &slip);
         }
+    }
+}
+
+fn put_forward(lines: &mut [String], place: usize, slip: &Slip) {
+    let Slip {
+        account,
+        number,
+        value,
+        recipient,
+    } = slip;
+    put_reply(lines, Some(place), &format!("P {account} {number} {value} {recipient}"));
+}
+
+/// Each late P carries the slip of its ack.
+fn late_at_hand(lines: &mut [String], messages: &[Message]) {
+    let mut recorded = Arrivals::default();
+    for (place, message) in messages.iter().enumerate() {
+        if let Message::Ack { slip, .. } = message {
+            if has_letter(&lines[place], "P") && recorded.has_accepted(slip) {
+                put_forward(lines, place, slip);
+            }
+        }
+        recorded.take(message, letter_of(&lines[place]));
+    }
+}
+
+/// Where an ack is refused whose slip has brought a late P before, that P is printed again.
+fn late_again(lines: &mut [String], messages: &[Message]) {
+    let mut recorded = Arrivals::default();
+    let mut late: HashMap<Slip, String> = HashMap::new();
+    for (place, message) in messages.iter().enumerate() {
+        if let Message::Ack { slip, .. } = message {
+            let refused = has_letter(&lines[place], "R");
+            if has_letter(&lines[place], "P") && recorded.has_accepted(slip) {
+                late.insert(*slip, reply_of(&lines[place]));
+            } else if let (true, Some(reply)) = (refused, late.get(slip)) {
+                put_reply(lines, Some(place), reply);
+            }
+        }
+        recorded.take(message, letter_of(&lines[place]));
     }
 }
 

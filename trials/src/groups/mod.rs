@@ -1,6 +1,7 @@
-//! Whole groups of seats, some of them bad. An honest seat that has switched is the real `daybook`; one that has not is the
-//! second program under the first rules, and it may switch in the middle. Demand 3 is checked on what all of them reply,
-//! and that tied slips are put forward alike by the newest rules.
+//! Whole groups of seats, some of them bad. An honest seat that has the newest rules from its opening on is the real
+//! `daybook`; one that has not is the second program under one of the two earlier sets, and it may switch in the middle, once
+//! or twice. Demand 3 is checked on what all of them reply, that tied slips are put forward alike, and that what is accepted
+//! is put forward late, by the newest rules and once.
 
 pub mod alike;
 pub mod breach;
@@ -8,6 +9,7 @@ pub mod council;
 pub mod coverage;
 pub mod demand3;
 pub mod keeper;
+pub mod late;
 pub mod lies;
 pub mod network;
 pub mod plan;

@@ -1,9 +1,11 @@
 //! What a run is made of: the group, its opening page, its bad seats, when its seats switch, and how much happens.
 
 use super::breach::Breach;
+use super::council::Wait;
 use super::lies::Lie;
 use crate::dice::Dice;
 use reference::book::OpeningPage;
+use reference::rules::Rules;
 
 /// About so many messages at most are replayed in a run, over all seats and rounds: this sets how long it takes.
 const REPLAYED: u64 = 400_000;
@@ -11,25 +13,40 @@ const REPLAYED: u64 = 400_000;
 /// At most so many messages are brought to a seat in a run.
 const MOST_BROUGHT: u64 = 900;
 
-/// When a seat switches from the first rules to the newest.
+/// A seat's way through the sets of rules.
 #[derive(Clone, Copy, PartialEq, Eq, Debug)]
-pub enum Switch {
-    /// Before the run.
-    Before,
-    /// Not in the run.
-    Never,
-    /// At the beginning of this round, which is not the first; once more, when it changes nothing, after as many again.
-    AtRound(u64),
+pub struct Course {
+    /// The rules that its book is opened under.
+    pub start: Rules,
+    /// The round, not the first, at whose beginning it switches to the next rules. It switches again after as many rounds, and
+    /// once more after as many: under the newest rules that changes nothing.
+    pub switch: Option<u64>,
 }
 
-/// How many seats switch before the run, never and in the middle, in parts.
+impl Course {
+    /// The newest rules from the opening on.
+    pub const NEWEST: Course = Course {
+        start: Rules::NEWEST,
+        switch: None,
+    };
+
+    pub fn switches_at(&self, round: u64) -> bool {
+        self.switch.map_or(false, |at| (1..=3).any(|times| round == times * at))
+    }
+}
+
+/// How many seats have the newest rules from the opening on, do not switch and switch in the middle, in parts.
 const MIXTURES: [[u64; 3]; 4] = [[1, 0, 0], [1, 6, 1], [1, 2, 2], [1, 1, 6]];
+
+/// A council that waits for n - f seats in a mixed group rules on fewer after so many rounds.
+const PATIENCE: u64 = 6;
 
 pub struct Plan {
     /// The page that each seat opens from.
     pub pages: Vec<OpeningPage>,
     pub bad: Vec<bool>,
-    pub switches: Vec<Switch>,
+    pub courses: Vec<Course>,
+    pub wait: Wait,
     pub rounds: u64,
     /// So many of the rounds, the last ones, bring no new slips, and nothing is lost in them.
     pub calm: u64,
@@ -61,10 +78,12 @@ impl Plan {
         let every_call = dice.once_in(6);
         let (rounds, batch) = size(n as u64, every_call, dice);
         let mixture = *dice.pick(&MIXTURES);
+        let wait = wait(mixture, n - f as usize, dice);
         Plan {
             pages: vec![page; n],
             bad: chosen(n, bad as usize, dice),
-            switches: (0..n).map(|_| switch(mixture, rounds, dice)).collect(),
+            courses: (0..n).map(|_| course(mixture, rounds, dice)).collect(),
+            wait,
             rounds,
             calm: dice.below(2) * (rounds / 3),
             batch,
@@ -94,15 +113,17 @@ impl Plan {
             let seat = dice.below(n as u64) as usize;
             pages[seat].balances[0] ^= 1;
         }
-        let mut switches = vec![Switch::Before; n];
+        let mut courses = vec![Course::NEWEST; n];
         if breach == Breach::RunAgain {
-            switches = vec![Switch::Never; n];
-            switches[dice.below(n as u64) as usize] = Switch::AtRound(1);
+            let start = Rules::First;
+            courses = vec![Course { start, switch: None }; n];
+            courses[dice.below(n as u64) as usize].switch = Some(1);
         }
         Plan {
             pages,
             bad: chosen(n, bad, dice),
-            switches,
+            courses,
+            wait: Wait::ForOne,
             rounds: 10,
             calm: 0,
             batch: 4 * n as u64,
@@ -137,13 +158,25 @@ fn scaled_up(mut page: OpeningPage) -> OpeningPage {
     page
 }
 
-/// One of the three sorts, by their parts.
-fn switch(mixture: [u64; 3], rounds: u64, dice: &mut Dice) -> Switch {
-    let [before, never, _] = mixture;
-    match dice.below(mixture.iter().sum()) {
-        part if part < before => Switch::Before,
-        part if part < before + never => Switch::Never,
-        _ => Switch::AtRound(dice.within(1, rounds - 1)),
+/// One of the three sorts, by their parts; those that have not switched to the newest rules start under any of the others.
+fn course(mixture: [u64; 3], rounds: u64, dice: &mut Dice) -> Course {
+    let [newest, never, _] = mixture;
+    let part = dice.below(mixture.iter().sum());
+    if part < newest {
+        return Course::NEWEST;
+    }
+    Course {
+        start: *dice.pick(&[Rules::First, Rules::NoSelfPayments]),
+        switch: (part >= newest + never).then(|| dice.within(1, rounds - 1)),
+    }
+}
+
+/// In half of the groups the council waits for so many seats.
+fn wait(mixture: [u64; 3], most: usize, dice: &mut Dice) -> Wait {
+    match mixture {
+        _ if dice.once_in(2) => Wait::ForOne,
+        [_, 0, 0] => Wait::ForMost(most),
+        _ => Wait::ForMostAWhile(most, PATIENCE),
     }
 }
 

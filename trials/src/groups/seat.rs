@@ -27,7 +27,7 @@ pub enum Clerk {
     /// The real `daybook`, by what it prints for the bundle of all messages so far, or for what is changed in that text
     /// before anybody reads it: the newest rules from the opening on.
     Daybook(Option<Lie>),
-    /// A book that is held from the first rules on.
+    /// A book that is held from earlier rules on.
     Keeper(Keeper),
 }
 

@@ -1,5 +1,5 @@
 //! Request 3 of document 02 on a recorded run: each seat answers by its rules and goes back to no earlier ones; and what
-//! the run met of self-payments and of switches.
+//! the run met of self-payments and of switches. Here a seat has switched once it turns self-payments down.
 
 use super::printed::Reply;
 use super::record::{key_of, Call, Key, Record};
@@ -86,7 +86,7 @@ impl Seat {
     }
 
     fn has_switched(&self) -> bool {
-        self.rules == Some(Rules::NEWEST)
+        self.rules.map_or(false, Rules::turn_down_self_payments)
     }
 
     fn note_switch(&mut self) {

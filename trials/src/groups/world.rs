@@ -4,7 +4,7 @@ use super::breach::Breach;
 use super::council::Council;
 use super::keeper::Keeper;
 use super::network::Network;
-use super::plan::{chosen, Plan, Switch};
+use super::plan::{chosen, Plan};
 use super::printed::{Closing, Reply};
 use super::record::{key_of, Call, Key, Record};
 use super::seat::{Clerk, Seat};
@@ -24,6 +24,8 @@ pub struct World {
     made: BTreeMap<Key, Made>,
     /// The acks that honest seats sent.
     acks: BTreeMap<Key, Vec<Message>>,
+    /// The slip that an honest seat accepted last for an account.
+    accepted: BTreeMap<(usize, u8), Slip>,
     pub conflicts: u64,
     /// Switches of seats that answer by the newest rules.
     pub idle_switches: u64,
@@ -51,22 +53,24 @@ impl World {
         let mut seats = BTreeMap::new();
         for number in (0..n).filter(|number| !plan.bad[*number]) {
             let page = plan.pages[number].clone();
-            let clerk = match (plan.switches[number], plan.breach) {
+            let clerk = match (plan.courses[number].start, plan.breach) {
                 // If a text is changed, then that of one seat, the first.
-                (Switch::Before, Some(Breach::Told(lie))) if seats.is_empty() => Clerk::Daybook(Some(lie)),
-                (Switch::Before, _) => Clerk::Daybook(None),
-                _ => Clerk::Keeper(Keeper::open(&page, Dice::new(dice.any()))),
+                (Rules::NEWEST, Some(Breach::Told(lie))) if seats.is_empty() => Clerk::Daybook(Some(lie)),
+                (Rules::NEWEST, _) => Clerk::Daybook(None),
+                (rules, _) => Clerk::Keeper(Keeper::open(&page, rules, Dice::new(dice.any()))),
             };
             seats.insert(number, Seat::open(number, page, clerk, &mut record));
         }
+        let council = Council::new(plan.wait);
         World {
             plan,
             dice,
             seats,
             network: Network::new(n),
-            council: Council::default(),
+            council,
             made: BTreeMap::new(),
             acks: BTreeMap::new(),
+            accepted: BTreeMap::new(),
             conflicts: 0,
             idle_switches: 0,
             record,
@@ -82,14 +86,17 @@ impl World {
             self.network.change_delays(&mut self.dice);
             self.make_slips();
             self.send_odd_messages();
+            self.provoke();
             self.ask();
         }
         self.rule();
         self.send_again(calm);
+        self.send_disputed();
         self.deliver(calm);
     }
 
-    /// Seats switch whose round it is, and homes that had a self-payment acked there try again.
+    /// Seats switch whose round it is. Homes that had a self-payment acked there try again, and bad seats provoke a late P of
+    /// what waits there.
     fn switch(&mut self, round: u64) {
         for seat in self.honest() {
             if !self.is_to_switch(seat, round) {
@@ -105,18 +112,34 @@ impl World {
             for slip in self.marks_of_self_payments(seat) {
                 self.try_again(seat, slip);
             }
+            for slip in self.waiting(seat) {
+                self.provoke_about(seat, slip);
+            }
         }
     }
 
-    fn is_to_switch(&self, seat: usize, round: u64) -> bool {
-        match (self.plan.switches[seat], self.plan.breach) {
+    /// The slips that the seat has accepted and not booked.
+    fn waiting(&self, seat: usize) -> Vec<Slip> {
+        let closings = self.seats[&seat].closings();
+        let accepted = self.accepted.range((seat, 0)..=(seat, u8::MAX)).map(|(_, slip)| *slip);
+        accepted
+            .filter(|slip| slip.number > closings[usize::from(slip.account)].current)
+            .collect()
+    }
+
+    /// Its round has come; or a slip waits there, which the newest rules then retain.
+    fn is_to_switch(&mut self, seat: usize, round: u64) -> bool {
+        let course = self.plan.courses[seat];
+        match (course.switch, self.plan.breach) {
             // From then on it waits for a mark that it can lose.
-            (Switch::AtRound(at), Some(Breach::RunAgain)) => {
+            (Some(at), Some(Breach::RunAgain)) => {
                 let has_switched = self.seats[&seat].rules() == Rules::NEWEST;
                 round >= at && !has_switched && !self.marks_of_self_payments(seat).is_empty()
             }
-            (Switch::AtRound(at), _) => round == at || round == 2 * at,
-            _ => false,
+            (Some(_), _) if self.seats[&seat].rules().next() == Rules::NEWEST && !self.waiting(seat).is_empty() => {
+                course.switches_at(round) || self.dice.once_in(3)
+            }
+            _ => course.switches_at(round),
         }
     }
 
@@ -288,6 +311,47 @@ impl World {
         }
     }
 
+    /// Bad seats send honest ones acks for what these have accepted: mostly another slip, which brings a late P once, now and
+    /// then the same, or one of the number before.
+    fn provoke(&mut self) {
+        let targets: Vec<(usize, Slip)> = self.accepted.iter().map(|((seat, _), slip)| (*seat, *slip)).collect();
+        for (seat, accepted) in targets {
+            if self.dice.once_in(12) {
+                self.provoke_about(seat, accepted);
+            }
+        }
+    }
+
+    fn provoke_about(&mut self, seat: usize, accepted: Slip) {
+        let page = self.page();
+        let other = slips::other(&page, &accepted, &mut self.dice);
+        let slip = match self.dice.below(8) {
+            0 => accepted,
+            1 => Slip {
+                number: accepted.number - 1,
+                ..other
+            },
+            _ => other,
+        };
+        let sender = self.odd_sender();
+        self.network.send(seat, Message::Ack { seat: sender, slip });
+    }
+
+    /// While the council waits to hear of a seat, the honest acks of that number are sent to it once more: one that conflicts
+    /// with what it has accepted, recorded before or not, brings its late P.
+    fn send_disputed(&mut self) {
+        for seat in self.honest() {
+            for key in self.council.lacking(seat) {
+                let acks = self.acks.get(&key).cloned().unwrap_or_default();
+                for ack in acks {
+                    if self.dice.once_in(4) && !self.network.is_on_its_way(seat, &ack) {
+                        self.network.send(seat, ack);
+                    }
+                }
+            }
+        }
+    }
+
     /// A bad seat, or a seat that there is not.
     fn odd_sender(&mut self) -> u8 {
         let bad = self.liars();
@@ -417,8 +481,14 @@ impl World {
                 self.acks.entry(key_of(&slip)).or_default().push(ack);
                 self.network.send_to_all(ack);
             }
-            (_, Reply::PutForward(slip)) => self.council.see(slip),
+            (_, Reply::PutForward(slip)) => {
+                let late = self.accepted.get(&(call.seat, slip.account)) == Some(&slip);
+                self.council.see(call.seat, slip, late);
+            }
             _ => {}
+        }
+        if let Some(slip) = call.accepted() {
+            self.accepted.insert((call.seat, slip.account), slip);
         }
     }
 }

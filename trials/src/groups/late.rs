@@ -1,0 +1,208 @@
+//! Request 5 of document 02 on a recorded run, read off the calls alone: a seat puts forward at most once for a number; once
+//! it has accepted, only the accepted slip, only under the newest rules, and then always when an ack conflicts with it.
+
+use super::printed::Reply;
+use super::record::{key_of, Call, Key, Record};
+use super::slate::Slate;
+use reference::book::{Message, Slip};
+use reference::rules::Rules;
+use std::collections::{HashMap, HashSet};
+
+pub const ORDINARY: &str = "P before the acceptance";
+pub const LATE: &str = "late P";
+pub const WAITS: &str = "late P while the slip waits";
+pub const BOOKED: &str = "late P once the slip is booked";
+pub const BY_ACKS: &str = "late P of a slip accepted by acks";
+pub const BY_RULING: &str = "late P of a slip accepted by a ruling";
+pub const OF_HONEST: &str = "late P on an honest seat's ack";
+pub const OF_BAD: &str = "late P on a bad seat's ack";
+pub const ACROSS: &str = "late P of a slip that was accepted before the switch";
+pub const USED_UP: &str = "a conflicting ack met with 6 or 8: put forward before the acceptance";
+pub const REPEATED: &str = "a conflicting ack met with 6 or 8: put forward late";
+pub const BOOKED_BEFORE: &str = "a conflicting ack met with 6: booked before the switch";
+pub const EARLIER_RULES: &str = "a conflicting ack met with 6 or 8: earlier rules";
+
+pub const ROWS: [&str; 13] = [
+    ORDINARY,
+    LATE,
+    WAITS,
+    BOOKED,
+    BY_ACKS,
+    BY_RULING,
+    OF_HONEST,
+    OF_BAD,
+    ACROSS,
+    USED_UP,
+    REPEATED,
+    BOOKED_BEFORE,
+    EARLIER_RULES,
+];
+
+/// What is wrong with the put-forwards of the run.
+pub fn faults(record: &Record) -> Vec<String> {
+    walked(record).faults
+}
+
+/// The rows of put-forwards, each as often as the run met it.
+pub fn met(record: &Record) -> Vec<&'static str> {
+    walked(record).met
+}
+
+fn walked(record: &Record) -> Walk {
+    let seats = record.pages.iter().map(|page| Seat::open(Slate::new(page)));
+    let mut walk = Walk {
+        bad: record.bad.clone(),
+        seats: seats.collect(),
+        faults: Vec::new(),
+        met: Vec::new(),
+    };
+    record.calls().for_each(|call| walk.take(call));
+    walk
+}
+
+struct Walk {
+    bad: Vec<bool>,
+    seats: Vec<Seat>,
+    faults: Vec<String>,
+    met: Vec<&'static str>,
+}
+
+/// What a seat did so far.
+struct Seat {
+    slate: Slate,
+    rules: Option<Rules>,
+    /// The latest accepted slip of each account.
+    latest: HashMap<u8, Accepted>,
+    put_forward: HashSet<Key>,
+}
+
+#[derive(Clone, Copy)]
+struct Accepted {
+    slip: Slip,
+    by_ruling: bool,
+    /// Whether anything was put forward for its number before.
+    before: bool,
+    /// Accepted under earlier rules; and booked under them too, so that it is not retained.
+    earlier: bool,
+    forgotten: bool,
+}
+
+impl Seat {
+    fn open(slate: Slate) -> Seat {
+        Seat {
+            slate,
+            rules: None,
+            latest: HashMap::new(),
+            put_forward: HashSet::new(),
+        }
+    }
+
+    fn is_booked(&self, slip: &Slip) -> bool {
+        self.slate.counts().get(usize::from(slip.account)) >= Some(&slip.number)
+    }
+
+    /// The accepted slip of the same account and number.
+    fn accepted(&self, slip: &Slip) -> Option<Accepted> {
+        let accepted = self.latest.get(&slip.account).copied();
+        accepted.filter(|accepted| accepted.slip.number == slip.number)
+    }
+
+    /// Whether this ack, which is in range, has to be answered by a late P.
+    fn is_due(&self, rules: Rules, slip: &Slip) -> bool {
+        let fresh = !self.put_forward.contains(&key_of(slip));
+        let retained = |accepted: Accepted| accepted.slip != *slip && !accepted.forgotten;
+        rules.put_forward_late() && fresh && self.accepted(slip).map_or(false, retained)
+    }
+
+    /// At the switch to the newest rules what is booked is not retained.
+    fn switch(&mut self) {
+        let slate = &self.slate;
+        for accepted in self.latest.values_mut() {
+            let account = usize::from(accepted.slip.account);
+            accepted.forgotten = slate.counts().get(account) >= Some(&accepted.slip.number);
+        }
+    }
+}
+
+impl Walk {
+    fn take(&mut self, call: &Call) {
+        let seat = &mut self.seats[call.seat];
+        let before = seat.rules.replace(call.rules);
+        if call.rules.put_forward_late() && before.map_or(false, |before| !before.put_forward_late()) {
+            seat.switch();
+        }
+        if let Message::Ack { seat, slip } = call.message {
+            self.ack(call, seat, slip);
+        } else if call.put_forward().is_some() {
+            self.fault(call, "is answered P and is no ack");
+        }
+        if let Some(slip) = call.accepted() {
+            self.accept(call, slip);
+        }
+        let seat = &mut self.seats[call.seat];
+        seat.put_forward.extend(call.put_forward().iter().map(key_of));
+        seat.slate.feed(call);
+    }
+
+    fn fault(&mut self, call: &Call, what: &str) {
+        let Call { seat, message, .. } = call;
+        self.faults.push(format!("at seat {seat} {message} {what}"));
+    }
+
+    fn accept(&mut self, call: &Call, slip: Slip) {
+        let seat = &mut self.seats[call.seat];
+        let accepted = Accepted {
+            slip,
+            by_ruling: matches!(call.message, Message::Ruling(_)),
+            before: seat.put_forward.contains(&key_of(&slip)),
+            earlier: !call.rules.put_forward_late(),
+            forgotten: false,
+        };
+        seat.latest.insert(slip.account, accepted);
+    }
+
+    fn ack(&mut self, call: &Call, sender: u8, slip: Slip) {
+        let seat = &self.seats[call.seat];
+        let (due, accepted) = (seat.is_due(call.rules, &slip), seat.accepted(&slip));
+        let in_range = !matches!(call.reply, Reply::Refused { code: 4 | 5 });
+        match (call.put_forward(), accepted) {
+            (Some(put), _) if seat.put_forward.contains(&key_of(&put)) => {
+                self.fault(call, "is answered P for a number that was put forward before")
+            }
+            (Some(put), Some(accepted)) if put != accepted.slip => {
+                self.fault(call, "is answered P with another slip than the accepted one")
+            }
+            (Some(_), Some(_)) if !due => self.fault(call, "is answered by a late P that is not due"),
+            (Some(_), Some(accepted)) => self.put_forward_late(call, sender, accepted),
+            (Some(_), None) => self.met.push(ORDINARY),
+            (None, _) if due && in_range => self.fault(call, "has to be answered by a late P"),
+            (None, Some(accepted)) if accepted.slip != slip && in_range => self.not_late(call, accepted),
+            _ => {}
+        }
+    }
+
+    fn put_forward_late(&mut self, call: &Call, sender: u8, accepted: Accepted) {
+        let booked = self.seats[call.seat].is_booked(&accepted.slip);
+        let bad = self.bad.get(usize::from(sender)) == Some(&true);
+        self.met.extend([
+            LATE,
+            if booked { BOOKED } else { WAITS },
+            if accepted.by_ruling { BY_RULING } else { BY_ACKS },
+            if bad { OF_BAD } else { OF_HONEST },
+        ]);
+        self.met.extend(accepted.earlier.then_some(ACROSS));
+    }
+
+    /// A conflicting ack that meets 6 or 8 all the same.
+    fn not_late(&mut self, call: &Call, accepted: Accepted) {
+        self.met.push(if !call.rules.put_forward_late() {
+            EARLIER_RULES
+        } else if accepted.before {
+            USED_UP
+        } else if accepted.forgotten {
+            BOOKED_BEFORE
+        } else {
+            REPEATED
+        });
+    }
+}

@@ -266,13 +266,13 @@ impl Book {
         &self.accounts[account]
     }
 
-    /// The retained slip that an ack of this slip puts forward late, once it has passed 4 and 5: they conflict, and nothing
-    /// was put forward for their number.
-    pub fn late(&self, slip: &Slip) -> Option<Slip> {
-        let retained = self.accounts.get(usize::from(slip.account))?.retained?;
-        let conflict = retained.slip.number == slip.number && retained.slip != *slip;
-        let late = self.rules.put_forward_late() && conflict && !retained.put_forward;
-        late.then_some(retained.slip)
+    /// The slip that a late P carries, if one answers this message: it is an ack that passes 4 and 5 and conflicts with the
+    /// retained slip, and nothing was put forward for their number.
+    pub fn late(&self, message: &Message) -> Option<Slip> {
+        match *message {
+            Message::Ack { seat, slip } if self.check_ack(usize::from(seat), &slip).is_ok() => self.conflicting(&slip),
+            _ => None,
+        }
     }
 
     /// The balance of an account below k.
@@ -303,22 +303,19 @@ impl Book {
     }
 
     fn ack(&mut self, seat: usize, slip: Slip, choose: impl FnOnce(&[Slip]) -> Slip) -> Result<Reply, u8> {
-        if seat >= self.n {
-            return Err(4);
+        self.check_ack(seat, &slip)?;
+        if let Some(retained) = self.conflicting(&slip) {
+            return Ok(self.join_in(retained));
         }
-        self.check_fields(&slip)?;
-        if let Some(retained) = self.late(&slip) {
-            return Ok(self.put_forward_late(retained));
-        }
-        let number = self.check_number(&slip)?;
-        let account = &mut self.accounts[number];
+        let payer = self.check_number(&slip)?;
+        let account = &mut self.accounts[payer];
         if let Some(first) = account.acks[seat] {
             return Err(if first == slip { 9 } else { 10 });
         }
         account.acks[seat] = Some(slip);
         let equal = account.acks_for(&slip);
         if 2 * equal > self.n + 3 * self.f {
-            return Ok(self.accept(number, slip));
+            return Ok(self.accept(payer, slip));
         }
         // this ack is recorded too, so two of them conflict just if not all are equal to it
         let recorded = account.recorded();
@@ -336,8 +333,16 @@ impl Book {
         Ok(Reply::PutForward { slip })
     }
 
-    /// The retained slip is put forward: once, and that is all.
-    fn put_forward_late(&mut self, slip: Slip) -> Reply {
+    /// The retained slip that an ack of this one, which has passed 4 and 5, puts forward late.
+    fn conflicting(&self, slip: &Slip) -> Option<Slip> {
+        let retained = self.accounts[usize::from(slip.account)].retained?;
+        let conflict = retained.slip.number == slip.number && retained.slip != *slip;
+        let late = self.rules.put_forward_late() && conflict && !retained.put_forward;
+        late.then_some(retained.slip)
+    }
+
+    /// The retained slip is put forward late: its mark is set, and that is all.
+    fn join_in(&mut self, slip: Slip) -> Reply {
         let put_forward = true;
         self.accounts[usize::from(slip.account)].retained = Some(Retained { slip, put_forward });
         Reply::PutForward { slip }
@@ -361,6 +366,14 @@ impl Book {
             return Err(20);
         }
         self.check_number(slip)
+    }
+
+    /// Codes 4 and 5.
+    fn check_ack(&self, seat: usize, slip: &Slip) -> Result<(), u8> {
+        if seat >= self.n {
+            return Err(4);
+        }
+        self.check_fields(slip)
     }
 
     /// Code 5.

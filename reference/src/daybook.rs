@@ -39,13 +39,18 @@ fn replies(bytes: &[u8]) -> Result<String, Fault> {
         let reply = book.call(message);
         add_line(&mut text, format_args!("{entry} {reply}"));
     }
+    close(&mut text, &book);
+    Ok(text)
+}
+
+/// Adds the closing lines.
+pub fn close(text: &mut String, book: &Book) {
     for account in 0..book.accounts() {
         add_line(
-            &mut text,
+            text,
             format_args!("= {account} {} {}", book.balance(account), book.current(account)),
         );
     }
-    Ok(text)
 }
 
 fn add_line(text: &mut String, line: fmt::Arguments) {

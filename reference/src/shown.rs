@@ -1,6 +1,6 @@
 //! Any bytes shown as a bundle, entry by entry, for people.
 
-use crate::book::{Book, Message, OpeningPage, Reply};
+use crate::book::{Book, OpeningPage};
 use crate::bundle::{self, Entry, Fault, Wrong, BODY_LENGTHS, MOST_ENTRIES, OPENING};
 use crate::daybook;
 use crate::written::KIND_WORDS;
@@ -27,27 +27,21 @@ pub fn shown(bytes: &[u8]) -> String {
     if !rows.is_empty() {
         text += "  entry  kind      seat  start         sum  body\n";
     }
-    let printed = daybook::printed(bytes);
-    let mut replies = printed.lines().filter(|line| !line.starts_with('F'));
-    let late = late_entries(bytes);
+    let (replies, closing) = played(bytes).unwrap_or_default();
     let width = rows.iter().skip(1).map(|row| row.body.len()).max().unwrap_or(0);
     // 13 and 15 are no single entry's fault
     let decides = fault
         .filter(|fault| [14, 16].contains(&fault.code))
         .map(|fault| fault.entry);
     for row in &rows {
-        let reply = if row.number == 0 { None } else { replies.next() };
+        let reply = row.number.checked_sub(1).and_then(|message| replies.get(message));
         let behind = match &row.wrong {
             Some((code, what)) => format!("<- {code}: {what}"),
-            None => reply.map_or(String::new(), |line| arrow(line, late.contains(&row.number))),
+            None => reply.map_or(String::new(), |reply| format!("-> {reply}")),
         };
         text += &line(row, decides == Some(row.number), width, &behind);
     }
-    // the lines behind the last entry's close the accounts
-    for closing in replies {
-        text += &format!("{closing}\n");
-    }
-    text
+    text + &closing
 }
 
 /// The entries whose 8 bytes are there. A body is looked for where the one before it ends or, behind an entry of an
@@ -175,29 +169,20 @@ fn wrong_opening(page: &OpeningPage, code: u8) -> String {
     }
 }
 
-/// The entries that are answered by a late P; none if the book does not open.
-fn late_entries(bytes: &[u8]) -> Vec<usize> {
-    let read = bundle::read(bytes).ok();
-    let opened = read.and_then(|(page, messages)| Some((Book::open(&page).ok()?, messages)));
-    let (mut book, messages) = match opened {
-        Some(opened) => opened,
-        None => return Vec::new(),
-    };
-    let mut late = |message: &Message| {
-        let conflicts = matches!(message, Message::Ack { slip, .. } if book.late(slip).is_some());
-        matches!(book.call(message), Reply::PutForward { .. }) && conflicts
-    };
-    let entries = (1..).zip(&messages);
-    entries
-        .filter_map(|(entry, message)| late(message).then_some(entry))
-        .collect()
-}
-
-/// The reply from its line. A late P, which looks like any other, is told as such.
-fn arrow(line: &str, late: bool) -> String {
-    let reply = line.split_once(' ').map_or(line, |(_, reply)| reply);
-    let told = if late { ", late: the slip that was accepted" } else { "" };
-    format!("-> {reply}{told}")
+/// The reply to each message, where a late P, which looks like any other, is told as such; and the closing lines. None if the
+/// bundle or its opening is refused.
+fn played(bytes: &[u8]) -> Option<(Vec<String>, String)> {
+    let (page, messages) = bundle::read(bytes).ok()?;
+    let mut book = Book::open(&page).ok()?;
+    let mut replies = Vec::new();
+    for message in &messages {
+        let late = book.late(message).is_some();
+        let told = if late { ", late: the slip that was accepted" } else { "" };
+        replies.push(format!("{}{told}", book.call(message)));
+    }
+    let mut closing = String::new();
+    daybook::close(&mut closing, &book);
+    Some((replies, closing))
 }
 
 /// A row's line; the entry whose fault decides is marked in front.

@@ -31,13 +31,14 @@ fn refused(code: u8) -> Reply {
     Reply::Refused(code)
 }
 
-/// Plays the messages on a book with n 6, f 1 and balances 10 and 5; each has to get its reply.
+/// Each message has to get its reply.
 fn play(book: &mut Book, calls: &[(Message, Reply)]) {
     for (place, (message, due)) in calls.iter().enumerate() {
         assert_eq!(book.call(message), *due, "call {place}: {message}");
     }
 }
 
+/// A book with n 6, f 1 and balances 10 and 5, once these are played.
 fn played(calls: &[(Message, Reply)]) -> Book {
     let mut book = open(6, 1, &[10, 5]);
     play(&mut book, calls);
@@ -330,17 +331,19 @@ fn three_sets_of_rules() {
     assert_eq!(Rules::ALL.map(Rules::leave_ties_free), [true, false, false]);
 }
 
-/// A book under the rules before request 5: account 0 has booked a slip, account 1 waits with nothing put forward, account
-/// 2 waits behind a put-forward, and account 3 has put one forward for its next number.
+/// A book under the rules before request 5: account 0 has booked a slip, account 1 too, and its next one waits with nothing
+/// put forward, account 2 waits behind a put-forward, and account 3 has put one forward for its next number.
 fn from_before(rules: Rules) -> (Book, [Slip; 2]) {
-    let (plain, marked) = (slip(1, 1, 9, 0), slip(2, 1, 8, 0));
+    let (booked, plain, marked) = (slip(1, 1, 9, 0), slip(1, 2, 9, 0), slip(2, 1, 8, 0));
     let mut book = open(6, 1, &[10, 5, 1, 2]).under(rules);
     play(
         &mut book,
-        &[(Message::Ruling(T), BOOKED), (Message::Ruling(plain), BOOKED)],
+        &[
+            (Message::Ruling(T), BOOKED),
+            (Message::Ruling(booked), BOOKED),
+            (Message::Ruling(plain), UNBOOKED),
+        ],
     );
-    let plain = slip(1, 2, 9, 0);
-    play(&mut book, &[(Message::Ruling(plain), UNBOOKED)]);
     play(&mut book, &split(slip(2, 1, 1, 0), marked));
     play(&mut book, &[(Message::Ruling(marked), UNBOOKED)]);
     play(&mut book, &split(slip(3, 1, 1, 0), slip(3, 1, 2, 0)));
@@ -361,6 +364,17 @@ fn the_switch_retains_what_waits() {
         };
         assert_eq!(*book.account(account), due, "account {account}");
     }
+    // what waited is booked, and only then the first conflicting ack comes
+    play(
+        &mut book.clone(),
+        &[
+            (Message::Ruling(slip(0, 2, 9, 1)), Reply::Accepted { booked: 2 }),
+            (ack(0, slip(1, 2, 1, 0)), put_forward(plain)),
+            (ack(0, slip(1, 2, 1, 0)), refused(6)),
+            (Message::Ruling(slip(0, 3, 7, 2)), Reply::Accepted { booked: 2 }),
+            (ack(0, slip(2, 1, 1, 0)), refused(6)),
+        ],
+    );
     play(
         &mut book,
         &[
@@ -394,33 +408,76 @@ fn one_switch_after_the_other() {
     assert_eq!(book, before);
 }
 
-/// From any book, a message gets the same reply under the second and the third rules and leaves the same but for what is
-/// retained, save a late P, which is 6 or 8 under the second.
-#[test]
-fn nothing_else_differs() {
-    let mut chance = Chance(5);
-    let mut late = [0, 0];
-    for _ in 0..300 {
-        let page = chance.good_page();
-        let mut book = Book::open(&page).expect("a good page opens");
-        for message in chance.messages(200) {
-            let mut second = book.clone().under(Rules::NoSelfPayments);
-            let before = book.clone();
-            let (reply, without) = (book.call(&message), second.call(&message));
-            if reply == without {
-                assert!(alike(&book, &second), "{message}");
-                continue;
-            }
-            let slip = match message {
-                Message::Ack { slip, .. } => slip,
-                _ => panic!("{message} differs"),
-            };
-            assert_eq!(Some(reply), before.late(&slip).map(put_forward), "{message}");
-            assert!(alike(&before, &book), "{message}");
-            late[usize::from(without == refused(6))] += 1;
-            assert!([6, 8].map(refused).contains(&without), "{message}");
+/// What a book's replies tell of late P's.
+#[derive(Default)]
+struct History {
+    /// in the order of their acceptance
+    accepted: Vec<Slip>,
+    /// accounts and numbers
+    put_forward: Vec<(u8, u32)>,
+}
+
+impl History {
+    fn take(&mut self, message: &Message, reply: &Reply) {
+        match (message, reply) {
+            (Message::Ack { slip, .. } | Message::Ruling(slip), Reply::Accepted { .. }) => self.accepted.push(*slip),
+            (_, Reply::PutForward { slip }) => self.put_forward.push((slip.account, slip.number)),
+            _ => {}
         }
     }
+
+    fn has_put_forward(&self, slip: &Slip) -> bool {
+        self.put_forward.contains(&(slip.account, slip.number))
+    }
+
+    /// The slip of the late P that is due to an ack of this one, if it passes 4 and 5.
+    fn due(&self, slip: &Slip) -> Option<Slip> {
+        let latest = self.accepted.iter().rfind(|latest| latest.account == slip.account)?;
+        let conflict = latest.number == slip.number && latest != slip;
+        (conflict && !self.has_put_forward(slip)).then_some(*latest)
+    }
+}
+
+/// To each of 300 books come at most so many messages, one after the other: `call` gets the book, what the replies told
+/// before, and the message, and gives the reply.
+fn play_many(seed: u64, most: u64, mut call: impl FnMut(&mut Book, &History, &Message) -> Reply) {
+    let mut chance = Chance(seed);
+    for _ in 0..300 {
+        let mut book = Book::open(&chance.good_page()).expect("a good page opens");
+        let mut history = History::default();
+        let messages = chance.messages(most);
+        messages.iter().for_each(|message| {
+            let reply = call(&mut book, &history, message);
+            history.take(message, &reply);
+        });
+    }
+}
+
+/// From any book, a message gets the same reply under the second and the third rules and leaves the same but for what is
+/// retained, save where a late P is due by what was accepted and put forward, which is 6 or 8 under the second.
+#[test]
+fn nothing_else_differs() {
+    let mut late = [0, 0];
+    play_many(5, 200, |book, history, message| {
+        let before = book.clone();
+        let mut second = book.clone().under(Rules::NoSelfPayments);
+        let (reply, without) = (book.call(message), second.call(message));
+        let due = match message {
+            Message::Ack { slip, .. } if ![4, 5].map(refused).contains(&without) => history.due(slip),
+            _ => None,
+        };
+        assert_eq!(before.late(message), due, "{message}");
+        if let Some(accepted) = due {
+            assert_eq!(reply, put_forward(accepted), "{message}");
+            assert!(alike(&before, book), "{message}");
+            assert!([6, 8].map(refused).contains(&without), "{message}");
+            late[usize::from(without == refused(6))] += 1;
+        } else {
+            assert_eq!(reply, without, "{message}");
+            assert!(alike(book, &second), "{message}");
+        }
+        reply
+    });
     assert!(late.iter().all(|times| *times > 20), "{late:?}");
 }
 
@@ -436,27 +493,18 @@ fn alike(one: &Book, other: &Book) -> bool {
 /// In any list of messages a number is put forward at most once, and after its acceptance only with the accepted slip.
 #[test]
 fn at_most_once_for_a_number() {
-    let mut chance = Chance(55);
     let (mut ordinary, mut late) = (0, 0);
-    for _ in 0..300 {
-        let page = chance.good_page();
-        let mut book = Book::open(&page).expect("a good page opens");
-        let (mut accepted, mut put) = (Vec::new(), Vec::new());
-        for message in chance.messages(300) {
-            let of = |slip: &Slip| (slip.account, slip.number);
-            match (message, book.call(&message)) {
-                (Message::Ack { slip, .. } | Message::Ruling(slip), Reply::Accepted { .. }) => accepted.push(slip),
-                (_, Reply::PutForward { slip }) => {
-                    assert!(!put.contains(&of(&slip)), "{message}");
-                    put.push(of(&slip));
-                    let before = accepted.iter().find(|accepted| of(accepted) == of(&slip));
-                    assert!(before.map_or(true, |accepted| *accepted == slip), "{message}");
-                    late += u32::from(before.is_some());
-                    ordinary += u32::from(before.is_none());
-                }
-                _ => {}
-            }
+    play_many(55, 300, |book, history, message| {
+        let reply = book.call(message);
+        if let Reply::PutForward { slip } = reply {
+            assert!(!history.has_put_forward(&slip), "{message}");
+            let of_number = |accepted: &&Slip| (accepted.account, accepted.number) == (slip.account, slip.number);
+            let accepted = history.accepted.iter().find(of_number);
+            assert!(accepted.map_or(true, |accepted| *accepted == slip), "{message}");
+            late += u32::from(accepted.is_some());
+            ordinary += u32::from(accepted.is_none());
         }
-    }
+        reply
+    });
     assert!(late > 50 && ordinary > 50, "{late} late, {ordinary} before");
 }

@@ -56,7 +56,10 @@ impl Retentions {
         match (message, reply) {
             (Message::Ack { slip, .. }, ["K", ..]) => drop(self.ruled.insert(slip.account, false)),
             (Message::Ruling(slip), ["K", ..]) => drop(self.ruled.insert(slip.account, true)),
-            (Message::Ack { seat, slip }, ["P", ..]) => return self.put_forward(before, *seat, slip),
+            (Message::Ack { seat, slip }, ["P", ..]) => {
+                let late = before.late(message);
+                return late.map_or(Vec::new(), |retained| self.put_forward(before, *seat, slip, &retained));
+            }
             (Message::Ack { slip, .. }, ["R", code @ ("6" | "8")]) => {
                 let account = before.account(slip.account.into());
                 return self.refused(account, slip, *code == "8").into_iter().collect();
@@ -66,11 +69,7 @@ impl Retentions {
         Vec::new()
     }
 
-    fn put_forward(&mut self, before: &Book, seat: u8, slip: &Slip) -> Vec<&'static str> {
-        let retained = match before.late(slip) {
-            Some(retained) => retained,
-            None => return Vec::new(),
-        };
+    fn put_forward(&mut self, before: &Book, seat: u8, slip: &Slip, retained: &Slip) -> Vec<&'static str> {
         let account = before.account(slip.account.into());
         let waits = account.waiting.is_some();
         let recorded = account.acks[usize::from(seat)].filter(|_| waits);

@@ -1,7 +1,8 @@
 //! Acks for a number that is accepted or booked, request 5 of document 02: the rows of a late P, and of 6 and 8 where none
 //! comes.
 
-use reference::book::{Account, Book, Message, Slip};
+use crate::history::History;
+use reference::book::{Book, Message, Slip};
 use std::collections::BTreeMap;
 
 pub const ROWS: [&str; 16] = [
@@ -33,17 +34,19 @@ const SECOND_ACK: &str = "late P: a seat's second ack";
 /// Once it is booked, with a slip put forward for the next number.
 const NEXT_PUT_FORWARD: &str = "late P: next number put forward";
 const SELF_PAYMENT: &str = "late P: a self-payment";
-/// No late P: 6 and 8 for an ack equal to the retained slip; behind a late P; behind one that came while the slip waited;
-/// behind an ordinary P; and for a lower number.
+/// No late P: 6 and 8 for an ack equal to the retained slip, with nothing put forward; for one that conflicts, behind a late
+/// P, behind one that came while the slip waited, and behind an ordinary P; and for one that conflicts with what was accepted
+/// for a lower number, with nothing put forward.
 const EQUAL: [&str; 2] = ["no late P: equal, 6", "no late P: equal, 8"];
 const LATE_BEFORE: [&str; 2] = ["no late P: late before, 6", "no late P: late before, 8"];
 const WAITED_THEN: &str = "no late P: late when it waited, 6";
 const PUT_FORWARD_BEFORE: [&str; 2] = ["no late P: put forward before, 6", "no late P: put forward before, 8"];
 const LOWER: &str = "no late P: lower number, 6";
 
-/// What became of each account's latest accepted slip.
+/// What the replies told of each number, and of each account's latest accepted slip.
 #[derive(Default)]
 pub struct Retentions {
+    history: History,
     /// whether a ruling accepted it
     ruled: BTreeMap<u8, bool>,
     /// the number that was last put forward late, and whether its slip waited then
@@ -53,22 +56,25 @@ pub struct Retentions {
 impl Retentions {
     /// The rows of a message to this book and of its reply, letter and values.
     pub fn rows(&mut self, before: &Book, message: &Message, reply: &[&str]) -> Vec<&'static str> {
-        match (message, reply) {
-            (Message::Ack { slip, .. }, ["K", ..]) => drop(self.ruled.insert(slip.account, false)),
-            (Message::Ruling(slip), ["K", ..]) => drop(self.ruled.insert(slip.account, true)),
+        let rows = match (message, reply) {
             (Message::Ack { seat, slip }, ["P", ..]) => {
                 let late = before.late(message);
-                return late.map_or(Vec::new(), |retained| self.put_forward(before, *seat, slip, &retained));
+                late.map_or(Vec::new(), |retained| self.put_forward(before, *seat, slip, &retained))
             }
             (Message::Ack { slip, .. }, ["R", code @ ("6" | "8")]) => {
-                let account = before.account(slip.account.into());
-                return self.refused(account, slip, *code == "8").into_iter().collect();
+                self.refused(slip, *code == "8").into_iter().collect()
             }
-            _ => {}
+            _ => Vec::new(),
+        };
+        if let (Message::Ack { slip, .. } | Message::Ruling(slip), ["K", ..]) = (message, reply) {
+            let ruled = matches!(message, Message::Ruling(_));
+            self.ruled.insert(slip.account, ruled);
         }
-        Vec::new()
+        self.history.take(message, reply.first().unwrap_or(&""));
+        rows
     }
 
+    /// The rows of a late P.
     fn put_forward(&mut self, before: &Book, seat: u8, slip: &Slip, retained: &Slip) -> Vec<&'static str> {
         let account = before.account(slip.account.into());
         let waits = account.waiting.is_some();
@@ -88,18 +94,24 @@ impl Retentions {
         rows.iter().filter(|(_, met)| *met).map(|(row, _)| *row).collect()
     }
 
-    /// The row of 8, or of 6, by what the account retains.
-    fn refused(&self, account: &Account, slip: &Slip, waits: bool) -> Option<&'static str> {
-        let retained = account.retained?.slip;
+    /// The row of 8, or of 6, where one thing alone keeps the late P away: the ack is equal to the slip, its number is put
+    /// forward, or a higher one is retained.
+    fn refused(&self, slip: &Slip, waits: bool) -> Option<&'static str> {
+        let (accepted, latest) = (self.history.accepted(slip)?, self.history.latest(slip.account)?);
+        let lower = slip.number < latest.number;
+        let late = self
+            .late
+            .get(&slip.account)
+            .filter(|(number, _)| *number == slip.number);
         let place = usize::from(waits);
-        if slip.number != retained.number {
-            return (slip.number < retained.number).then_some(LOWER);
+        match (accepted != *slip, self.history.has_put_forward(slip), late) {
+            (true, false, _) if lower => Some(LOWER),
+            _ if lower => None,
+            (false, false, _) => Some(EQUAL[place]),
+            (true, true, Some((_, true))) if !waits => Some(WAITED_THEN),
+            (true, true, Some(_)) => Some(LATE_BEFORE[place]),
+            (true, true, None) => Some(PUT_FORWARD_BEFORE[place]),
+            _ => None,
         }
-        Some(match self.late.get(&slip.account) {
-            _ if *slip == retained => EQUAL[place],
-            Some((number, true)) if *number == slip.number && !waits => WAITED_THEN,
-            Some((number, _)) if *number == slip.number => LATE_BEFORE[place],
-            _ => PUT_FORWARD_BEFORE[place],
-        })
     }
 }

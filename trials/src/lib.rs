@@ -8,6 +8,7 @@ pub mod dice;
 pub mod edges;
 pub mod groups;
 pub mod held;
+pub mod history;
 pub mod known;
 pub mod late;
 pub mod ledgers;

@@ -38,6 +38,8 @@ pub fn row(before: &Book, message: &Message, reply: &[&str]) -> Option<String> {
     match (message, reply) {
         (Message::Request(_), ["R", code]) => Some(format!("request: {}", decided(before, message, code))),
         (Message::Slip(_), ["R", code]) => Some(format!("slip: {}", decided(before, message, code))),
+        // a late P carries another slip
+        (Message::Ack { .. }, ["P", ..]) if before.late(message).is_some() => None,
         (Message::Ack { .. }, [letter @ ("N" | "K" | "P"), ..]) => Some(format!("ack of a self-payment: {letter}")),
         (Message::Ruling(_), ["K", ..]) => Some("ruling for a self-payment: K".to_string()),
         _ => None,

@@ -13,11 +13,16 @@ pub struct History {
 }
 
 impl History {
-    /// Takes a message and the letter of its reply: K tells that its slip is accepted, P that its number is put forward.
-    pub fn take(&mut self, message: &Message, letter: &str) {
-        match (message, letter) {
-            (Message::Ack { slip, .. } | Message::Ruling(slip), "K") => drop(self.accepted.insert(key(slip), *slip)),
-            (Message::Ack { slip, .. }, "P") => drop(self.put_forward.insert(key(slip))),
+    /// Takes a message and its reply, as printed or its letter alone: K tells that the slip is accepted, P that its number
+    /// is put forward.
+    pub fn take(&mut self, message: &Message, reply: &str) {
+        match (message, reply.as_bytes().first()) {
+            (Message::Ack { slip, .. } | Message::Ruling(slip), Some(b'K')) => {
+                self.accepted.insert(key(slip), *slip);
+            }
+            (Message::Ack { slip, .. }, Some(b'P')) => {
+                self.put_forward.insert(key(slip));
+            }
             _ => {}
         }
     }

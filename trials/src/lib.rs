@@ -16,6 +16,7 @@ pub mod lent;
 pub mod openings;
 pub mod records;
 pub mod rows;
+pub mod seen;
 pub mod self_payments;
 pub mod taken_over;
 pub mod tallies;

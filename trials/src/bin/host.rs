@@ -186,7 +186,6 @@ fn main() -> ExitCode {
     checks.part("host: a book held from before");
     held_book(&mut checks);
     taken_over::example(&mut checks, &folder);
-    taken_over::random(&mut checks, 0);
     checks.part("host: inputs that are too long or damaged");
     long_inputs(&mut checks, &folder);
     damaged(&mut checks, &folder);

@@ -6,12 +6,12 @@ use crate::dice::Dice;
 use crate::held::same_words;
 use crate::ledgers::with_slip;
 use crate::lent::{told, HeldWords, Lent, Sent, BLOCK, GROUP, NOTHING, REPLY, WORDS};
+use crate::seen::Seen;
 use crate::ties::{self, Ack};
 use crate::trial::caught;
 use crate::waiting;
 use reference::book::{Account, Book, Message, Reply, Retained, Slip};
 use reference::bundle::read_opening;
-use std::collections::BTreeMap;
 
 /// So many contents, each of which gets so many messages.
 const CONTENTS: u64 = 8_000;
@@ -50,7 +50,7 @@ pub fn try_messages(checks: &mut Checks, seed: u64) {
         let refused = refused_by_none(&mut dice);
         checks.same("words that are all 0", refused, Ok(()));
     }
-    let mut seen = Seen::new();
+    let mut seen = Seen::default();
     for index in 1..=CONTENTS {
         let mut dice = Dice::of(seed, index);
         let mut lent = content(&mut dice);
@@ -59,14 +59,12 @@ pub fn try_messages(checks: &mut Checks, seed: u64) {
     }
     let letters = ["C", "A", "K", "N", "B"].iter().chain(&ties::SIZES).chain(&LATE);
     let codes = (4..=12).chain([20]).map(|code| format!("R {code}"));
-    for row in letters.map(|row| row.to_string()).chain(codes) {
-        see(checks, &seen, &row);
-    }
+    seen.table(checks, letters.map(|row| row.to_string()).chain(codes));
 }
 
 /// Words of before request 5, of many contents, are taken over, and get messages.
 pub fn try_switches(checks: &mut Checks, seed: u64) {
-    let mut seen = Seen::new();
+    let mut seen = Seen::default();
     for index in 1..=CONTENTS {
         let mut dice = Dice::of(seed, CONTENTS + index);
         let held = content(&mut dice).as_before();
@@ -76,23 +74,14 @@ pub fn try_switches(checks: &mut Checks, seed: u64) {
         meet_some(checks, &mut dice, &mut lent, &mut seen, &what);
     }
     // what is retained is just what waits
-    LATE[..1].iter().for_each(|row| see(checks, &seen, row));
-}
-
-/// How often each row was seen.
-type Seen = BTreeMap<String, u64>;
-
-fn see(checks: &mut Checks, seen: &Seen, row: &str) {
-    let times = seen.get(row).copied().unwrap_or(0);
-    println!("{row:22} {times:>9}");
-    checks.that(&format!("never seen: {row}"), times > 0);
+    seen.table(checks, &LATE[..1]);
 }
 
 fn meet_some(checks: &mut Checks, dice: &mut Dice, lent: &mut Lent, seen: &mut Seen, what: &str) {
     for _ in 0..MESSAGES {
         let met = caught(|| meet(dice, lent)).and_then(|met| met);
         if let Ok(row) = &met {
-            *seen.entry(row.clone()).or_insert(0) += 1;
+            seen.add(row);
         }
         checks.same(what, met.map(drop), Ok(()));
     }
@@ -165,19 +154,27 @@ fn content(dice: &mut Dice) -> Lent {
     for word in lent.words.iter_mut() {
         *word = if dice.below(8) < full { any_word(dice) } else { 0 };
     }
-    // the retained slip is mostly of the current or the next number, and its mark is 0 more often
-    for block in lent.words[..GROUP].chunks_mut(BLOCK) {
+    retain_near(dice, &mut lent.words[..GROUP]);
+    put_in_range(dice, &mut lent.words[GROUP..]);
+    lent
+}
+
+/// Each account's retained slip becomes mostly one of the current or the next number, and its mark is 0 more often.
+fn retain_near(dice: &mut Dice, accounts: &mut [u32]) {
+    for block in accounts.chunks_mut(BLOCK) {
         let current = block[1];
         block[40] = *dice.pick(&[current, current.wrapping_add(1), current.wrapping_add(1), block[40]]);
         block[42] = *dice.pick(&[0, block[42]]);
     }
-    let group = &mut lent.words[GROUP..];
+}
+
+/// n, f and k mostly become numbers up to their limits, and the opening sum a high one.
+fn put_in_range(dice: &mut Dice, group: &mut [u32]) {
     for (word, limit) in group.iter_mut().zip([16, 3, 32]) {
         let within = dice.portions(0, limit);
         *word = *dice.pick(&[limit, limit, within, within, within, within, 256 + within, *word]);
     }
     group[3] = *dice.pick(&[300, MAX, MAX, MAX, group[3]]);
-    lent
 }
 
 fn any_word(dice: &mut Dice) -> u32 {
@@ -258,7 +255,7 @@ fn late_in_place_of(lent: &Lent, message: &Message) -> Option<&'static str> {
     }
     let code = refusal(&without, message);
     let row = code.map_or("late P for none".to_string(), |code| format!("late P for {code}"));
-    LATE.into_iter().find(|late| **late == row)
+    LATE.into_iter().find(|listed| **listed == row)
 }
 
 /// The retained slip that is put forward late: an ack that meets neither 4 nor 5 conflicts with it, and its mark is 0.
@@ -338,9 +335,9 @@ fn judge(before: &Lent, message: &Message, reply: [u32; REPLY], after: &Lent) ->
     stored(before, &accounts, after)
 }
 
-/// P with the slip that the account retains; its mark is set, and that is all.
-fn put_forward_late(accounts: &mut [Account], ack: Slip) -> Reply {
-    let retained = accounts[usize::from(ack.account)].retained.as_mut();
+/// P with the slip that this one's account retains; its mark is set, and that is all.
+fn put_forward_late(accounts: &mut [Account], slip: Slip) -> Reply {
+    let retained = accounts[usize::from(slip.account)].retained.as_mut();
     let retained = retained.expect("a retained slip");
     retained.put_forward = true;
     Reply::PutForward { slip: retained.slip }

@@ -95,7 +95,6 @@ impl<'a> Life<'a> {
     /// A few messages that belong together, at least one.
     fn scene(&mut self) {
         match self.dice.below(19) {
-            17 | 18 => self.dispute(),
             0..=4 => self.vote(),
             5 => self.tie(),
             6 | 7 => self.pay(),
@@ -104,7 +103,8 @@ impl<'a> Life<'a> {
             11 => self.chain(false),
             12..=14 => self.odd(),
             15 => self.pay_itself(),
-            _ => self.question(),
+            16 => self.question(),
+            _ => self.dispute(),
         }
     }
 
@@ -374,7 +374,7 @@ impl<'a> Life<'a> {
         }
         self.say(Message::Ruling(slip));
         for _ in 0..self.dice.below(4) {
-            self.late(slip);
+            self.bring(slip);
         }
         if !self.dice.once_in(4) {
             let value = self.dice.portions(missing, gift);
@@ -395,8 +395,8 @@ impl<'a> Life<'a> {
         }
     }
 
-    /// A message of any kind for this slip, or for one that conflicts with it.
-    fn late(&mut self, slip: Slip) {
+    /// A message of any kind brings this slip, or one that conflicts with it.
+    fn bring(&mut self, slip: Slip) {
         let slip = if self.dice.once_in(2) { slip } else { self.rival(slip) };
         let seat = self.dice.below(u64::from(self.page.n)) as u8;
         let message = with_slip(self.dice, seat, slip);

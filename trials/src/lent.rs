@@ -32,7 +32,7 @@ pub const GROUP: usize = 32 * BLOCK;
 /// A book's words before request 5 of document 02, when nothing was retained: an account's block ended with the acks.
 pub type HeldWords = [u32; HELD_WORDS];
 pub const HELD_WORDS: usize = 1_252;
-pub const HELD_BLOCK: usize = 39;
+const HELD_BLOCK: usize = 39;
 
 /// The reply to what is no message.
 pub const NOTHING: [u32; REPLY] = [0; REPLY];

@@ -97,10 +97,6 @@ impl Seat {
         }
     }
 
-    fn is_booked(&self, slip: &Slip) -> bool {
-        self.slate.counts().get(usize::from(slip.account)) >= Some(&slip.number)
-    }
-
     /// The accepted slip of the same account and number.
     fn accepted(&self, slip: &Slip) -> Option<Accepted> {
         let accepted = self.latest.get(&slip.account).copied();
@@ -116,10 +112,8 @@ impl Seat {
 
     /// At the switch to the newest rules what is booked is not retained.
     fn switch(&mut self) {
-        let slate = &self.slate;
         for accepted in self.latest.values_mut() {
-            let account = usize::from(accepted.slip.account);
-            accepted.forgotten = slate.counts().get(account) >= Some(&accepted.slip.number);
+            accepted.forgotten = self.slate.has_booked(&accepted.slip);
         }
     }
 }
@@ -182,7 +176,7 @@ impl Walk {
     }
 
     fn put_forward_late(&mut self, call: &Call, sender: u8, accepted: Accepted) {
-        let booked = self.seats[call.seat].is_booked(&accepted.slip);
+        let booked = self.seats[call.seat].slate.has_booked(&accepted.slip);
         let bad = self.bad.get(usize::from(sender)) == Some(&true);
         self.met.extend([
             LATE,

@@ -73,4 +73,9 @@ impl Slate {
     pub fn counts(&self) -> &[u32] {
         &self.counts[..self.accounts]
     }
+
+    /// Whether the slip's number is booked.
+    pub fn has_booked(&self, slip: &Slip) -> bool {
+        self.counts().get(usize::from(slip.account)) >= Some(&slip.number)
+    }
 }

@@ -162,8 +162,8 @@ impl Walk {
     fn book(&mut self, seat: usize) {
         let seat = &mut self.seats[seat];
         let has_switched = seat.has_switched();
-        let counts = seat.slate.counts();
-        let booked = |slip: &Slip| counts.get(usize::from(slip.account)) >= Some(&slip.number);
+        let slate = &seat.slate;
+        let booked = |slip: &Slip| slate.has_booked(slip);
         for (slip, counts) in seat.accepted.iter().filter(|(slip, _)| booked(slip)) {
             self.met.extend((*counts && has_switched).then_some(BOOKED));
             self.met

@@ -128,14 +128,20 @@ impl Council {
         keys.filter(|key| !self.rulings.contains_key(key)).copied().collect()
     }
 
-    /// The numbers on which a council that waits would hear of this seat.
+    /// The open numbers for which this seat has put nothing forward; none if the council does not wait.
     pub fn lacking(&self, seat: usize) -> Vec<Key> {
         if self.wait == Wait::ForOne {
             return Vec::new();
         }
         let mut open = self.open();
-        open.retain(|key| !self.cases[key].slips.contains_key(&seat));
+        open.retain(|key| !self.has_heard(seat, *key));
         open
+    }
+
+    /// Whether this seat has put something forward for the number.
+    pub fn has_heard(&self, seat: usize, key: Key) -> bool {
+        let case = self.cases.get(&key);
+        case.map_or(false, |case| case.slips.contains_key(&seat))
     }
 
     /// Breaks a premise: a ruling although nothing was put forward.

@@ -19,7 +19,8 @@ pub struct Course {
     /// The rules that its book is opened under.
     pub start: Rules,
     /// The round, not the first, at whose beginning it switches to the next rules. It switches again after as many rounds, and
-    /// once more after as many: under the newest rules that changes nothing.
+    /// once more after as many: under the newest rules that changes nothing. Until it has these it may also switch in any
+    /// other round, if a slip waits there.
     pub switch: Option<u64>,
 }
 

@@ -26,6 +26,8 @@ pub struct World {
     acks: BTreeMap<Key, Vec<Message>>,
     /// The slip that an honest seat accepted last for an account.
     accepted: BTreeMap<(usize, u8), Slip>,
+    /// What waited at a switch and is to be provoked about once it is booked.
+    spared: Vec<(usize, Slip)>,
     pub conflicts: u64,
     /// Switches of seats that answer by the newest rules.
     pub idle_switches: u64,
@@ -71,6 +73,7 @@ impl World {
             made: BTreeMap::new(),
             acks: BTreeMap::new(),
             accepted: BTreeMap::new(),
+            spared: Vec::new(),
             conflicts: 0,
             idle_switches: 0,
             record,
@@ -89,70 +92,112 @@ impl World {
             self.provoke();
             self.ask();
         }
+        self.provoke_spared();
         self.rule();
         self.send_again(calm);
         self.send_disputed();
         self.deliver(calm);
     }
 
-    /// Seats switch whose round it is. Homes that had a self-payment acked there try again, and bad seats provoke a late P of
-    /// what waits there.
+    /// Seats switch whose time it is; homes and bad seats answer that.
     fn switch(&mut self, round: u64) {
         for seat in self.honest() {
-            if !self.is_to_switch(seat, round) {
-                continue;
-            }
-            let switching = self.seats.get_mut(&seat).expect("an honest seat");
-            self.idle_switches += u64::from(switching.rules() == Rules::NEWEST);
-            if self.plan.breach == Some(Breach::RunAgain) {
-                switching.run_again();
-            } else {
-                switching.switch();
-            }
-            for slip in self.marks_of_self_payments(seat) {
-                self.try_again(seat, slip);
-            }
-            for slip in self.waiting(seat) {
-                self.provoke_about(seat, slip);
+            if self.is_to_switch(seat, round) {
+                self.switch_seat(seat);
+                self.try_all_again(seat);
+                self.provoke_waiting(seat);
             }
         }
+    }
+
+    fn switch_seat(&mut self, seat: usize) {
+        let switching = self.seats.get_mut(&seat).expect("an honest seat");
+        self.idle_switches += u64::from(switching.rules() == Rules::NEWEST);
+        match self.plan.breach {
+            Some(Breach::RunAgain) => switching.run_again(),
+            _ => switching.switch(),
+        }
+    }
+
+    /// Homes that had a self-payment acked there try again.
+    fn try_all_again(&mut self, seat: usize) {
+        for slip in self.marks_of_self_payments(seat) {
+            self.try_again(seat, slip);
+        }
+    }
+
+    /// Bad seats provoke a late P of what waits there, at once or when it is booked.
+    fn provoke_waiting(&mut self, seat: usize) {
+        for slip in self.waiting(seat) {
+            if self.dice.once_in(3) {
+                self.provoke_thrice(seat, slip);
+            } else {
+                self.spared.push((seat, slip));
+            }
+        }
+    }
+
+    /// What waited at a switch and is booked by now is provoked about.
+    fn provoke_spared(&mut self) {
+        let spared = std::mem::take(&mut self.spared);
+        for (seat, slip) in spared {
+            if self.is_open(seat, &slip) {
+                self.spared.push((seat, slip));
+            } else {
+                self.provoke_thrice(seat, slip);
+            }
+        }
+    }
+
+    /// One of three acks most often brings a late P that can come.
+    fn provoke_thrice(&mut self, seat: usize, accepted: Slip) {
+        for _ in 0..3 {
+            self.provoke_about(seat, accepted);
+        }
+    }
+
+    /// Whether the seat has not booked the slip's number.
+    fn is_open(&self, seat: usize, slip: &Slip) -> bool {
+        slip.number > self.seats[&seat].closings()[usize::from(slip.account)].current
     }
 
     /// The slips that the seat has accepted and not booked.
     fn waiting(&self, seat: usize) -> Vec<Slip> {
-        let closings = self.seats[&seat].closings();
         let accepted = self.accepted.range((seat, 0)..=(seat, u8::MAX)).map(|(_, slip)| *slip);
-        accepted
-            .filter(|slip| slip.number > closings[usize::from(slip.account)].current)
-            .collect()
+        accepted.filter(|slip| self.is_open(seat, slip)).collect()
     }
 
-    /// Its round has come; or a slip waits there, which the newest rules then retain.
+    /// Its round has come; or a slip waits there, which the newest rules retain.
     fn is_to_switch(&mut self, seat: usize, round: u64) -> bool {
         let course = self.plan.courses[seat];
+        let rules = self.seats[&seat].rules();
         match (course.switch, self.plan.breach) {
             // From then on it waits for a mark that it can lose.
             (Some(at), Some(Breach::RunAgain)) => {
-                let has_switched = self.seats[&seat].rules() == Rules::NEWEST;
-                round >= at && !has_switched && !self.marks_of_self_payments(seat).is_empty()
+                round >= at && rules < Rules::NEWEST && !self.marks_of_self_payments(seat).is_empty()
             }
-            (Some(_), _) if self.seats[&seat].rules().next() == Rules::NEWEST && !self.waiting(seat).is_empty() => {
-                course.switches_at(round) || self.dice.once_in(3)
-            }
+            (Some(_), _) if rules < Rules::NEWEST => course.switches_at(round) || self.is_to_retain(seat),
             _ => course.switches_at(round),
         }
     }
 
+    /// Whether a slip waits there for whose number nothing was put forward, or now and then any slip.
+    fn is_to_retain(&mut self, seat: usize) -> bool {
+        let waiting = self.waiting(seat);
+        let mut keys = waiting.iter().map(key_of);
+        keys.any(|key| !self.council.has_heard(seat, key)) || !waiting.is_empty() && self.dice.once_in(3)
+    }
+
     /// The self-payments that the seat has acked and not booked.
     fn marks_of_self_payments(&self, seat: usize) -> Vec<Slip> {
-        let closings = self.seats[&seat].closings();
-        let open = |slip: &Slip| slip.number > closings[usize::from(slip.account)].current;
         let acks = self.acks.values().flatten();
         let slips = acks.filter_map(|ack| match ack {
             Message::Ack { seat: sender, slip } if usize::from(*sender) == seat => Some(*slip),
             _ => None,
         });
-        slips.filter(|slip| slip.pays_itself() && open(slip)).collect()
+        slips
+            .filter(|slip| slip.pays_itself() && self.is_open(seat, slip))
+            .collect()
     }
 
     /// A home sends its self-payment to the seat again, and a slip to another recipient to that seat or to all.
@@ -342,12 +387,16 @@ impl World {
     fn send_disputed(&mut self) {
         for seat in self.honest() {
             for key in self.council.lacking(seat) {
-                let acks = self.acks.get(&key).cloned().unwrap_or_default();
-                for ack in acks {
-                    if self.dice.once_in(4) && !self.network.is_on_its_way(seat, &ack) {
-                        self.network.send(seat, ack);
-                    }
-                }
+                self.send_acks_again(seat, key);
+            }
+        }
+    }
+
+    /// Some of the honest acks of a number, if they are not on their way to the seat.
+    fn send_acks_again(&mut self, seat: usize, key: Key) {
+        for ack in self.acks.get(&key).cloned().unwrap_or_default() {
+            if self.dice.once_in(4) && !self.network.is_on_its_way(seat, &ack) {
+                self.network.send(seat, ack);
             }
         }
     }

@@ -1,6 +1,7 @@
 //! What is broken on purpose, to show that the checks can fail: one premise, the text that `daybook` printed, or a switch.
 
 use super::demand3::{self, Check};
+use super::late::Wrong;
 use super::lies::Lie;
 use super::plan::Plan;
 use super::premises::{self, Premise};
@@ -43,7 +44,7 @@ impl Breach {
         all.push(Breach::TwoPages);
         all.extend([Lie::BalanceOneMore, Lie::AcceptedAsNoted, Lie::AcceptedTwice].map(Breach::Told));
         all.extend([Lie::LastOfTied, Lie::TiedAtHand].map(Breach::Told));
-        all.extend([Lie::LateAtHand, Lie::LateAgain].map(Breach::Told));
+        all.extend(Wrong::ALL.map(Lie::PutForward).map(Breach::Told));
         all.push(Breach::RunAgain);
         all
     }
@@ -61,8 +62,13 @@ impl Breach {
             Breach::Told(Lie::AcceptedTwice) => "a text with two K at one number",
             Breach::Told(Lie::LastOfTied) => "a text with P for the last of the tied slips",
             Breach::Told(Lie::TiedAtHand) => "a text with P for the tied slip at hand",
-            Breach::Told(Lie::LateAtHand) => "a text with a late P for the slip at hand",
-            Breach::Told(Lie::LateAgain) => "a text with a late P twice",
+            Breach::Told(Lie::PutForward(Wrong::NoAck)) => "a text with a P on a ruling",
+            Breach::Told(Lie::PutForward(Wrong::OtherNumber)) => "a text with a late P for the next number",
+            Breach::Told(Lie::PutForward(Wrong::Again)) => "a text with a late P twice",
+            Breach::Told(Lie::PutForward(Wrong::OtherSlip)) => "a text with a late P for the slip at hand",
+            Breach::Told(Lie::PutForward(Wrong::NotDue)) => "a text with a late P on an equal ack",
+            Breach::Told(Lie::PutForward(Wrong::Passed)) => "a text with a P for a number before the accepted one",
+            Breach::Told(Lie::PutForward(Wrong::Missing)) => "a text with 6 or 8 in the place of a late P",
             Breach::RunAgain => "a seat that in the place of its switch runs its old bundle again, and loses a mark",
         };
         name.to_string()
@@ -81,12 +87,12 @@ impl Breach {
         }
     }
 
-    /// Whether this check has to notice it. Two acks, or put-forwards that are not due, are only the way to books that part; a
-    /// false late P may part them too, but has to be noticed as such.
+    /// Whether this check has to notice it. Two acks or wrong put-forwards are only the way to books that part; where they are
+    /// what is broken, they may part them too, but have to be noticed as such.
     fn shows_in(self, check: Check) -> bool {
         match self {
-            Breach::Told(Lie::LateAtHand | Lie::LateAgain) => check == Check::PutForward,
-            _ => ![Check::AckedOnce, Check::PutForward].contains(&check),
+            Breach::Told(Lie::PutForward(wrong)) => check == Check::PutForward(wrong),
+            _ => !matches!(check, Check::AckedOnce | Check::PutForward(_)),
         }
     }
 

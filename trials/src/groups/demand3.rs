@@ -2,7 +2,7 @@
 //! alike, that each seat answers by its rules, and that it puts forward once for a number.
 
 use super::alike;
-use super::late;
+use super::late::{self, Wrong};
 use super::printed::{Closing, Reply};
 use super::record::{key_of, Call, Event, Key, Record};
 use super::slate::Slate;
@@ -23,7 +23,7 @@ pub enum Check {
     /// Not of demand 3, but of document 02, requests 2, 3 and 5.
     Alike,
     Rules,
-    PutForward,
+    PutForward(Wrong),
 }
 
 pub struct Failure {
@@ -41,7 +41,11 @@ pub fn failures(record: &Record) -> Vec<Failure> {
     all.extend(of(Check::AckedOnce, acked_once(record)));
     all.extend(of(Check::Alike, alike::faults(record)));
     all.extend(of(Check::Rules, switches::faults(record)));
-    all.extend(of(Check::PutForward, late::faults(record)));
+    let late = late::faults(record).into_iter();
+    all.extend(late.map(|(wrong, what)| Failure {
+        check: Check::PutForward(wrong),
+        what,
+    }));
     all
 }
 

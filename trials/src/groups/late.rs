@@ -1,10 +1,11 @@
-//! Request 5 of document 02 on a recorded run, read off the calls alone: a seat puts forward at most once for a number; once
-//! it has accepted, only the accepted slip, only under the newest rules, and then always when an ack conflicts with it.
+//! Request 5 of document 02 on a recorded run, read off the pages and calls alone: a seat puts forward at most once for a
+//! number; once it has accepted, only the latest accepted slip, only under the newest rules, and then always when an ack
+//! conflicts with it.
 
 use super::printed::Reply;
 use super::record::{key_of, Call, Key, Record};
 use super::slate::Slate;
-use reference::book::{Message, Slip};
+use reference::book::{Message, OpeningPage, Slip};
 use reference::rules::Rules;
 use std::collections::{HashMap, HashSet};
 
@@ -38,8 +39,44 @@ pub const ROWS: [&str; 13] = [
     EARLIER_RULES,
 ];
 
+/// How a reply can be wrong.
+#[derive(Clone, Copy, PartialEq, Eq, Debug)]
+pub enum Wrong {
+    NoAck,
+    OtherNumber,
+    Again,
+    OtherSlip,
+    NotDue,
+    Passed,
+    Missing,
+}
+
+impl Wrong {
+    pub const ALL: [Wrong; 7] = [
+        Wrong::NoAck,
+        Wrong::OtherNumber,
+        Wrong::Again,
+        Wrong::OtherSlip,
+        Wrong::NotDue,
+        Wrong::Passed,
+        Wrong::Missing,
+    ];
+
+    fn text(self) -> &'static str {
+        match self {
+            Wrong::NoAck => "is answered P and is no ack",
+            Wrong::OtherNumber => "is answered P for another account or number",
+            Wrong::Again => "is answered P for a number that was put forward before",
+            Wrong::OtherSlip => "is answered P with another slip than the accepted one",
+            Wrong::NotDue => "is answered by a late P that is not due",
+            Wrong::Passed => "is answered P for a booked number that is not the latest accepted one",
+            Wrong::Missing => "has to be answered by a late P",
+        }
+    }
+}
+
 /// What is wrong with the put-forwards of the run.
-pub fn faults(record: &Record) -> Vec<String> {
+pub fn faults(record: &Record) -> Vec<(Wrong, String)> {
     walked(record).faults
 }
 
@@ -49,10 +86,9 @@ pub fn met(record: &Record) -> Vec<&'static str> {
 }
 
 fn walked(record: &Record) -> Walk {
-    let seats = record.pages.iter().map(|page| Seat::open(Slate::new(page)));
     let mut walk = Walk {
         bad: record.bad.clone(),
-        seats: seats.collect(),
+        seats: record.pages.iter().map(Seat::open).collect(),
         faults: Vec::new(),
         met: Vec::new(),
     };
@@ -63,12 +99,13 @@ fn walked(record: &Record) -> Walk {
 struct Walk {
     bad: Vec<bool>,
     seats: Vec<Seat>,
-    faults: Vec<String>,
+    faults: Vec<(Wrong, String)>,
     met: Vec<&'static str>,
 }
 
 /// What a seat did so far.
 struct Seat {
+    page: OpeningPage,
     slate: Slate,
     rules: Option<Rules>,
     /// The latest accepted slip of each account.
@@ -82,19 +119,34 @@ struct Accepted {
     by_ruling: bool,
     /// Whether anything was put forward for its number before.
     before: bool,
-    /// Accepted under earlier rules; and booked under them too, so that it is not retained.
+    /// Accepted under earlier rules.
     earlier: bool,
+    /// Booked under them too, so that it is not retained.
     forgotten: bool,
 }
 
 impl Seat {
-    fn open(slate: Slate) -> Seat {
+    fn open(page: &OpeningPage) -> Seat {
         Seat {
-            slate,
+            page: page.clone(),
+            slate: Slate::new(page),
             rules: None,
             latest: HashMap::new(),
             put_forward: HashSet::new(),
         }
+    }
+
+    /// Whether an ack passes 4 and 5.
+    fn is_in_range(&self, sender: u8, slip: &Slip) -> bool {
+        let Slip {
+            account,
+            number,
+            value,
+            recipient,
+        } = *slip;
+        let OpeningPage { n, k, .. } = self.page;
+        let within = value > 0 && u64::from(value) <= self.page.sum();
+        sender < n && account < k && recipient < k && number > 0 && within
     }
 
     /// The accepted slip of the same account and number.
@@ -103,11 +155,12 @@ impl Seat {
         accepted.filter(|accepted| accepted.slip.number == slip.number)
     }
 
-    /// Whether this ack, which is in range, has to be answered by a late P.
-    fn is_due(&self, rules: Rules, slip: &Slip) -> bool {
+    /// Whether this ack has to be answered by a late P.
+    fn is_due(&self, rules: Rules, sender: u8, slip: &Slip) -> bool {
         let fresh = !self.put_forward.contains(&key_of(slip));
         let retained = |accepted: Accepted| accepted.slip != *slip && !accepted.forgotten;
-        rules.put_forward_late() && fresh && self.accepted(slip).map_or(false, retained)
+        let conflicts = self.accepted(slip).map_or(false, retained);
+        rules.put_forward_late() && fresh && conflicts && self.is_in_range(sender, slip)
     }
 
     /// At the switch to the newest rules what is booked is not retained.
@@ -128,7 +181,7 @@ impl Walk {
         if let Message::Ack { seat, slip } = call.message {
             self.ack(call, seat, slip);
         } else if call.put_forward().is_some() {
-            self.fault(call, "is answered P and is no ack");
+            self.fault(call, Wrong::NoAck);
         }
         if let Some(slip) = call.accepted() {
             self.accept(call, slip);
@@ -138,9 +191,10 @@ impl Walk {
         seat.slate.feed(call);
     }
 
-    fn fault(&mut self, call: &Call, what: &str) {
+    fn fault(&mut self, call: &Call, wrong: Wrong) {
         let Call { seat, message, .. } = call;
-        self.faults.push(format!("at seat {seat} {message} {what}"));
+        let what = format!("at seat {seat} {message} {}", wrong.text());
+        self.faults.push((wrong, what));
     }
 
     fn accept(&mut self, call: &Call, slip: Slip) {
@@ -157,20 +211,18 @@ impl Walk {
 
     fn ack(&mut self, call: &Call, sender: u8, slip: Slip) {
         let seat = &self.seats[call.seat];
-        let (due, accepted) = (seat.is_due(call.rules, &slip), seat.accepted(&slip));
-        let in_range = !matches!(call.reply, Reply::Refused { code: 4 | 5 });
+        let (due, accepted) = (seat.is_due(call.rules, sender, &slip), seat.accepted(&slip));
+        let refused = matches!(call.reply, Reply::Refused { code: 6 | 8 });
         match (call.put_forward(), accepted) {
-            (Some(put), _) if seat.put_forward.contains(&key_of(&put)) => {
-                self.fault(call, "is answered P for a number that was put forward before")
-            }
-            (Some(put), Some(accepted)) if put != accepted.slip => {
-                self.fault(call, "is answered P with another slip than the accepted one")
-            }
-            (Some(_), Some(_)) if !due => self.fault(call, "is answered by a late P that is not due"),
+            (Some(put), _) if key_of(&put) != key_of(&slip) => self.fault(call, Wrong::OtherNumber),
+            (Some(put), _) if seat.put_forward.contains(&key_of(&put)) => self.fault(call, Wrong::Again),
+            (Some(put), Some(accepted)) if put != accepted.slip => self.fault(call, Wrong::OtherSlip),
+            (Some(_), Some(_)) if !due => self.fault(call, Wrong::NotDue),
             (Some(_), Some(accepted)) => self.put_forward_late(call, sender, accepted),
+            (Some(put), None) if seat.slate.has_booked(&put) => self.fault(call, Wrong::Passed),
             (Some(_), None) => self.met.push(ORDINARY),
-            (None, _) if due && in_range => self.fault(call, "has to be answered by a late P"),
-            (None, Some(accepted)) if accepted.slip != slip && in_range => self.not_late(call, accepted),
+            (None, _) if due => self.fault(call, Wrong::Missing),
+            (None, Some(accepted)) if accepted.slip != slip && refused => self.not_late(call, accepted),
             _ => {}
         }
     }

@@ -1,8 +1,10 @@
 //! Lies told in the place of `daybook`: changes to its printed text, which the checks have to notice.
 
+use super::late::Wrong;
 use super::record::key_of;
 use crate::ties::{tied, Ack, Arrivals};
-use reference::book::{Message, Slip};
+use reference::book::{Book, Message, OpeningPage, Reply, Slip};
+use reference::rules::Rules;
 use std::collections::HashMap;
 
 #[derive(Clone, Copy, PartialEq, Eq, Debug)]
@@ -11,21 +13,19 @@ pub enum Lie {
     BalanceOneMore,
     /// The first K is printed as N.
     AcceptedAsNoted,
-    /// The first refusal of a slip that conflicts with an accepted one is printed as K.
+    /// The first reply to a slip that conflicts with an accepted one is printed as K.
     AcceptedTwice,
     /// Each P carries, of the tied slips, the last by its lowest seat.
     LastOfTied,
     /// Each P carries the slip of the ack at hand, if it is one of the tied ones.
     TiedAtHand,
-    /// Each late P carries the slip of the ack at hand, and not the retained one.
-    LateAtHand,
-    /// An ack that brought a late P brings it again when it comes again.
-    LateAgain,
+    /// Put-forwards that are wrong in this way.
+    PutForward(Wrong),
 }
 
 impl Lie {
-    /// The text of a bundle of these messages, changed. A longer bundle is lied about at the same places.
-    pub fn told(self, text: &str, messages: &[Message]) -> String {
+    /// The text of a bundle of this page and these messages, changed. A longer bundle is lied about at the same places.
+    pub fn told(self, text: &str, page: &OpeningPage, messages: &[Message]) -> String {
         let mut lines: Vec<String> = text.lines().map(str::to_string).collect();
         match self {
             Lie::BalanceOneMore => balance_one_more(&mut lines[messages.len()]),
@@ -39,8 +39,9 @@ impl Lie {
             }
             Lie::LastOfTied => put_others_forward(&mut lines, messages, last_of_tied),
             Lie::TiedAtHand => put_others_forward(&mut lines, messages, tied_at_hand),
-            Lie::LateAtHand => late_at_hand(&mut lines, messages),
-            Lie::LateAgain => late_again(&mut lines, messages),
+            Lie::PutForward(Wrong::Again) => late_again(&mut lines, messages),
+            Lie::PutForward(Wrong::Missing) => late_refused(&mut lines, page, messages),
+            Lie::PutForward(wrong) => put_forward_wrongly(&mut lines, messages, wrong),
         }
         lines.join("\n") + "\n"
     }
@@ -112,16 +113,51 @@ fn put_forward(lines: &mut [String], place: usize, slip: &Slip) {
     put_reply(lines, Some(place), &format!("P {account} {number} {value} {recipient}"));
 }
 
-/// Each late P carries the slip of its ack.
-fn late_at_hand(lines: &mut [String], messages: &[Message]) {
-    let mut recorded = Arrivals::default();
+/// Where a slip of the account is accepted, an ack or ruling is answered P as `wrong_slip` has it.
+fn put_forward_wrongly(lines: &mut [String], messages: &[Message], wrong: Wrong) {
+    let mut latest: HashMap<u8, Slip> = HashMap::new();
     for (place, message) in messages.iter().enumerate() {
-        if let Message::Ack { slip, .. } = message {
-            if has_letter(&lines[place], "P") && recorded.has_accepted(slip) {
-                put_forward(lines, place, slip);
-            }
+        let slip = match message {
+            Message::Ack { slip, .. } | Message::Ruling(slip) => *slip,
+            _ => continue,
+        };
+        let reply = reply_of(&lines[place]);
+        if reply.starts_with('K') {
+            latest.insert(slip.account, slip);
+        } else if let Some(accepted) = latest.get(&slip.account) {
+            let put = wrong_slip(wrong, message, &reply, accepted);
+            put.iter().for_each(|put| put_forward(lines, place, put));
         }
-        recorded.take(message, letter_of(&lines[place]));
+    }
+}
+
+/// The slip that is put forward in this wrong way on a message that has this reply.
+fn wrong_slip(wrong: Wrong, message: &Message, reply: &str, accepted: &Slip) -> Option<Slip> {
+    let next = Slip {
+        number: accepted.number + 1,
+        ..*accepted
+    };
+    let is_late = |slip: &Slip| reply.starts_with('P') && slip.number == accepted.number;
+    let refused = ["R 6", "R 8"].contains(&reply);
+    match (wrong, message) {
+        (Wrong::NoAck, Message::Ruling(slip)) if refused => Some(*slip),
+        (Wrong::OtherNumber, Message::Ack { slip, .. }) if is_late(slip) => Some(next),
+        (Wrong::OtherSlip, Message::Ack { slip, .. }) if is_late(slip) => Some(*slip),
+        (Wrong::NotDue, Message::Ack { slip, .. }) if refused && slip == accepted => Some(*slip),
+        (Wrong::Passed, Message::Ack { slip, .. }) if refused && slip.number < accepted.number => Some(*slip),
+        _ => None,
+    }
+}
+
+/// Each late P is printed as the refusal that stands in its place under the rules before.
+fn late_refused(lines: &mut [String], page: &OpeningPage, messages: &[Message]) {
+    let mut before = Book::open(page)
+        .expect("a page that opens")
+        .under(Rules::NoSelfPayments);
+    for (place, message) in messages.iter().enumerate() {
+        if let (Reply::Refused(code), "P") = (before.call(message), letter_of(&lines[place])) {
+            put_reply(lines, Some(place), &format!("R {code}"));
+        }
     }
 }
 

@@ -157,7 +157,7 @@ impl Seat {
     fn printed(&self, lie: Option<Lie>) -> Result<Printed, String> {
         let text = String::from_utf8_lossy(&daybook::text_of(&self.bundle())).into_owned();
         let text = match lie {
-            Some(lie) => lie.told(&text, &self.messages),
+            Some(lie) => lie.told(&text, &self.page, &self.messages),
             None => text,
         };
         printed::read(&text, self.messages.len(), self.page.k.into())

@@ -5,6 +5,7 @@
 use super::printed::Reply;
 use super::record::{key_of, Call, Key, Record};
 use super::slate::Slate;
+use crate::ties::Ack;
 use reference::book::{Message, OpeningPage, Slip};
 use reference::rules::Rules;
 use std::collections::{HashMap, HashSet};
@@ -17,13 +18,16 @@ pub const BY_ACKS: &str = "late P of a slip accepted by acks";
 pub const BY_RULING: &str = "late P of a slip accepted by a ruling";
 pub const OF_HONEST: &str = "late P on an honest seat's ack";
 pub const OF_BAD: &str = "late P on a bad seat's ack";
-pub const ACROSS: &str = "late P of a slip that was accepted before the switch";
+pub const ACROSS_WAITS: &str = "late P of a slip that was accepted before the switch, while it waits";
+pub const ACROSS_BOOKED: &str = "late P of a slip that was accepted before the switch, once it is booked";
 pub const USED_UP: &str = "a conflicting ack met with 6 or 8: put forward before the acceptance";
+pub const MARK_ACROSS: &str = "a conflicting ack met with 6 or 8: put forward and accepted before the switch";
 pub const REPEATED: &str = "a conflicting ack met with 6 or 8: put forward late";
 pub const BOOKED_BEFORE: &str = "a conflicting ack met with 6: booked before the switch";
 pub const EARLIER_RULES: &str = "a conflicting ack met with 6 or 8: earlier rules";
+pub const BOTH_WAYS: &str = "a conflicting ack met with a late P, and at a seat of earlier rules with 6 or 8";
 
-pub const ROWS: [&str; 13] = [
+pub const ROWS: [&str; 16] = [
     ORDINARY,
     LATE,
     WAITS,
@@ -32,11 +36,14 @@ pub const ROWS: [&str; 13] = [
     BY_RULING,
     OF_HONEST,
     OF_BAD,
-    ACROSS,
+    ACROSS_WAITS,
+    ACROSS_BOOKED,
     USED_UP,
+    MARK_ACROSS,
     REPEATED,
     BOOKED_BEFORE,
     EARLIER_RULES,
+    BOTH_WAYS,
 ];
 
 /// How a reply can be wrong.
@@ -89,6 +96,7 @@ fn walked(record: &Record) -> Walk {
     let mut walk = Walk {
         bad: record.bad.clone(),
         seats: record.pages.iter().map(Seat::open).collect(),
+        ways: HashMap::new(),
         faults: Vec::new(),
         met: Vec::new(),
     };
@@ -99,6 +107,9 @@ fn walked(record: &Record) -> Walk {
 struct Walk {
     bad: Vec<bool>,
     seats: Vec<Seat>,
+    /// How each ack, by its sender and slip, that conflicts with an accepted slip, the last here, was met: `true` by a late P,
+    /// `false` under earlier rules alone with 6 or 8.
+    ways: HashMap<(u8, Slip, Slip), HashSet<bool>>,
     faults: Vec<(Wrong, String)>,
     met: Vec<&'static str>,
 }
@@ -218,37 +229,51 @@ impl Walk {
             (Some(put), _) if seat.put_forward.contains(&key_of(&put)) => self.fault(call, Wrong::Again),
             (Some(put), Some(accepted)) if put != accepted.slip => self.fault(call, Wrong::OtherSlip),
             (Some(_), Some(_)) if !due => self.fault(call, Wrong::NotDue),
-            (Some(_), Some(accepted)) => self.put_forward_late(call, sender, accepted),
+            (Some(_), Some(accepted)) => self.put_forward_late(call, (sender, slip), accepted),
             (Some(put), None) if seat.slate.has_booked(&put) => self.fault(call, Wrong::Passed),
             (Some(_), None) => self.met.push(ORDINARY),
             (None, _) if due => self.fault(call, Wrong::Missing),
-            (None, Some(accepted)) if accepted.slip != slip && refused => self.not_late(call, accepted),
+            (None, Some(accepted)) if accepted.slip != slip && refused => self.not_late(call, (sender, slip), accepted),
             _ => {}
         }
     }
 
-    fn put_forward_late(&mut self, call: &Call, sender: u8, accepted: Accepted) {
+    fn put_forward_late(&mut self, call: &Call, ack: Ack, accepted: Accepted) {
         let booked = self.seats[call.seat].slate.has_booked(&accepted.slip);
-        let bad = self.bad.get(usize::from(sender)) == Some(&true);
+        let bad = self.bad.get(usize::from(ack.0)) == Some(&true);
         self.met.extend([
             LATE,
             if booked { BOOKED } else { WAITS },
             if accepted.by_ruling { BY_RULING } else { BY_ACKS },
             if bad { OF_BAD } else { OF_HONEST },
         ]);
-        self.met.extend(accepted.earlier.then_some(ACROSS));
+        let across = if booked { ACROSS_BOOKED } else { ACROSS_WAITS };
+        self.met.extend(accepted.earlier.then_some(across));
+        self.note_way(ack, accepted, true);
     }
 
-    /// A conflicting ack that meets 6 or 8 all the same.
-    fn not_late(&mut self, call: &Call, accepted: Accepted) {
-        self.met.push(if !call.rules.put_forward_late() {
-            EARLIER_RULES
-        } else if accepted.before {
-            USED_UP
-        } else if accepted.forgotten {
-            BOOKED_BEFORE
-        } else {
-            REPEATED
-        });
+    /// A conflicting ack that meets 6 or 8 all the same. It is counted where one reason alone decides.
+    fn not_late(&mut self, call: &Call, ack: Ack, accepted: Accepted) {
+        let Accepted { before, forgotten, .. } = accepted;
+        match (call.rules.put_forward_late(), before, forgotten) {
+            (false, false, _) => {
+                self.met.push(EARLIER_RULES);
+                self.note_way(ack, accepted, false);
+            }
+            (true, true, false) => self.met.push(if accepted.earlier { MARK_ACROSS } else { USED_UP }),
+            (true, false, true) => self.met.push(BOOKED_BEFORE),
+            (true, false, false) => self.met.push(REPEATED),
+            _ => {}
+        }
+    }
+
+    /// Counts an ack when it has been met in both ways, each at a seat that accepted the same slip and put nothing forward
+    /// before.
+    fn note_way(&mut self, ack: Ack, accepted: Accepted, late: bool) {
+        let (sender, slip) = ack;
+        let ways = self.ways.entry((sender, slip, accepted.slip)).or_default();
+        if ways.insert(late) && ways.len() == 2 {
+            self.met.push(BOTH_WAYS);
+        }
     }
 }

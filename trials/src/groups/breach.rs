@@ -27,6 +27,8 @@ pub enum Breach {
     /// The premises are kept, but in the place of its switch a seat runs its old bundle again: the mark of a self-payment is
     /// lost.
     RunAgain,
+    /// The premises are kept, but seats retain nothing when they switch to the newest rules.
+    NothingRetained,
 }
 
 impl Breach {
@@ -45,7 +47,7 @@ impl Breach {
         all.extend([Lie::BalanceOneMore, Lie::AcceptedAsNoted, Lie::AcceptedTwice].map(Breach::Told));
         all.extend([Lie::LastOfTied, Lie::TiedAtHand].map(Breach::Told));
         all.extend(Wrong::ALL.map(Lie::PutForward).map(Breach::Told));
-        all.push(Breach::RunAgain);
+        all.extend([Breach::RunAgain, Breach::NothingRetained]);
         all
     }
 
@@ -70,6 +72,7 @@ impl Breach {
             Breach::Told(Lie::PutForward(Wrong::Passed)) => "a text with a P for a number before the accepted one",
             Breach::Told(Lie::PutForward(Wrong::Missing)) => "a text with 6 or 8 in the place of a late P",
             Breach::RunAgain => "a seat that in the place of its switch runs its old bundle again, and loses a mark",
+            Breach::NothingRetained => "seats that retain nothing at their switch",
         };
         name.to_string()
     }
@@ -83,7 +86,7 @@ impl Breach {
             Breach::OtherRuling => Some(Premise::OnlyOnePutForward),
             Breach::BadSeats { .. } => Some(Premise::AtMostFBad),
             Breach::TwoPages => Some(Premise::OnePage),
-            Breach::Told(_) | Breach::RunAgain => None,
+            Breach::Told(_) | Breach::RunAgain | Breach::NothingRetained => None,
         }
     }
 
@@ -92,6 +95,7 @@ impl Breach {
     fn shows_in(self, check: Check) -> bool {
         match self {
             Breach::Told(Lie::PutForward(wrong)) => check == Check::PutForward(wrong),
+            Breach::NothingRetained => check == Check::PutForward(Wrong::Missing),
             _ => !matches!(check, Check::AckedOnce | Check::PutForward(_)),
         }
     }

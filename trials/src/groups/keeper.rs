@@ -49,6 +49,12 @@ impl Keeper {
         self.lent = Some(Lent::of(&self.page, &self.book));
     }
 
+    /// What is no switch either: the newest rules, with nothing retained of what waits.
+    pub fn switch_bare(&mut self) {
+        self.book = self.book.clone().under(Rules::NEWEST);
+        self.lent = Some(Lent::of(&self.page, &self.book));
+    }
+
     /// The replies; Err beside them says where the real library first differs.
     pub fn answer(&mut self, messages: &[Message]) -> (Vec<Reply>, Result<(), String>) {
         let mut replies = Vec::new();

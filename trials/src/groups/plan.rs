@@ -98,34 +98,24 @@ impl Plan {
     /// A run that aims at a failed check: conflicts at every number, so that the bad seats, the council or the liar
     /// can make something of them.
     pub fn aimed(breach: Breach, dice: &mut Dice) -> Plan {
-        let (n, f, bad) = match breach {
-            Breach::BadSeats { n, f, bad } => (n, f, bad),
-            // Without conflicting acks nothing is put forward, which keeps an early ruling early.
-            Breach::EarlyRuling => (6, 1, 0),
-            // All acks are needed, so that seats put forward on equal ones, and halves are tied.
-            Breach::Told(Lie::LastOfTied | Lie::TiedAtHand) => *dice.pick(&[(2, 0, 0), (4, 0, 0), (6, 0, 0)]),
-            // One seat that acks twice is enough to part the two others.
-            Breach::RunAgain => (3, 0, 0),
-            _ => *dice.pick(&[(6, 1, 1), (8, 1, 1), (11, 2, 2)]),
+        let (n, f, bad) = aimed_group(breach, dice);
+        let (rounds, k) = match breach {
+            // Slips have to wait.
+            Breach::NothingRetained => (40, dice.within(4, 8)),
+            // There has to be another recipient than the payer.
+            _ => (10, dice.within(2, 3)),
         };
-        // There has to be another recipient than the payer.
-        let mut pages = vec![page(n, f, dice.within(2, 3), dice); n];
+        let mut pages = vec![page(n, f, k, dice); n];
         if breach == Breach::TwoPages {
             let seat = dice.below(n as u64) as usize;
             pages[seat].balances[0] ^= 1;
         }
-        let mut courses = vec![Course::NEWEST; n];
-        if breach == Breach::RunAgain {
-            let start = Rules::First;
-            courses = vec![Course { start, switch: None }; n];
-            courses[dice.below(n as u64) as usize].switch = Some(1);
-        }
         Plan {
             pages,
             bad: chosen(n, bad, dice),
-            courses,
+            courses: aimed_courses(breach, n, rounds, dice),
             wait: Wait::ForOne,
-            rounds: 10,
+            rounds,
             calm: 0,
             batch: 4 * n as u64,
             every_call: false,
@@ -133,6 +123,33 @@ impl Plan {
             to_itself: if breach == Breach::RunAgain { 2 } else { 6 },
             breach: Some(breach),
         }
+    }
+}
+
+/// n, f and the number of bad seats.
+fn aimed_group(breach: Breach, dice: &mut Dice) -> (usize, usize, usize) {
+    match breach {
+        Breach::BadSeats { n, f, bad } => (n, f, bad),
+        // Without conflicting acks nothing is put forward, which keeps an early ruling early.
+        Breach::EarlyRuling => (6, 1, 0),
+        // All acks are needed, so that seats put forward on equal ones, and halves are tied.
+        Breach::Told(Lie::LastOfTied | Lie::TiedAtHand) => *dice.pick(&[(2, 0, 0), (4, 0, 0), (6, 0, 0)]),
+        // One seat that acks twice is enough to part the two others.
+        Breach::RunAgain => (3, 0, 0),
+        _ => *dice.pick(&[(6, 1, 1), (8, 1, 1), (11, 2, 2)]),
+    }
+}
+
+fn aimed_courses(breach: Breach, n: usize, rounds: u64, dice: &mut Dice) -> Vec<Course> {
+    let of = |start, switch| vec![Course { start, switch }; n];
+    match breach {
+        Breach::RunAgain => {
+            let mut courses = of(Rules::First, None);
+            courses[dice.below(n as u64) as usize].switch = Some(1);
+            courses
+        }
+        Breach::NothingRetained => of(Rules::NoSelfPayments, Some(rounds - 1)),
+        _ => of(Rules::NEWEST, None),
     }
 }
 

@@ -85,6 +85,13 @@ impl Seat {
         }
     }
 
+    /// In the place of a switch, the seat takes the newest rules and retains nothing.
+    pub fn switch_bare(&mut self) {
+        if let Clerk::Keeper(keeper) = &mut self.clerk {
+            keeper.switch_bare();
+        }
+    }
+
     /// How many more messages fit in its bundle.
     pub fn room(&self) -> usize {
         MOST_MESSAGES - self.messages.len()

@@ -115,6 +115,7 @@ impl World {
         self.idle_switches += u64::from(switching.rules() == Rules::NEWEST);
         match self.plan.breach {
             Some(Breach::RunAgain) => switching.run_again(),
+            Some(Breach::NothingRetained) => switching.switch_bare(),
             _ => switching.switch(),
         }
     }

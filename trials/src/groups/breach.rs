@@ -1,4 +1,5 @@
-//! What is broken on purpose, to show that the checks can fail: one premise, the text that `daybook` printed, or a switch.
+//! What is broken on purpose, to show that the checks can fail: one premise, the text that `daybook` printed, a switch, or the
+//! council's wait.
 
 use super::demand3::{self, Check};
 use super::late::Wrong;
@@ -29,6 +30,8 @@ pub enum Breach {
     RunAgain,
     /// The premises are kept, but seats retain nothing when they switch to the newest rules.
     NothingRetained,
+    /// The premises are kept, but a council that has to wait for n - f seats rules as soon as one has put something forward.
+    NoWait,
 }
 
 impl Breach {
@@ -47,7 +50,7 @@ impl Breach {
         all.extend([Lie::BalanceOneMore, Lie::AcceptedAsNoted, Lie::AcceptedTwice].map(Breach::Told));
         all.extend([Lie::LastOfTied, Lie::TiedAtHand].map(Breach::Told));
         all.extend(Wrong::ALL.map(Lie::PutForward).map(Breach::Told));
-        all.extend([Breach::RunAgain, Breach::NothingRetained]);
+        all.extend([Breach::RunAgain, Breach::NothingRetained, Breach::NoWait]);
         all
     }
 
@@ -73,6 +76,7 @@ impl Breach {
             Breach::Told(Lie::PutForward(Wrong::Missing)) => "a text with 6 or 8 in the place of a late P",
             Breach::RunAgain => "a seat that in the place of its switch runs its old bundle again, and loses a mark",
             Breach::NothingRetained => "seats that retain nothing at their switch",
+            Breach::NoWait => "a council that does not wait for n - f seats",
         };
         name.to_string()
     }
@@ -86,17 +90,18 @@ impl Breach {
             Breach::OtherRuling => Some(Premise::OnlyOnePutForward),
             Breach::BadSeats { .. } => Some(Premise::AtMostFBad),
             Breach::TwoPages => Some(Premise::OnePage),
-            Breach::Told(_) | Breach::RunAgain | Breach::NothingRetained => None,
+            Breach::Told(_) | Breach::RunAgain | Breach::NothingRetained | Breach::NoWait => None,
         }
     }
 
-    /// Whether this check has to notice it. Two acks or wrong put-forwards are only the way to books that part; where they are
-    /// what is broken, they may part them too, but have to be noticed as such.
+    /// Whether this check has to notice it. Two acks, wrong put-forwards or an early ruling are only the way to books that
+    /// part; where they are what is broken, they may part them too, but have to be noticed as such.
     fn shows_in(self, check: Check) -> bool {
         match self {
             Breach::Told(Lie::PutForward(wrong)) => check == Check::PutForward(wrong),
             Breach::NothingRetained => check == Check::PutForward(Wrong::Missing),
-            _ => !matches!(check, Check::AckedOnce | Check::PutForward(_)),
+            Breach::NoWait => check == Check::Wait,
+            _ => !matches!(check, Check::AckedOnce | Check::PutForward(_) | Check::Wait),
         }
     }
 

@@ -1,10 +1,10 @@
 //! The council: it sees every P that an honest seat printed, and rules between rounds.
 
 use super::breach::Breach;
-use super::record::{key_of, Key};
+use super::record::{key_of, Key, Record};
 use crate::dice::Dice;
-use reference::book::Slip;
-use std::collections::BTreeMap;
+use reference::book::{Message, Slip};
+use std::collections::{BTreeMap, HashMap, HashSet};
 
 /// How long a council waits before it rules on a number.
 #[derive(Clone, Copy, PartialEq, Eq, Debug)]
@@ -59,10 +59,12 @@ pub struct Council {
     pub only: u64,
     pub several: u64,
     pub nobody: u64,
-    /// Rulings of a council that waits: once n - f seats had put forward, those with a late P among them, and before.
+    /// Rulings of a council that waits, once n - f seats had put forward, and those with a late P among them.
     pub on_most: u64,
     pub with_late: u64,
-    pub on_fewer: u64,
+    /// Rulings of one that waits for a while, once they had and on fewer.
+    pub mixed_on_most: u64,
+    pub mixed_on_fewer: u64,
 }
 
 impl Council {
@@ -76,7 +78,8 @@ impl Council {
             nobody: 0,
             on_most: 0,
             with_late: 0,
-            on_fewer: 0,
+            mixed_on_most: 0,
+            mixed_on_fewer: 0,
         }
     }
 
@@ -113,12 +116,13 @@ impl Council {
     /// Counts a ruling on what so many seats put forward, perhaps late.
     fn count(&mut self, seats: usize, late: bool) {
         match self.wait {
-            Wait::ForOne => {}
-            Wait::ForMost(most) | Wait::ForMostAWhile(most, _) if seats >= most => {
+            Wait::ForMost(most) if seats >= most => {
                 self.on_most += 1;
                 self.with_late += u64::from(late);
             }
-            _ => self.on_fewer += 1,
+            Wait::ForMostAWhile(most, _) if seats >= most => self.mixed_on_most += 1,
+            Wait::ForMostAWhile(..) => self.mixed_on_fewer += 1,
+            Wait::ForOne | Wait::ForMost(_) => {}
         }
     }
 
@@ -166,6 +170,28 @@ impl Council {
     pub fn ruled(&self) -> Vec<Key> {
         self.rulings.keys().copied().collect()
     }
+}
+
+/// The rulings that reached a seat of a recorded run before n - f seats had put something forward, if its council has to wait
+/// for them.
+pub fn faults(record: &Record) -> Vec<String> {
+    let most = match record.wait {
+        Wait::ForMost(_) => usize::from(record.pages[0].n - record.pages[0].f),
+        Wait::ForOne | Wait::ForMostAWhile(..) => return Vec::new(),
+    };
+    let mut seats: HashMap<Key, HashSet<usize>> = HashMap::new();
+    let mut faults = Vec::new();
+    for call in record.calls() {
+        if let Some(slip) = call.put_forward() {
+            seats.entry(key_of(&slip)).or_default().insert(call.seat);
+        }
+        if let Message::Ruling(slip) = call.message {
+            let heard = seats.get(&key_of(&slip)).map_or(0, HashSet::len);
+            let what = || format!("a ruling for {slip} once {heard} seats had put something forward, of {most}");
+            faults.extend((heard < most).then(what));
+        }
+    }
+    faults
 }
 
 /// A slip with that account and number that is none of these.

@@ -14,7 +14,7 @@ use reference::rules::Rules;
 use std::collections::HashMap;
 
 /// The first rows; behind them stand those of each code, n and f.
-const FIRST_ROWS: [&str; 45] = [
+const FIRST_ROWS: [&str; 46] = [
     "calls",
     "places looked at",
     "runs looked at after each call",
@@ -48,6 +48,7 @@ const FIRST_ROWS: [&str; 45] = [
     MIXED_COUNCILS,
     "rulings once n - f seats had put something forward",
     "rulings once they had, with a late P among it",
+    "rulings once they had, in a mixed group",
     "rulings on fewer, in a mixed group and after a while",
     "slips accepted by acks",
     "slips accepted by a ruling",
@@ -128,9 +129,10 @@ impl Coverage {
             world.council.on_most,
         );
         self.add("rulings once they had, with a late P among it", world.council.with_late);
+        self.add("rulings once they had, in a mixed group", world.council.mixed_on_most);
         self.add(
             "rulings on fewer, in a mixed group and after a while",
-            world.council.on_fewer,
+            world.council.mixed_on_fewer,
         );
         self.add("messages lost", world.network.lost);
         self.add("messages repeated", world.network.repeated);

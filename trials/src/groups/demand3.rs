@@ -1,7 +1,8 @@
 //! Demand 3 on a recorded run: agreement, the slate, and equal counts; and beside it that each seat acks once, that P are
-//! alike, that each seat answers by its rules, and that it puts forward once for a number.
+//! alike, that each seat answers by its rules, that it puts forward once for a number, and that the council waits.
 
 use super::alike;
+use super::council;
 use super::late::{self, Wrong};
 use super::printed::{Closing, Reply};
 use super::record::{key_of, Call, Event, Key, Record};
@@ -24,6 +25,7 @@ pub enum Check {
     Alike,
     Rules,
     PutForward(Wrong),
+    Wait,
 }
 
 pub struct Failure {
@@ -31,7 +33,7 @@ pub struct Failure {
     pub what: String,
 }
 
-/// Every failure in the order of the run; none if the run is as demand 3, `alike`, `switches` and `late` say.
+/// Every failure in the order of the run; none if the run is as demand 3, `alike`, `switches`, `late` and `council` say.
 pub fn failures(record: &Record) -> Vec<Failure> {
     let of = |check, faults: Vec<String>| faults.into_iter().map(move |what| Failure { check, what });
     let mut all: Vec<Failure> = of(Check::Text, record.faults.clone()).collect();
@@ -46,6 +48,7 @@ pub fn failures(record: &Record) -> Vec<Failure> {
         check: Check::PutForward(wrong),
         what,
     }));
+    all.extend(of(Check::Wait, council::faults(record)));
     all
 }
 

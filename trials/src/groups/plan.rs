@@ -79,7 +79,7 @@ impl Plan {
         let every_call = dice.once_in(6);
         let (rounds, batch) = size(n as u64, every_call, dice);
         let mixture = *dice.pick(&MIXTURES);
-        let wait = wait(mixture, n - f as usize, dice);
+        let wait = wait(mixture[1..] == [0, 0], n - f as usize, dice);
         Plan {
             pages: vec![page; n],
             bad: chosen(n, bad as usize, dice),
@@ -110,11 +110,13 @@ impl Plan {
             let seat = dice.below(n as u64) as usize;
             pages[seat].balances[0] ^= 1;
         }
+        let courses = aimed_courses(breach, n, rounds, dice);
+        let all_newest = courses.iter().all(|course| *course == Course::NEWEST);
         Plan {
             pages,
             bad: chosen(n, bad, dice),
-            courses: aimed_courses(breach, n, rounds, dice),
-            wait: Wait::ForOne,
+            courses,
+            wait: aimed_wait(breach, all_newest, n - f, dice),
             rounds,
             calm: 0,
             batch: 4 * n as u64,
@@ -150,6 +152,15 @@ fn aimed_courses(breach: Breach, n: usize, rounds: u64, dice: &mut Dice) -> Vec<
         }
         Breach::NothingRetained => of(Rules::NoSelfPayments, Some(rounds - 1)),
         _ => of(Rules::NEWEST, None),
+    }
+}
+
+fn aimed_wait(breach: Breach, all_newest: bool, most: usize, dice: &mut Dice) -> Wait {
+    match breach {
+        // Bad seats put nothing forward, so with more than f of them n - f are never met.
+        Breach::BadSeats { .. } => Wait::ForOne,
+        Breach::NoWait => Wait::ForMost(most),
+        _ => wait(all_newest, most, dice),
     }
 }
 
@@ -189,12 +200,12 @@ fn course(mixture: [u64; 3], rounds: u64, dice: &mut Dice) -> Course {
     }
 }
 
-/// In half of the groups the council waits for so many seats.
-fn wait(mixture: [u64; 3], most: usize, dice: &mut Dice) -> Wait {
-    match mixture {
+/// In half of the groups the council waits for so many seats, and if not all have the newest rules, then for a while.
+fn wait(all_newest: bool, most: usize, dice: &mut Dice) -> Wait {
+    match all_newest {
         _ if dice.once_in(2) => Wait::ForOne,
-        [_, 0, 0] => Wait::ForMost(most),
-        _ => Wait::ForMostAWhile(most, PATIENCE),
+        true => Wait::ForMost(most),
+        false => Wait::ForMostAWhile(most, PATIENCE),
     }
 }
 

@@ -1,5 +1,6 @@
 //! A run as it happened: the calls at honest seats in one order, and the closing lines looked at between them.
 
+use super::council::Wait;
 use super::printed::{Closing, Reply};
 use reference::book::{Message, OpeningPage, Slip};
 use reference::rules::Rules;
@@ -60,6 +61,8 @@ pub struct Record {
     /// The page that each seat opens from: one and the same, save where that premise is broken.
     pub pages: Vec<OpeningPage>,
     pub bad: Vec<bool>,
+    /// How long the council has to wait.
+    pub wait: Wait,
     pub events: Vec<Event>,
     /// Texts that could not be read, replies that a longer bundle changed, and replies of the real library, going on with a
     /// book that is held, that are not the second program's.

@@ -1,7 +1,7 @@
 //! The world between the seats: homes, bad seats, the network and the council, driving the honest seats in rounds.
 
 use super::breach::Breach;
-use super::council::Council;
+use super::council::{Council, Wait};
 use super::keeper::Keeper;
 use super::network::Network;
 use super::plan::{chosen, Plan};
@@ -49,6 +49,7 @@ impl World {
         let mut record = Record {
             pages: plan.pages.clone(),
             bad: plan.bad.clone(),
+            wait: plan.wait,
             events: Vec::new(),
             faults: Vec::new(),
         };
@@ -63,7 +64,10 @@ impl World {
             };
             seats.insert(number, Seat::open(number, page, clerk, &mut record));
         }
-        let council = Council::new(plan.wait);
+        let council = Council::new(match plan.breach {
+            Some(Breach::NoWait) => Wait::ForOne,
+            _ => plan.wait,
+        });
         World {
             plan,
             dice,

@@ -4,34 +4,22 @@ use mathlib.Core.Path.{_≡_, refl, ap, sym, _∙_}
 use mathlib.Core.Bool.{Bool, true, false, not, cond}
 use mathlib.Core.List.{List, [], _∷_, _++_}
 use mathlib.Core.Option.{Option, none, some}
-use borrow.Author.Tests.{eq-eqb, eqb-true}
 use mathlib.Core.Logic.{_⊎_, inl, inr}
-use Rattle.agreement.specs.Types.{Seat, Account, Transfer, Ledger, Opening, Message, Ack, Accept, Propose}
+use Rattle.agreement.specs.Types.{Seat, Transfer, Ledger, Opening, Message, Ack, Accept, Propose}
 use Rattle.agreement.specs.Runs.{Opens, FewBad, message, Event, Run, start, _▹_, Within, at-end, sooner, happened, rulesAt, ledgerAt, Obeys, accepted, proposed, ruled, passes}
 use Rattle.agreement.specs.Facts.{acceptedBy}
 use Rattle.agreement.specs.Premises.{ruledOn, ruledOtherwise, likewise, proposals, founded, rightful, Premises}
 use Rattle.agreement.proofs.Places.{before, within-trans, Order, same-event, earlier, later, order, happened-holds, happened-later, throughout-at, obeys-before}
-use Rattle.agreement.proofs.Deeds.{Accepts, by-ack, by-ruling, accepted-is, proposed-is, passes-is, deed-found}
-use Rattle.agreement.proofs.Reachable.{sound, happened-at}
-use Rattle.agreement.proofs.StepLaws.{answer-accept, Proposes, ProposesLate, answer-propose}
+use Rattle.agreement.proofs.Deeds.{Accepts, by-ack, by-ruling, accepted-is, passes-is, deed-found}
+use Rattle.agreement.proofs.Reachable.{sound, happened-at, put-forward}
+use Rattle.agreement.proofs.StepLaws.{answer-accept, Proposes, ProposesLate}
 use Rattle.agreement.proofs.Reasons.{all-reasons}
 use Rattle.agreement.proofs.Acked.{call-from}
 use Rattle.agreement.proofs.Votes.{Quorum, Majority, quorums-agree, quorum-proposed, accept-quorum, propose-majority}
 use Rattle.model.specs.Basics.{every}
 use Rattle.model.specs.Transfers.{sameNumber, equal, conflict}
 use Rattle.model.proofs.Sums.{impossible, both}
-use Rattle.model.proofs.Equality.{equal-sound, equal-refl, Conflict, conflict-complete}
-use Rattle.model.proofs.Access.{same-account}
-
--- the test for account and number
-pub same-number : (t u : Transfer) → t .account ≡ u .account → t .number ≡ u .number → sameNumber t u ≡ true
-same-number t u account number =
-    rw (eq-eqb (t .account .0) (u .account .0) (ap (λ (a : Account). a .0) account)) (eq-eqb (t .number) (u .number) number)
-
-pub number-same : (t u : Transfer) → sameNumber t u ≡ true → (t .account ≡ u .account) × (t .number ≡ u .number)
-number-same t u h =
-    let parts = both _ _ h in
-    (same-account (t .account) (u .account) (eqb-true (t .account .0) (u .account .0) (parts .0)), eqb-true (t .number) (u .number) (parts .1))
+use Rattle.model.proofs.Equality.{same-number, number-same, equal-sound, equal-refl, Conflict, conflict-complete}
 
 -- the first ruling in a run that has a slip's account and number
 pub record FirstRuling (t : Transfer) (r : Run) : Type 0 where
@@ -112,7 +100,7 @@ module _ (o : Opening) (bad : Seat → Bool) (run : Run) (opens : Opens o) (few 
   -- a slip that is put forward has a majority, or it is put forward late, by a seat that had accepted it
   pub proposed-why : (q : Run) (d : Event) (u : Transfer) → Within (q ▹ d) run → proposed (d .call) ≡ some u
       → Majority o bad run u ⊎ (acceptedBy (d .at) u q ≡ true)
-  proposed-why q d u w is = go (answer-propose l _ (call .0) (Propose u) u refl (happened-at o (call .0) (Propose u) obeys w (call .1)))
+  proposed-why q d u w is = let found = put-forward o u obeys w is in go (found .0) (found .2) (found .3)
     where
       l : Ledger
       l = ledgerAt o (d .at) q
@@ -120,17 +108,13 @@ module _ (o : Opening) (bad : Seat → Bool) (run : Run) (opens : Opens o) (few 
       here : Obeys o q
       here = obeys-before o obeys (before w)
 
-      call : (m : Message) × (d .call ≡ message m (Propose u))
-      call = proposed-is (d .call) u is
-
-      go : {next : Ledger} → Proposes l (call .0) u next ⊎ ProposesLate (rulesAt (d .at) q) l (call .0) u next
+      go : {next : Ledger} (m : Message) → d .call ≡ message m (Propose u) → Proposes l m u next ⊎ ProposesLate (rulesAt (d .at) q) l m u next
           → Majority o bad run u ⊎ (acceptedBy (d .at) u q ≡ true)
-      go (inl found) =
+      go m call (inl found) =
           inl
-          (propose-majority o bad run opens l (sound o opens (d .at) q here) (call .0) u found
-          (call-from o bad opens run (kept .acks-genuine) obeys q d (call .0) (Propose u) (found .sender) (found .slip) w (call .1) (found .is-ack)
-          (found .records)))
-      go (inr late) = inr (all-reasons o opens (d .at) q here (late .slip .account) .why-retained u (late .joins .is-retained))
+          (propose-majority o bad run opens l (sound o opens (d .at) q here) m u found
+          (call-from o bad opens run (kept .acks-genuine) obeys q d m (Propose u) (found .sender) (found .slip) w call (found .is-ack) (found .records)))
+      go m call (inr late) = inr (all-reasons o opens (d .at) q here (late .slip .account) .why-retained u (late .joins .is-retained))
 
   -- what the premise says at a ruling
   ruling-rightful : (p : Run) (e : Event) (t : Transfer) → Within (p ▹ e) run → ruled (e .call) ≡ some t → rightful p (some t) ≡ true

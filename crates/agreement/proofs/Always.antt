@@ -12,16 +12,16 @@ use Rattle.agreement.specs.Runs.{Opens, Call, message, waitingList, swit
 use Rattle.agreement.specs.Facts.{answeredK, countOf, mustAccept, acceptedBy, taken, ruledFor, Always}
 use Rattle.agreement.proofs.Places.{before, Order, same-event, earlier, later, order, happened-found, happened-holds, obeys-before, obeys-at, ledger-after}
 use Rattle.agreement.proofs.Proposals.{happens-in-run}
-use Rattle.agreement.proofs.Deeds.{accepting-call, proposed-is, that-slip, deed-found}
+use Rattle.agreement.proofs.Deeds.{accepting-call, that-slip, deed-found}
 use Rattle.agreement.proofs.Soundness.{opened-entry, next-waits, group, SoundEntry, Sound}
-use Rattle.agreement.proofs.Reachable.{sound, stays, everywhere, past-calls, happened-at}
+use Rattle.agreement.proofs.Reachable.{sound, stays, everywhere, past-calls, happened-at, put-forward}
 use Rattle.agreement.proofs.Accounts.{behind, accounts-sum}
-use Rattle.agreement.proofs.StepLaws.{step-sound, SameState, switched-state, Proposes, ProposesLate, answer-propose, proposes-for, answer-exactly, BookedOrWaits, none-eligible, current-rises, stays-settled, just-settled, Turn, keeps, accepts, turn}
+use Rattle.agreement.proofs.StepLaws.{step-sound, SameState, switched-state, Proposes, ProposesLate, proposes-for, answer-exactly, late-in-place, BookedOrWaits, none-eligible, current-rises, stays-settled, just-settled, Turn, keeps, accepts, turn}
 use Rattle.agreement.proofs.Slated.{slated}
 use Rattle.agreement.proofs.Reasons.{all-reasons, decided-accepted}
 use Rattle.agreement.proofs.Acked.{acked-once}
-use Rattle.agreement.proofs.Retained.{latest, retains-latest, proposed-once, retained-marked, next-marked}
-use Rattle.model.specs.Records.{accountOf, freshEntry, withPending, sumCurrents, setEntry, withEntry, entryOf}
+use Rattle.agreement.proofs.Retained.{latest, since-5, retains-latest, proposed-once, retained-marked, next-marked}
+use Rattle.model.specs.Records.{accountOf, freshEntry, withPending, sumCurrents, RetainsNothing, setEntry, withEntry, entryOf}
 use Rattle.model.specs.Transfers.{equal}
 use Rattle.model.specs.Acks.{holds, acksFor, enough}
 use Rattle.model.specs.Basics.{bit}
@@ -34,20 +34,20 @@ use Rattle.model.proofs.Steps.{Happens}
 use Rattle.model.proofs.Settles.{none-affordable, settle-done, settle-currents}
 
 -- a call accepts exactly if it must
-call-accepts : (o : Opening) (v : Rules) (l : Ledger) (c : Call) → Group o → Sound o l → Conforms v l c → answeredK c ≡ mustAccept l c
-call-accepts o v l (message m r) g ok h = answer-exactly o l _ m r g ok (happens-in-run v l m r h)
+call-accepts : (o : Opening) (v : Rules) (l : Ledger) (c : Call) → Group o → Sound o l → Conforms v l c → answeredK c ≡ mustAccept v l c
+call-accepts o v l (message m r) g ok h = answer-exactly v o l _ m r g ok (happens-in-run v l m r h)
 call-accepts o v l (waitingList b q a) g ok h = refl
 call-accepts o v l switch g ok h = refl
 
 -- a ruling that is not refused accepts its slip
-ruling-accepts : (c : Call) (l : Ledger) (t : Transfer) → answeredK c ≡ mustAccept l c → ruled c ≡ some t → taken c ≡ true → accepted c ≡ some t
-ruling-accepts (message (Request u) r) l t exactly is ok = impossible (cc)
-ruling-accepts (message (Circulated u) r) l t exactly is ok = impossible (cc)
-ruling-accepts (message (Ack s u) r) l t exactly is ok = impossible (cc)
-ruling-accepts (message (Decision u) r) l t exactly is ok = rw (exactly, ok) is
-ruling-accepts (message (Inquiry a) r) l t exactly is ok = impossible (cc)
-ruling-accepts (waitingList b q a) l t exactly is ok = impossible (cc)
-ruling-accepts switch l t exactly is ok = impossible (cc)
+ruling-accepts : (c : Call) (v : Rules) (l : Ledger) (t : Transfer) → answeredK c ≡ mustAccept v l c → ruled c ≡ some t → taken c ≡ true → accepted c ≡ some t
+ruling-accepts (message (Request u) r) v l t exactly is ok = impossible (cc)
+ruling-accepts (message (Circulated u) r) v l t exactly is ok = impossible (cc)
+ruling-accepts (message (Ack s u) r) v l t exactly is ok = impossible (cc)
+ruling-accepts (message (Decision u) r) v l t exactly is ok = rw (exactly, ok) is
+ruling-accepts (message (Inquiry a) r) v l t exactly is ok = impossible (cc)
+ruling-accepts (waitingList b q a) v l t exactly is ok = impossible (cc)
+ruling-accepts switch v l t exactly is ok = impossible (cc)
 
 -- a reply that is not K has no count
 no-count : (r : Reply) → isAccept r ≡ false → countOf r ≡ 0
@@ -145,11 +145,11 @@ module _ (o : Opening) (opens : Opens o) (s : Seat) where
       go (later first) = absurd (accepts-no-more q p d e u t (obeys-before o obeys w) first here there this is (sym account) (sym number))
 
   -- after it, only the accepted slip is put forward for its number, late: what another P carries is of an eligible slip's account and number
-  only-accepted : (p q : Run) (e d : Event) (t u : Transfer) → Obeys o (q ▹ d) → Within (p ▹ e) q → e .at ≡ s → d .at ≡ s
-      → accepted (e .call) ≡ some t → proposed (d .call) ≡ some u → t .account ≡ u .account → t .number ≡ u .number
+  only-accepted : (p q : Run) (e : Event) (c : Call) (t u : Transfer) → Obeys o (q ▹ record { at = s; call = c }) → Within (p ▹ e) q → e .at ≡ s
+      → accepted (e .call) ≡ some t → proposed c ≡ some u → t .account ≡ u .account → t .number ≡ u .number
       → (t ≡ u) × (rank sinceRequest5 ≤ rank (rulesAt s q))
-  only-accepted p q e d t u obeys w there here is puts account number =
-      go (answer-propose l _ (call .0) (Propose u) u refl (rw here at (happened-at o (call .0) (Propose u) obeys at-end (call .1))))
+  only-accepted p q e c t u obeys w there is puts account number =
+      go (put-forward o {e = record { at = s; call = c }} u obeys at-end puts .3)
     where
       l : Ledger
       l = ledgerAt o s q
@@ -157,13 +157,10 @@ module _ (o : Opening) (opens : Opens o) (s : Seat) where
       ok : Sound o l
       ok = sound o opens s q (obeys .0)
 
-      call : (m : Message) × (d .call ≡ message m (Propose u))
-      call = proposed-is (d .call) u puts
-
-      go : {next : Ledger} → Proposes l (call .0) u next ⊎ ProposesLate (rulesAt s q) l (call .0) u next
+      go : {m : Message} {next : Ledger} → Proposes l m u next ⊎ ProposesLate (rulesAt s q) l m u next
           → (t ≡ u) × (rank sinceRequest5 ≤ rank (rulesAt s q))
-      go (inl found) =
-          let same = proposes-for o l (call .0) u (group o opens) ok found in
+      go {m} (inl found) =
+          let same = proposes-for o l m u (group o opens) ok found in
           absurd
           (none-eligible o l t (found .slip) (group o opens) ok (all-settled q (obeys .0) p e w there t is)
           (account ∙ same .0) (number ∙ same .1) (found .records .eligible))
@@ -191,8 +188,7 @@ module _ (o : Opening) (opens : Opens o) (s : Seat) where
       number (inr none) = rw (none .0) (omega (arith, none .1))
 
   -- before request 5 nothing is
-  nothing-before : (r : Run) → Obeys o r → (a : Account) → rank (rulesAt s r) < rank sinceRequest5
-      → (entryOf (ledgerAt o s r) a .retained ≡ Empty) × (entryOf (ledgerAt o s r) a .retainedProposed ≡ false)
+  nothing-before : (r : Run) → Obeys o r → (a : Account) → rank (rulesAt s r) < rank sinceRequest5 → RetainsNothing (entryOf (ledgerAt o s r) a)
   nothing-before r obeys a before-it =
       (go (entryOf (ledgerAt o s r) a .retained) refl, unmarked (entryOf (ledgerAt o s r) a .retainedProposed) refl)
     where
@@ -224,10 +220,10 @@ module _ (o : Opening) (opens : Opens o) (s : Seat) where
       let both-parts = both (passes (equal t) (ruled (e .call))) (taken (e .call)) (parts .1) in
       let slip = that-slip t (ruled (e .call)) (both-parts .0) in
       let place = obeys-before o obeys (before (found .2)) in
+      let v = rulesAt (e .at) (found .0) in
       let l = ledgerAt o (e .at) (found .0) in
-      let exactly =
-      call-accepts o (rulesAt (e .at) (found .0)) l (e .call) (group o opens) (sound o opens (e .at) (found .0) place) (obeys-at o obeys (found .2)) in
-      let accepts-it = ruling-accepts (e .call) l t exactly slip (both-parts .1) in
+      let exactly = call-accepts o v l (e .call) (group o opens) (sound o opens (e .at) (found .0) place) (obeys-at o obeys (found .2)) in
+      let accepts-it = ruling-accepts (e .call) v l t exactly slip (both-parts .1) in
       happened-holds (λ e. sameSeat (e .at) s && passes (equal t) (accepted (e .call))) (found .2) (rw (parts .0, accepts-it, equal-refl t))
 
   accepted-iff : (r : Run) → Obeys o r → (t : Transfer) → t .number ≡ entryOf (ledgerAt o s r) (t .account) .current + 1
@@ -293,12 +289,17 @@ always o run opens obeys =
       currents-rise = λ p q s a w v. never-falls o opens s a (obeys-before o obeys v) w;
       count-is-rise = λ p e m r w is. run-count o run p e m r opens obeys w is;
       acked-once = acked-once o opens run obeys;
-      only-accepted-proposed = λ p q e d t u w v same. only-accepted o opens (d .at) p q e d t u (obeys-before o obeys v) w same refl;
+      only-accepted-proposed = λ p q e d t u w v same. only-accepted o opens (d .at) p q e (d .call) t u (obeys-before o obeys v) w same;
       proposed-once = proposed-once o opens run obeys;
       retained-stands = λ p s a t w. latest-accepted o opens s p (obeys-before o obeys w) a t;
       retained-marked = λ p s a t w. retained-marked o opens s p (obeys-before o obeys w) a t;
       next-marked = λ p s t w. next-marked o opens s p (obeys-before o obeys w) t;
       latest-retained = retains-latest o opens run obeys;
+      waiting-retained = λ p s a t w above.
+          latest o opens s p (obeys-before o obeys w) a .waiting (since-5 (rulesAt s p) above) t;
+      in-place = λ p s m w.
+          let here = obeys-before o obeys w in
+          late-in-place o (rulesAt s p) (ledgerAt o s p) m (sound o opens s p here);
       none-retained = λ p s a w. nothing-before o opens s p (obeys-before o obeys w) a;
       accepts-exactly = λ p e w.
           call-accepts o (rulesAt (e .at) p) (ledgerAt o (e .at) p) (e .call) (group o opens)

@@ -9,7 +9,7 @@ use Rattle.agreement.specs.Undisputed.{tooEarly, brings}
 use Rattle.agreement.proofs.Places.{happened-found, seat-is}
 use Rattle.agreement.proofs.Proposals.{carried}
 use Rattle.model.specs.Transfers.{equal}
-use Rattle.model.proofs.Sums.{impossible, both}
+use Rattle.model.proofs.Sums.{impossible, both, is-not}
 use Rattle.model.proofs.Equality.{equal-sound}
 
 is-acknowledge : (r : Reply) → isAcknowledge r ≡ true → r ≡ Acknowledge
@@ -90,11 +90,7 @@ brings-is s t (message (Ack z u) r) e =
     let rest = both (equal t u) (not (tooEarly r)) (parts .1) in
     let seat = seat-is z s (parts .0) in
     let slip = sym (equal-sound t u (rest .0)) in
-    (r, λ i. message (Ack (seat i) (slip i)) r, not-true (tooEarly r) (rest .1))
-  where
-    not-true : (b : Bool) → not b ≡ true → b ≡ false
-    not-true true h = impossible (cc)
-    not-true false h = refl
+    (r, λ i. message (Ack (seat i) (slip i)) r, is-not (tooEarly r) (rest .1))
 brings-is s t (message (Decision u) r) e = impossible (cc)
 brings-is s t (message (Inquiry a) r) e = impossible (cc)
 brings-is s t (waitingList before r after) e = impossible (cc)

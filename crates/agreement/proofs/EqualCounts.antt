@@ -18,11 +18,11 @@ use Rattle.agreement.proofs.Soundness.{opened-entry, next-waits, group,
 use Rattle.agreement.proofs.Reachable.{run-induction}
 use Rattle.agreement.proofs.Accounts.{behind}
 use Rattle.agreement.proofs.StepLaws.{SameState, switched-state, Turn, keeps, accepts, turn}
-use Rattle.agreement.proofs.Agree.{same-number, number-same}
 use Rattle.model.specs.Transfers.{sameAccount}
 use Rattle.model.specs.Switches.{switched}
 use Rattle.model.specs.Records.{accountOf, freshLedger, withPending, entryAt, setEntry, withEntry, entryOf}
 use Rattle.model.specs.Settling.{apply, settle}
+use Rattle.model.proofs.Equality.{same-number, number-same}
 use Rattle.model.proofs.Sums.{impossible}
 use Rattle.model.proofs.Access.{set-each, same-account}
 use Rattle.model.proofs.Booking.{Affordable, share, apply-clears, apply-others, apply-balance, apply-length}

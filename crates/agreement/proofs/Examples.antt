@@ -28,7 +28,7 @@ use Rattle.model.specs.Switches.{newest, stepUnder}
 use Rattle.agreement.proofs.Places.{happened-found}
 use Rattle.agreement.proofs.Deeds.{that-slip}
 use Rattle.model.proofs.Rows.{slip, pageWith}
-use Rattle.model.proofs.Sums.{impossible, both}
+use Rattle.model.proofs.Sums.{impossible, both, is-not}
 use Rattle.model.proofs.Equality.{conflict-sound}
 
 -- n 6, f 1: 5 acks accept, and 5 recorded acks that conflict put forward
@@ -135,11 +135,7 @@ noneWaits es = every (λ e. not (isWaiting e)) es
 
 none-waits : (es : List Entry) → noneWaits es ≡ true → (a : ℕ) → isWaiting (entryAt es (accountOf a)) ≡ false
 none-waits [] h a = refl
-none-waits (e ∷ es) h zero = not-eq (isWaiting e) (both (not (isWaiting e)) (noneWaits es) h .0)
-  where
-    not-eq : (b : Bool) → not b ≡ true → b ≡ false
-    not-eq true k = impossible (cc)
-    not-eq false k = refl
+none-waits (e ∷ es) h zero = is-not (isWaiting e) (both (not (isWaiting e)) (noneWaits es) h .0)
 none-waits (e ∷ es) h (suc a) = none-waits es (both (not (isWaiting e)) (noneWaits es) h .1) a
 
 -- the list of account 1 is right for entries of which only that account's has a waiting slip

@@ -42,16 +42,16 @@ oneLacks =
     ▹ ack 1 0 t Note ▹ ack 1 4 t Note ▹ ack 1 0 t (Refuse AckRepeated)
 
 -- .. then the ack of seat 4 reaches seat 0, which accepts t
-abbrev undisputedRun : Run
+abbrev pub undisputedRun : Run
 undisputedRun = oneLacks ▹ ack 0 4 t (Accept 1)
 
 -- the call is answered K exactly if it must be
 abbrev rightlyK : Opening → Run → Event → Bool
-rightlyK o before e = Bool·beq (answeredK (e .call)) (mustAccept (ledgerAt o (e .at) before) (e .call))
+rightlyK o before e = Bool·beq (answeredK (e .call)) (mustAccept (rulesAt (e .at) before) (ledgerAt o (e .at) before) (e .call))
 
 -- this event must be answered K, after this run
 abbrev must : Run → Event → Bool
-must before e = mustAccept (ledgerAt page (e .at) before) (e .call)
+must before e = mustAccept (rulesAt (e .at) before) (ledgerAt page (e .at) before) (e .call)
 
 -- A call accepts exactly if it is an ack that makes enough or a ruling, and is not refused. So it is at every call of these runs. At
 -- single ones: an ack that makes enough; one that would, from a seat whose ack is recorded, but is refused; one of another slip; one
@@ -102,7 +102,7 @@ unfolding rulesAt ledgerAt noAcks equal conflict hasMost mostAcked lowestAfforda
 count-tried = (refl, refl, refl, refl)
 
 -- what holds of seats 0 to 4 holds of every honest seat of the page
-each-honest : (P : Seat → Type 0) → P (seatOf 0) → P (seatOf 1) → P (seatOf 2) → P (seatOf 3) → P (seatOf 4)
+pub each-honest : (P : Seat → Type 0) → P (seatOf 0) → P (seatOf 1) → P (seatOf 2) → P (seatOf 3) → P (seatOf 4)
     → (s : Seat) → honest page bad s ≡ true → P s
 each-honest P p0 p1 p2 p3 p4 s fair = go (s .0) fair
   where

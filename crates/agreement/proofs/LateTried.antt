@@ -1,21 +1,25 @@
 -- Document 02, request 5, tried: runs with late P's, from a number that is booked and from one that waits, that keep the premises, and what is said of them.
 -- All is computed.
-use Prim.Native.Nat.{ℕ, _-_, _≤_}
+use Prim.Native.Nat.{ℕ, _-_, _≤_, _<_}
 use native.Mathlib.Omega.{arith}
 use mathlib.Core.Path.{_≡_, refl, ap}
+use mathlib.Core.Logic.{_⊎_}
 use mathlib.Core.Bool.{true, false, cond, not, _&&_, _||_}
 use mathlib.Core.List.{[], _∷_}
+use mathlib.Core.Option.{some}
 use lib.Dec.{eqb, lit≤, lit<}
 use Rattle.agreement.specs.Types.{Transfer, Empty, Full, Ledger, Message, Ack, Reply, Accept, Propose, Note, Refuse}
 use Rattle.agreement.specs.Runs.{Opens, FewBad, Run, start, _▹_, at-end, sooner, happened, atHonest, rulesAt, ledgerAt, Obeys, proposed, ruled, passes}
-use Rattle.agreement.specs.Premises.{Premises}
+use Rattle.agreement.specs.Premises.{ackedBy, Premises}
 use Rattle.agreement.specs.Slates.{leaveAtMost, leaveAll, slateAt}
 use Rattle.agreement.specs.Claims.{Claim}
 use Rattle.agreement.specs.Facts.{proposedFor, Facts}
 use Rattle.agreement.specs.Proposals.{SameAcks}
+use Rattle.agreement.specs.Undisputed.{Undisputed}
 use Rattle.agreement.proofs.Demand3.{demand3}
+use Rattle.agreement.proofs.Theorem1.{theorem1}
 use Rattle.agreement.proofs.Examples.{page, t, u, v, bad, today, acks, ack, ruling, _then_, putsForward, takes, slate}
-use Rattle.agreement.proofs.FactsTried.{single, twoSeats, _is_}
+use Rattle.agreement.proofs.FactsTried.{single, twoSeats, undisputedRun, each-honest, undisputed-keeps, _is_}
 use Rattle.agreement.proofs.SwitchesTried.{asItWas, switches}
 use Rattle.model.specs.declared.Refusal.the-variants.{PastNumber, AlreadyAccepted}
 use Rattle.model.specs.Records.{seatOf, accountOf, entryOf, noAcks}
@@ -82,13 +86,22 @@ joined-obeys =
     then refl then refl then refl then refl then refl
 
 -- The same ack is answered differently by seats of different rules: seat 0 joins in; seat 1, which switched twice before it accepted, does too; seat 2, under
--- the first rules, and seat 3, under those since request 3, reply 6. Seat 4 switches while v waits: before, its late ack meets 8; after, it puts v
--- forward. Seat 3 switches when t is booked, so it retains nothing, and replies 6 still.
+-- the first rules, and seat 3, under those since request 3, reply 6. Seat 4 starts under the first rules and switches twice while v waits: before the second
+-- switch, its late ack meets 8; after it, it puts v forward. Seat 3 switches when t is booked, so it retains nothing, and replies 6 still.
+abbrev mixedStart : Run
+mixedStart = start (λ s. cond (eqb (s .0) 0) newest (cond (eqb (s .0) 3) sinceRequest3 firstRules)) ▹ switches 1 ▹ switches 1
+
+-- .. up to where v waits at seat 4, and up to its second switch
+abbrev beforeSwitch : Run
+beforeSwitch = waitsAt4 (late (Propose t) (Propose t) (Refuse PastNumber) (Refuse PastNumber) (accepts mixedStart))
+
+abbrev atSwitch : Run
+atSwitch = beforeSwitch ▹ switches 4 ▹ ack 4 5 v′ (Refuse AlreadyAccepted) ▹ switches 4
+
 abbrev pub mixed : Run
 mixed =
-    waitsAt4 (late (Propose t) (Propose t) (Refuse PastNumber) (Refuse PastNumber)
-    (accepts (start (λ s. cond (eqb (s .0) 0) newest (cond (eqb (s .0) 1) firstRules (cond (eqb (s .0) 2) firstRules sinceRequest3))) ▹ switches 1 ▹ switches 1)))
-    ▹ ack 4 5 v′ (Refuse AlreadyAccepted) ▹ switches 4 ▹ ack 4 5 v′ (Propose v) ▹ ack 4 5 v′ (Refuse AlreadyAccepted)
+    atSwitch
+    ▹ ack 4 5 v′ (Propose v) ▹ ack 4 5 v′ (Refuse AlreadyAccepted)
     ▹ switches 3 ▹ ack 3 4 u (Refuse PastNumber)
     ▹ ruling 4 t (Accept 2) ▹ ack 4 5 v′ (Refuse PastNumber)
 
@@ -100,11 +113,11 @@ mixed-obeys =
     then refl then refl then refl then refl then refl
     then refl then refl then refl then refl then refl
     then refl then refl then refl then refl then refl
-    then refl then refl then refl then refl then refl
+    then refl then refl then refl then refl then (t, refl, refl)
     then refl then refl then refl then refl
     then refl then refl then refl then refl
     then refl then refl then refl then refl then refl
-    then refl then tt then refl then refl
+    then tt then refl then tt then refl then refl
     then tt then refl
     then refl then refl
 
@@ -220,12 +233,16 @@ late-says f = (
   f .latest-retained lateAlone laterAlone (ack 0 0 t2 (Accept 1)) t2 (sooner at-end) at-end refl (lit≤ tt),
 )
 
--- The same where the slip waits: at seat 4 v, before the ruling, with its late P; and at a seat under the rules since request 3 nothing.
+-- The same where the slip waits: at seat 4 v, before the ruling, with its late P; in the second run seat 4 had accepted v under the first rules. At a seat under
+-- those nothing is retained, what waits neither; under the newest that is not said.
 pub late-says-waiting :
     (Facts page beforeRuling → (accountOf 1 ≡ accountOf 1) × (true ≡ true) × (1 is 1))
     × (Facts page beforeRuling → true ≡ true)
     × (Facts page beforeRuling → 1 is 1 → Full v ≡ Full v)
+    × (Facts page atSwitch → 2 ≤ 2 → Full v ≡ Full v → Full v ≡ Full v)
+    × (Facts page beforeSwitch → 2 ≤ 0 → Full v ≡ Full v → Empty ≡ Full v)
     × (Facts page mixed → (Empty ≡ Empty) × (false ≡ false))
+    × (Facts page joinedIn → 2 < 2 → (Full t ≡ Empty) × (true ≡ false))
 unfolding rulesAt ledgerAt noAcks equal conflict hasMost mostAcked lowestAffordable apply settleAtMost settle stepUnder
 late-says-waiting = (
   λ f. f .retained-stands beforeRuling (seatOf 4) (accountOf 1) v at-end refl,
@@ -233,18 +250,55 @@ late-says-waiting = (
   λ f.
       f .latest-retained (fourAcks 4 v (late (Propose t) (Propose t) (Propose t) (Propose t) (accepts today) ▹ acks 0 v ▹ acks 1 v ▹ acks 2 v ▹ acks 3 v))
       beforeRuling (ack 4 5 v (Accept 0)) v (sooner (sooner at-end)) at-end refl (lit≤ tt),
+  λ f. f .waiting-retained atSwitch (seatOf 4) (accountOf 1) v at-end,
+  λ f. f .waiting-retained beforeSwitch (seatOf 4) (accountOf 1) v at-end,
   λ f. f .none-retained mixed (seatOf 2) (accountOf 0) at-end (lit< tt),
+  λ f. f .none-retained joinedIn (seatOf 0) (accountOf 0) at-end,
 )
 
--- What the next numbers' marks say there: at seat 0 nothing was put forward for account 1's; at seat 4 t was for account 0's.
+-- In place of what it comes: of 6 at seat 0, where t is booked, and of 8 at seat 4, where v waits; at a seat under earlier rules it does not come.
+pub in-place-says :
+    (Facts page (accepts today) → true ≡ true → (some PastNumber ≡ some PastNumber) ⊎ (some PastNumber ≡ some AlreadyAccepted))
+    × (Facts page atSwitch → true ≡ true → (some AlreadyAccepted ≡ some PastNumber) ⊎ (some AlreadyAccepted ≡ some AlreadyAccepted))
+    × (Facts page mixed → false ≡ true → (some PastNumber ≡ some PastNumber) ⊎ (some PastNumber ≡ some AlreadyAccepted))
+unfolding rulesAt ledgerAt noAcks equal conflict hasMost mostAcked lowestAffordable apply settleAtMost settle stepUnder
+in-place-says = (
+  λ f. f .in-place (accepts today) (seatOf 0) (Ack (seatOf 4) u) at-end,
+  λ f. f .in-place atSwitch (seatOf 4) (Ack (seatOf 5) v′) at-end,
+  λ f. f .in-place mixed (seatOf 2) (Ack (seatOf 4) u) at-end,
+)
+
+-- two seats, of which seat 0 puts t forward on a tie, and then a ruling accepts u
+abbrev usedUp : Run
+usedUp = today ▹ ack 0 0 t Note ▹ ack 0 1 u (Propose t) ▹ ruling 0 u (Accept 1)
+
+-- What the next numbers' marks say there: at seat 0 nothing was put forward for account 1's; at seat 4 t was for account 0's; of account 1's there, where v waits,
+-- nothing is said. And what the mark of a retained slip says, where another was put forward before the acceptance: t, and then the ruling is for u.
 pub marks-say :
     (Facts page beforeRuling → false ≡ false)
     × (Facts page beforeRuling → true ≡ true)
+    × (Facts page beforeRuling → Full v ≡ Empty → false ≡ true)
+    × (Facts twoSeats usedUp → true ≡ true)
 unfolding rulesAt ledgerAt noAcks equal conflict hasMost mostAcked lowestAffordable apply settleAtMost settle stepUnder
 marks-say = (
   λ f. f .next-marked beforeRuling (seatOf 0) v at-end refl refl,
   λ f. f .next-marked beforeRuling (seatOf 4) t at-end refl refl,
+  λ f. f .next-marked beforeRuling (seatOf 4) v at-end refl,
+  λ f. f .retained-marked usedUp (seatOf 0) (accountOf 0) u at-end refl,
 )
+
+-- Theorem 1, where one of the honest seats joins in: every honest seat has acked t, and the bad seat's ack of u comes to seat 1 when t is booked there. Nothing
+-- but t is put forward.
+abbrev joinedUndisputed : Run
+joinedUndisputed = undisputedRun ▹ ack 1 1 t Note ▹ ack 1 2 t Note ▹ ack 1 3 t (Accept 1) ▹ ack 1 5 u (Propose t)
+
+pub undisputed-late : Undisputed page bad joinedUndisputed t
+unfolding rulesAt ledgerAt noAcks equal conflict hasMost mostAcked lowestAffordable apply settleAtMost settle stepUnder
+undisputed-late =
+    theorem1 page bad joinedUndisputed t (joined-keeps .0) (joined-keeps .1) refl
+    (undisputed-keeps .1 then refl then refl then refl then refl)
+    (record { acks-genuine = refl; rulings-rightful = refl })
+    (each-honest (λ s. ackedBy s t joinedUndisputed ≡ true) refl refl refl refl refl)
 
 -- Late P's are not alike on equal acks: seat 0 has accepted t, and another in its place u; the ack of a third slip, which is the only one that either has then,
 -- brings t and u.

@@ -2,16 +2,18 @@
 -- ledger in a run, each from what a message does to a sound ledger: at every place (`run-induction`), from a place on (`stays`), and of
 -- every earlier call (`past-calls`).
 use Prim.Native.Nat.{ℕ}
-use mathlib.Core.Path.{_≡_, ap, sym, subst, _∙_}
+use mathlib.Core.Path.{_≡_, refl, ap, sym, subst, _∙_}
 use mathlib.Core.Logic.{_⊎_, inl, inr}
 use mathlib.Core.Bool.{false}
 use mathlib.Core.List.{List}
-use Rattle.agreement.specs.Types.{Seat, Ledger, Opening, Message, Reply, ListReply}
-use Rattle.agreement.specs.Runs.{Opens, Call, message, waitingList, switch, Event, Run, start, _▹_, Within, at-end, sooner, sameSeat, rulesAt, ledgerAt, Conforms, Obeys}
+use mathlib.Core.Option.{some}
+use Rattle.agreement.specs.Types.{Seat, Transfer, Ledger, Opening, Message, Reply, Propose, ListReply}
+use Rattle.agreement.specs.Runs.{Opens, Call, message, waitingList, switch, Event, Run, start, _▹_, Within, at-end, sooner, sameSeat, rulesAt, ledgerAt, Conforms, Obeys, proposed}
 use Rattle.agreement.proofs.Places.{startedUnder, the-start, nothing-yet, last-or-sooner, seat-self, obeys-at, one-event, ledger-induction}
 use Rattle.agreement.proofs.Proposals.{happens-in-run}
+use Rattle.agreement.proofs.Deeds.{proposed-is}
 use Rattle.agreement.proofs.Soundness.{group, Sound, opened-sound, switched-sound}
-use Rattle.agreement.proofs.StepLaws.{step-sound}
+use Rattle.agreement.proofs.StepLaws.{step-sound, Proposes, ProposesLate, answer-propose}
 use Rattle.model.specs.Records.{freshLedger}
 use Rattle.model.specs.Switches.{Rules, nextRules, switched, stepUnder}
 use Rattle.model.proofs.Sums.{impossible}
@@ -23,6 +25,14 @@ pub happened-at : (o : Opening) {p r : Run} {e : Event} (m : Message) (q : Reply
 happened-at o {p} {e = e} m q obeys w is =
     happens-in-run (rulesAt (e .at) p) (ledgerAt o (e .at) p) m q
     (subst (Conforms (rulesAt (e .at) p) (ledgerAt o (e .at) p)) is (obeys-at o obeys w))
+
+-- what a call did that put u forward: the message, and why, on a tally or late
+pub put-forward : (o : Opening) {p r : Run} {e : Event} (u : Transfer) → Obeys o r → Within (p ▹ e) r → proposed (e .call) ≡ some u
+    → (m : Message) × (next : Ledger) × (e .call ≡ message m (Propose u))
+    × (Proposes (ledgerAt o (e .at) p) m u next ⊎ ProposesLate (rulesAt (e .at) p) (ledgerAt o (e .at) p) m u next)
+put-forward o {e = e} u obeys w is =
+    let call = proposed-is (e .call) u is in
+    (call .0, _, call .1, answer-propose _ _ (call .0) (Propose u) u refl (happened-at o (call .0) (Propose u) obeys w (call .1)))
 
 -- at every place of a run that obeys
 pub sound : (o : Opening) → Opens o → (s : Seat) (r : Run) → Obeys o r → Sound o (ledgerAt o s r)

@@ -4,26 +4,25 @@ use Prim.Native.Nat.{ℕ, _+_, _≤_, _<_}
 use native.Mathlib.Omega.{arith}
 use mathlib.Core.Path.{_≡_, refl, ap, sym, subst, _∙_}
 use mathlib.Core.Logic.{_⊎_, inl, inr}
-use mathlib.Core.Bool.{Bool, true, false, _&&_}
+use mathlib.Core.Bool.{Bool, true, _&&_}
 use mathlib.Core.Option.{some}
 use lib.ListN.{length}
 use Rattle.agreement.specs.Types.{Seat, Account, Transfer, Slot, Empty, Full, Entry, Ledger, Opening, Message, Reply, Propose}
-use Rattle.agreement.specs.Runs.{Opens, Call, message, waitingList, switch, Event, Run, _▹_, Within, at-end, sooner, happened, sameSeat, rulesAt, ledgerAt, Obeys, accepted, proposed, passes}
+use Rattle.agreement.specs.Runs.{Opens, Call, message, waitingList, switch, Event, Run, _▹_, Within, at-end, sooner, sameSeat, rulesAt, ledgerAt, Obeys, accepted, proposed, passes}
 use Rattle.agreement.specs.Facts.{proposedFor}
 use Rattle.agreement.proofs.Places.{before, within-trans, Order, same-event, earlier, later, order, happened-found, happened-holds, happened-later, obeys-before, seat-is, seat-self, rules-after, ledger-after}
-use Rattle.agreement.proofs.Deeds.{proposed-is, accepting-call, passes-is, that-slip}
-use Rattle.agreement.proofs.Agree.{same-number, number-same}
+use Rattle.agreement.proofs.Deeds.{accepting-call, passes-is}
 use Rattle.agreement.proofs.Proposals.{carried}
-use Rattle.agreement.proofs.Soundness.{opened-entry, group, SoundEntry, Sound, admitted}
+use Rattle.agreement.proofs.Soundness.{opened-entry, group, SoundEntry, booked-retained, Sound, admitted}
 use Rattle.agreement.proofs.StepLaws.{Puts, puts-mark, puts-ack, puts-proposal, puts-accepted, puts-ruled, puts-late, each-entry, just-retained, Proposes, ProposesLate, answer-propose, proposes-for}
-use Rattle.agreement.proofs.Reachable.{sound, run-induction, stays, everywhere, past-calls, happened-at}
+use Rattle.agreement.proofs.Reachable.{sound, run-induction, stays, everywhere, past-calls, happened-at, put-forward}
 use Rattle.model.specs.Basics.{bit}
 use Rattle.model.specs.Records.{withBalance, withProposed, withRetainedProposed, entryOf}
 use Rattle.model.specs.Settling.{isWaiting}
-use Rattle.model.specs.Switches.{Rules, firstRules, sinceRequest3, sinceRequest5, rank, nextRules, retainsWaiting, switched}
-use Rattle.model.specs.Transfers.{sameNumber, equal}
+use Rattle.model.specs.Switches.{Rules, firstRules, sinceRequest3, sinceRequest5, rank, nextRules, retainsFrom, switched}
+use Rattle.model.specs.Transfers.{sameNumber}
 use Rattle.model.proofs.Sums.{impossible, both, same-test}
-use Rattle.model.proofs.Equality.{equal-refl, conflict-sound}
+use Rattle.model.proofs.Equality.{same-number, number-same, conflict-sound}
 use Rattle.model.proofs.Access.{with-entry-same}
 use Rattle.model.proofs.Booking.{SameButBalance, Cleared}
 use Rattle.model.proofs.Opened.{Group}
@@ -33,36 +32,46 @@ use Rattle.model.proofs.Steps.{Eligible, entryWithAck, waitingUnder, Happens}
 -- a slip of the next number, where nothing waits, is not retained
 none-next : (o : Opening) (l : Ledger) (t u : Transfer) → Group o → Sound o l → Eligible l t → entryOf l (t .account) .retained ≡ Full u
     → u .number ≡ t .number → ⊥
-none-next o l t u g ok fit held number = go (ok .each (t .account) .retained-stands u held .1)
-  where
-    go : (entryOf l (t .account) .pending ≡ Full u) ⊎ (u .number ≤ entryOf l (t .account) .current) → ⊥
-    go (inl waits) = impossible (cc (waits, admitted o l t g ok fit .none-waits))
-    go (inr past) = omega (arith, fit .is-next)
+none-next o l t u g ok fit held number =
+    omega (
+      arith,
+      fit .is-next,
+      booked-retained o (t .account) (entryOf l (t .account)) (ok .each (t .account)) (admitted o l t g ok fit .none-waits) u held,
+    )
 
--- What an entry retains under a set of rules: something since request 5 alone, and then what waits, or, where nothing does, what was booked last.
+-- What an entry retains under a set of rules: something since request 5 alone, and then what waits, if anything does, or else what was booked last.
 pub record Latest (v : Rules) (e : Entry) : Type 0 where
   pub slip : (t : Transfer) → e .retained ≡ Full t
       → (v ≡ sinceRequest5) × ((e .pending ≡ Full t) ⊎ ((e .pending ≡ Empty) × (t .number ≡ e .current)))
+  pub waiting : v ≡ sinceRequest5 → (t : Transfer) → e .pending ≡ Full t → e .retained ≡ Full t
   pub mark : e .retainedProposed ≡ true → v ≡ sinceRequest5
 
 -- where a slip is accepted
 accepted-latest : (v : Rules) (e : Entry) (t : Transfer) → Latest v e → Latest v (waitingUnder v e t)
-accepted-latest firstRules e t old = record { slip = λ u h. impossible (let not-yet = old .slip u h .0 in cc); mark = old .mark }
-accepted-latest sinceRequest3 e t old = record { slip = λ u h. impossible (let not-yet = old .slip u h .0 in cc); mark = old .mark }
-accepted-latest sinceRequest5 e t old = record { slip = λ u h. (refl, inl h); mark = λ h. refl }
+accepted-latest firstRules e t old =
+    record { slip = λ u h. impossible (let not-yet = old .slip u h .0 in cc); waiting = λ since u h. impossible (cc); mark = old .mark }
+accepted-latest sinceRequest3 e t old =
+    record { slip = λ u h. impossible (let not-yet = old .slip u h .0 in cc); waiting = λ since u h. impossible (cc); mark = old .mark }
+accepted-latest sinceRequest5 e t old = record { slip = λ u h. (refl, inl h); waiting = λ since u h. h; mark = λ h. refl }
 
 -- at a switch
 taken-latest : (v : Rules) (e : Entry) → Latest v e → Latest (nextRules v) (takesOver v e)
 taken-latest firstRules e old =
     record {
       slip = λ t h. impossible (let not-yet = old .slip t h .0 in cc);
+      waiting = λ since t h. impossible (cc);
       mark = λ h. impossible (let not-yet = old .mark h in cc);
     }
-taken-latest sinceRequest3 e old = record { slip = λ t h. go t (e .pending) refl h; mark = λ h. refl }
+taken-latest sinceRequest3 e old =
+    record { slip = λ t h. go t (e .pending) refl h; waiting = λ since t h. waits t (e .pending) refl h; mark = λ h. refl }
   where
-    go : (t : Transfer) (p : Slot) → e .pending ≡ p → retainsWaiting p e .retained ≡ Full t
+    waits : (t : Transfer) (p : Slot) → e .pending ≡ p → retainsFrom p e .pending ≡ Full t → retainsFrom p e .retained ≡ Full t
+    waits t Empty is h = impossible (cc)
+    waits t (Full u) is h = sym is ∙ h
+
+    go : (t : Transfer) (p : Slot) → e .pending ≡ p → retainsFrom p e .retained ≡ Full t
         → (sinceRequest5 ≡ sinceRequest5)
-        × ((retainsWaiting p e .pending ≡ Full t) ⊎ ((retainsWaiting p e .pending ≡ Empty) × (t .number ≡ retainsWaiting p e .current)))
+        × ((retainsFrom p e .pending ≡ Full t) ⊎ ((retainsFrom p e .pending ≡ Empty) × (t .number ≡ retainsFrom p e .current)))
     go t Empty is h = impossible (cc)
     go t (Full u) is h = (refl, inl (is ∙ h))
 taken-latest sinceRequest5 e old = old
@@ -77,12 +86,17 @@ step-latest v o l next m r g ok h old =
     as-before : (e e′ : Entry) → e′ .current ≡ e .current → e′ .pending ≡ e .pending → e′ .retained ≡ e .retained → e′ .retainedProposed ≡ e .retainedProposed
         → Latest v e → Latest v e′
     as-before e e′ current pending retained mark was =
-        record { slip = λ t this. rw (pending, current) (was .slip t (sym retained ∙ this)); mark = λ this. was .mark (sym mark ∙ this) }
+        record {
+          slip = λ t this. rw (pending, current) (was .slip t (sym retained ∙ this));
+          waiting = λ since t this. retained ∙ was .waiting since t (sym pending ∙ this);
+          mark = λ this. was .mark (sym mark ∙ this);
+        }
 
     booked : (a : Account) (e e′ : Entry) (t : Transfer) → SoundEntry o a e → e .pending ≡ Full t → Cleared t e e′ → Latest v e → Latest v e′
     booked a e e′ t stands waits clear was =
         record {
           slip = λ u this. let found = was .slip u (sym (clear .retained-same) ∙ this) in (found .0, inr (clear .none-pending, number u (found .1)));
+          waiting = λ since u this. impossible (cc (this, clear .none-pending));
           mark = λ this. was .mark (sym (clear .late-same) ∙ this);
         }
       where
@@ -97,7 +111,7 @@ step-latest v o l next m r g ok h old =
     puts t x (puts-accepted s c e f fit new full is) =
         rw is (accepted-latest v (entryWithAck l s t) t (as-before (entryOf l (t .account)) _ refl refl refl refl (old (t .account))))
     puts t x (puts-ruled c e f fit is) = rw is (accepted-latest v (entryOf l (t .account)) t (old (t .account)))
-    puts t x (puts-late s u since e f join is) = rw is (record { slip = old (t .account) .slip; mark = λ this. since })
+    puts t x (puts-late s u since e f join is) = rw is (record { slip = old (t .account) .slip; waiting = old (t .account) .waiting; mark = λ this. since })
 
 module _ (o : Opening) (opens : Opens o) (s : Seat) where
   -- at every place of a run
@@ -106,7 +120,7 @@ module _ (o : Opening) (opens : Opens o) (s : Seat) where
       everywhere o opens s (λ v l. (a : Account) → Latest v (entryOf l a))
       (λ v l ok old a. rw (switched-entry v l a) (taken-latest v (entryOf l a) (old a)))
       (λ v l next m q ok h old. step-latest v o l next m q (group o opens) ok h old)
-      (λ v a. rw (opened-entry o a) (record { slip = λ t h. impossible (cc); mark = λ h. impossible (cc) }))
+      (λ v a. rw (opened-entry o a) (record { slip = λ t h. impossible (cc); waiting = λ since t h. impossible (cc); mark = λ h. impossible (cc) }))
 
 -- The slip is the latest that was accepted under the rules since request 5, and is retained; or a later one was accepted.
 abbrev Retains : Transfer → Entry → Type 0
@@ -139,11 +153,10 @@ retains-step v o l next m r t g ok since =
         go (inl past) =
             let none : bit (isWaiting (entryOf l (u .account))) ≡ 0 = rw (admitted o l u g ok fit .none-waits) in
             inl (omega arith)
-        go (inr held) = number (ok .each (u .account) .retained-stands t held .1)
-          where
-            number : (entryOf l (u .account) .pending ≡ Full t) ⊎ (t .number ≤ entryOf l (u .account) .current) → Retains t (waitingUnder sinceRequest5 x u)
-            number (inl waits) = impossible (cc (waits, admitted o l u g ok fit .none-waits))
-            number (inr past) = inl (omega arith)
+        go (inr held) =
+            let e = entryOf l (u .account) in
+            let past = booked-retained o (u .account) e (ok .each (u .account)) (admitted o l u g ok fit .none-waits) t held in
+            inl (omega arith)
 
     puts : (u : Transfer) (x : Entry) → Puts v l m r u x → Retains t (entryOf l (u .account)) → Retains t x
     puts u x (puts-mark e f fit is) = rw is (λ old. old)
@@ -197,11 +210,16 @@ module _ (o : Opening) (opens : Opens o) (run : Run) (obeys : Obeys o run) where
       end (inl later-one) = absurd (omega arith)
       end (inr held) = held
 
+-- the next number's mark is set, or, since request 5, the number is retained
+abbrev MarkedOrRetained : ℕ → Rules → Entry → Type 0
+MarkedOrRetained number v e =
+    (e .proposed ≡ true) ⊎ ((v ≡ sinceRequest5) × (u : Transfer) × (e .retained ≡ Full u) × (u .number ≡ number))
+
 -- A number is used up in an entry, under a set of rules: something was put forward for it, so nothing is any more. It is not above the next; if it is the
 -- next, its mark is set, or, since request 5, it is retained; and if it is retained, that mark is set.
 pub record UsedUp (number : ℕ) (v : Rules) (e : Entry) : Type 0 where
   pub not-above : number ≤ e .current + 1
-  pub next-marked : number ≡ e .current + 1 → (e .proposed ≡ true) ⊎ ((v ≡ sinceRequest5) × (u : Transfer) × (e .retained ≡ Full u) × (u .number ≡ number))
+  pub next-marked : number ≡ e .current + 1 → MarkedOrRetained number v e
   pub late-marked : (u : Transfer) → e .retained ≡ Full u → u .number ≡ number → e .retainedProposed ≡ true
 
 -- an entry of the same number with the same or more marks
@@ -214,8 +232,7 @@ still-used number v e e′ current marked retained late old =
       late-marked = λ u h this. late (old .late-marked u (sym retained ∙ h) this);
     }
   where
-    go : (e .proposed ≡ true) ⊎ ((v ≡ sinceRequest5) × (u : Transfer) × (e .retained ≡ Full u) × (u .number ≡ number))
-        → (e′ .proposed ≡ true) ⊎ ((v ≡ sinceRequest5) × (u : Transfer) × (e′ .retained ≡ Full u) × (u .number ≡ number))
+    go : MarkedOrRetained number v e → MarkedOrRetained number v e′
     go (inl is) = inl (marked is)
     go (inr (since, u, held, this)) = inr (since, u, retained ∙ held, this)
 
@@ -234,9 +251,7 @@ accepted-used number sinceRequest5 e t next none-held old =
           marked is (old .next-marked is);
     }
   where
-    marked : number ≡ e .current + 1
-        → (e .proposed ≡ true) ⊎ ((sinceRequest5 ≡ sinceRequest5) × (u : Transfer) × (e .retained ≡ Full u) × (u .number ≡ number))
-        → e .proposed ≡ true
+    marked : number ≡ e .current + 1 → MarkedOrRetained number sinceRequest5 e → e .proposed ≡ true
     marked is (inl yes-marked) = yes-marked
     marked is (inr (since, u, held, this)) = absurd (none-held u held (omega arith))
 
@@ -245,8 +260,7 @@ taken-used : (number : ℕ) (o : Opening) (a : Account) (v : Rules) (e : Entry) 
 taken-used number o a firstRules e ok old =
     record { not-above = old .not-above; next-marked = λ next. go (old .next-marked next); late-marked = old .late-marked }
   where
-    go : (e .proposed ≡ true) ⊎ ((firstRules ≡ sinceRequest5) × (u : Transfer) × (e .retained ≡ Full u) × (u .number ≡ number))
-        → (e .proposed ≡ true) ⊎ ((sinceRequest3 ≡ sinceRequest5) × (u : Transfer) × (e .retained ≡ Full u) × (u .number ≡ number))
+    go : MarkedOrRetained number firstRules e → MarkedOrRetained number sinceRequest3 e
     go (inl is) = inl is
     go (inr (since, u, held, this)) = impossible (cc)
 taken-used number o a sinceRequest3 e ok old = go (e .pending) refl
@@ -254,11 +268,11 @@ taken-used number o a sinceRequest3 e ok old = go (e .pending) refl
     marked : number ≡ e .current + 1 → e .proposed ≡ true
     marked next = pick (old .next-marked next)
       where
-        pick : (e .proposed ≡ true) ⊎ ((sinceRequest3 ≡ sinceRequest5) × (u : Transfer) × (e .retained ≡ Full u) × (u .number ≡ number)) → e .proposed ≡ true
+        pick : MarkedOrRetained number sinceRequest3 e → e .proposed ≡ true
         pick (inl is) = is
         pick (inr (since, u, held, this)) = impossible (cc)
 
-    go : (p : Slot) → e .pending ≡ p → UsedUp number sinceRequest5 (retainsWaiting p e)
+    go : (p : Slot) → e .pending ≡ p → UsedUp number sinceRequest5 (retainsFrom p e)
     go Empty is =
         record { not-above = old .not-above; next-marked = λ next. inl (marked next); late-marked = λ u h this. impossible (cc) }
     go (Full t) is =
@@ -353,7 +367,7 @@ module _ (o : Opening) (opens : Opens o) where
     none-more : (p q : Run) (e d : Event) (t u : Transfer) → Within (q ▹ d) run → Within (p ▹ e) q → e .at ≡ d .at
         → proposed (e .call) ≡ some t → proposed (d .call) ≡ some u → t .account ≡ u .account → t .number ≡ u .number → ⊥
     none-more p q e d t u w first seat ist isu account number =
-        go (answer-propose l _ (call .0) (Propose u) u refl (happened-at o (call .0) (Propose u) obeys w (call .1)))
+        go (put-forward o u obeys w isu .3)
       where
         here : Obeys o q
         here = obeys-before o obeys (before w)
@@ -364,27 +378,22 @@ module _ (o : Opening) (opens : Opens o) where
         ok : Sound o l
         ok = sound o opens (d .at) q here
 
-        call : (m : Message) × (d .call ≡ message m (Propose u))
-        call = proposed-is (d .call) u isu
-
         used : UsedUp (u .number) (rulesAt (d .at) q) (entryOf l (u .account))
         used = rw (← account, ← number) (spent (d .at) q here p e first seat t ist)
 
-        go : {next : Ledger} → Proposes l (call .0) u next ⊎ ProposesLate (rulesAt (d .at) q) l (call .0) u next → ⊥
-        go (inl found) = pick (there .next-marked (same .1 ∙ fit .is-next))
+        go : {m : Message} {next : Ledger} → Proposes l m u next ⊎ ProposesLate (rulesAt (d .at) q) l m u next → ⊥
+        go {m} (inl found) = pick (there .next-marked (same .1 ∙ fit .is-next))
           where
             fit : Eligible l (found .slip)
             fit = found .records .eligible
 
             same : (u .account ≡ found .slip .account) × (u .number ≡ found .slip .number)
-            same = proposes-for o l (call .0) u (group o opens) ok found
+            same = proposes-for o l m u (group o opens) ok found
 
             there : UsedUp (u .number) (rulesAt (d .at) q) (entryOf l (found .slip .account))
             there = rw (← same .0) used
 
-            pick : (entryOf l (found .slip .account) .proposed ≡ true)
-                ⊎ ((rulesAt (d .at) q ≡ sinceRequest5) × (x : Transfer) × (entryOf l (found .slip .account) .retained ≡ Full x) × (x .number ≡ u .number))
-                → ⊥
+            pick : MarkedOrRetained (u .number) (rulesAt (d .at) q) (entryOf l (found .slip .account)) → ⊥
             pick (inl marked) = impossible (cc (marked, found .nothing-proposed))
             pick (inr (since, x, held, this)) = none-next o l (found .slip) x (group o opens) ok fit held (this ∙ same .1)
         go (inr late) =
@@ -407,26 +416,22 @@ module _ (o : Opening) (opens : Opens o) where
 
 -- Why a mark is set: a call at the seat put something forward for its number.
 module _ (o : Opening) (opens : Opens o) (s : Seat) where
-  abbrev isProposed : Transfer → Event → Bool
-  isProposed u e = sameSeat (e .at) s && passes (equal u) (proposed (e .call))
-
-  abbrev WasProposed : Run → Account → ℕ → Type 0
-  WasProposed r a m = (u : Transfer) × (u .account ≡ a) × (u .number ≡ m) × (happened (isProposed u) r ≡ true)
+  -- a call at the seat put forward a slip with t's account and number
+  abbrev putsFor : Transfer → Event → Bool
+  putsFor t e = sameSeat (e .at) s && passes (sameNumber t) (proposed (e .call))
 
   record Marked (r : Run) (a : Account) (e : Entry) : Type 0 where
-    pub next-why : e .proposed ≡ true → WasProposed r a (e .current + 1)
-    pub retained-why : (t : Transfer) → e .retained ≡ Full t → e .retainedProposed ≡ true → WasProposed r a (t .number)
-
-  was-later : {r r′ : Run} (a : Account) (m : ℕ) → Within r r′ → WasProposed r a m → WasProposed r′ a m
-  was-later a m w was = (was .0, was .1, was .2, happened-later (isProposed (was .0)) w (was .3))
+    pub next-why : e .proposed ≡ true → (t : Transfer) → t .account ≡ a → t .number ≡ e .current + 1 → proposedFor s t r ≡ true
+    pub retained-why : (t : Transfer) → e .retained ≡ Full t → e .retainedProposed ≡ true → proposedFor s t r ≡ true
 
   -- the same marks of the same numbers, at the same place or later
   marks-stay : (r r′ : Run) (a : Account) (e e′ : Entry) → Within r r′ → e′ .current ≡ e .current → e′ .proposed ≡ e .proposed → e′ .retained ≡ e .retained
       → e′ .retainedProposed ≡ e .retainedProposed → Marked r a e → Marked r′ a e′
   marks-stay r r′ a e e′ w current proposed-same retained late why =
       record {
-        next-why = λ h. rw current (was-later {r = r} {r′ = r′} a (e .current + 1) w (why .next-why (sym proposed-same ∙ h)));
-        retained-why = λ t held h. was-later {r = r} {r′ = r′} a (t .number) w (why .retained-why t (sym retained ∙ held) (sym late ∙ h));
+        next-why = λ h t account number.
+            happened-later (putsFor t) w (why .next-why (sym proposed-same ∙ h) t account (number ∙ ap (λ m. m + 1) current));
+        retained-why = λ t held h. happened-later (putsFor t) w (why .retained-why t (sym retained ∙ held) (sym late ∙ h));
       }
 
   -- a slip of the next number is accepted, and retained with its mark
@@ -436,7 +441,7 @@ module _ (o : Opening) (opens : Opens o) (s : Seat) where
   accepted-marked r sinceRequest5 e t next why =
       record {
         next-why = why .next-why;
-        retained-why = λ u held h. let same : t ≡ u = cc in rw (← same, next) (why .next-why h);
+        retained-why = λ u held h. let same : t ≡ u = cc in rw (← same) (why .next-why h t refl next);
       }
 
   -- at a switch what waits is retained with its mark
@@ -444,12 +449,13 @@ module _ (o : Opening) (opens : Opens o) (s : Seat) where
   taken-marked r firstRules a e ok why = why
   taken-marked r sinceRequest3 a e ok why = go (e .pending) refl
     where
-      go : (p : Slot) → e .pending ≡ p → Marked r a (retainsWaiting p e)
+      go : (p : Slot) → e .pending ≡ p → Marked r a (retainsFrom p e)
       go Empty is = record { next-why = why .next-why; retained-why = λ t held h. impossible (cc) }
       go (Full t) is =
+          let stands = ok .pending-stands t is in
           record {
             next-why = why .next-why;
-            retained-why = λ u held h. let same : t ≡ u = cc in rw (← same, ok .pending-stands t is .1) (why .next-why h);
+            retained-why = λ u held h. let same : t ≡ u = cc in rw (← same) (why .next-why h t (stands .0) (stands .1));
           }
   taken-marked r sinceRequest5 a e ok why = why
 
@@ -471,10 +477,11 @@ module _ (o : Opening) (opens : Opens o) (s : Seat) where
       later-on : (a : Account) → Marked now a (entryOf l a)
       later-on a = marks-stay r now a (entryOf l a) (entryOf l a) (sooner at-end) refl refl refl refl (old a)
 
-      -- this call puts u forward
-      this-call : (u : Transfer) (a : Account) (k : ℕ) → q ≡ Propose u → u .account ≡ a → u .number ≡ k → WasProposed now a k
-      this-call u a k is account number =
-          (u, account, number, happened-holds (isProposed u) {p = r} {r = now} {e = record { at = s; call = message m q }} at-end (rw (seat-self s, is, equal-refl u)))
+      -- this call puts u forward, for t's number
+      this-call : (u t : Transfer) → q ≡ Propose u → t .account ≡ u .account → t .number ≡ u .number → proposedFor s t now ≡ true
+      this-call u t is account number =
+          happened-holds (putsFor t) {p = r} {r = now} {e = record { at = s; call = message m q }} at-end
+          (rw (seat-self s, is, same-number t u account number))
 
       as-it-was : (a : Account) (x : Entry) → x .current ≡ entryOf l a .current → x .proposed ≡ entryOf l a .proposed → x .retained ≡ entryOf l a .retained
           → x .retainedProposed ≡ entryOf l a .retainedProposed → Marked now a x
@@ -486,20 +493,17 @@ module _ (o : Opening) (opens : Opens o) (s : Seat) where
       puts t x (puts-proposal z u e f fit new for is) =
           rw is
           (record {
-            next-why = λ this. this-call u (t .account) _ f (for .0) (for .1 ∙ fit .is-next);
+            next-why = λ this w account number. this-call u w f (account ∙ sym (for .0)) (number ∙ sym (for .1 ∙ fit .is-next));
             retained-why = later-on (t .account) .retained-why;
           })
       puts t x (puts-accepted z c e f fit new full is) =
           rw is (accepted-marked now v (entryWithAck l z t) t (fit .is-next) (as-it-was (t .account) (entryWithAck l z t) refl refl refl refl))
       puts t x (puts-ruled c e f fit is) = rw is (accepted-marked now v (entryOf l (t .account)) t (fit .is-next) (later-on (t .account)))
       puts t x (puts-late z u since e f join is) =
-          let clash = conflict-sound u t (join .conflicting) in
           rw is
           (record {
             next-why = later-on (t .account) .next-why;
-            retained-why = λ w held this.
-                let same : u ≡ w = cc (held, join .is-retained) in
-                this-call u (t .account) (w .number) f (clash .account) (ap (λ (y : Transfer). y .number) same);
+            retained-why = λ w held this. let same : u ≡ w = cc (held, join .is-retained) in rw (← same) (this-call u u f refl refl);
           })
 
   -- at every place of a run
@@ -515,67 +519,41 @@ module _ (o : Opening) (opens : Opens o) (s : Seat) where
       (taken-marked r v a (entryOf l a) (ok .each a) (old a))))
       (λ r v m q l next ok h old. step-marked v r m q l next ok h old)
 
-  -- something with a slip's account and number was put forward: what that is
-  was-for : (r : Run) (t : Transfer) → proposedFor s t r ≡ true
-      → (p : Run) × (e : Event) × Within (p ▹ e) r × (e .at ≡ s) × ((u : Transfer) × (proposed (e .call) ≡ some u) × (t .account ≡ u .account) × (t .number ≡ u .number))
-  was-for r t h =
-      let found = happened-found (λ e. sameSeat (e .at) s && passes (sameNumber t) (proposed (e .call))) r h in
+  -- something with a slip's account and number was put forward, so that number is used up
+  was-for : (r : Run) → Obeys o r → (t : Transfer) → proposedFor s t r ≡ true → UsedUp (t .number) (rulesAt s r) (entryOf (ledgerAt o s r) (t .account))
+  was-for r obeys t h =
+      let found = happened-found (putsFor t) r h in
       let parts = both (sameSeat (found .1 .at) s) (passes (sameNumber t) (proposed (found .1 .call))) (found .3) in
       let slip = passes-is (sameNumber t) (proposed (found .1 .call)) (parts .1) in
       let alike = number-same t (slip .0) (slip .2) in
-      (found .0, found .1, found .2, seat-is (found .1 .at) s (parts .0), (slip .0, slip .1, alike .0, alike .1))
-
-  for-it : (r : Run) (t : Transfer) → WasProposed r (t .account) (t .number) → proposedFor s t r ≡ true
-  for-it r t (u, account, number, h) =
-      let found = happened-found (isProposed u) r h in
-      let parts = both (sameSeat (found .1 .at) s) (passes (equal u) (proposed (found .1 .call))) (found .3) in
-      let slip = that-slip u (proposed (found .1 .call)) (parts .1) in
-      happened-holds (λ e. sameSeat (e .at) s && passes (sameNumber t) (proposed (e .call))) (found .2)
-      (rw (parts .0, slip, same-number t u (sym account) (sym number)))
+      moved (slip .0) (alike .0) (alike .1)
+      (spent o opens s r obeys (found .0) (found .1) (found .2) (seat-is (found .1 .at) s (parts .0)) (slip .0) (slip .1))
+    where
+      moved : (u : Transfer) → t .account ≡ u .account → t .number ≡ u .number
+          → UsedUp (u .number) (rulesAt s r) (entryOf (ledgerAt o s r) (u .account)) → UsedUp (t .number) (rulesAt s r) (entryOf (ledgerAt o s r) (t .account))
+      moved u account number used = rw (account, number) used
 
   pub retained-marked : (r : Run) → Obeys o r → (a : Account) (t : Transfer) → entryOf (ledgerAt o s r) a .retained ≡ Full t
       → entryOf (ledgerAt o s r) a .retainedProposed ≡ proposedFor s t r
-  retained-marked r obeys a t held = same-test _ _ forth back
+  retained-marked r obeys a t held = same-test _ _ (marked r obeys a .retained-why t held) back
     where
-      own : t .account ≡ a
-      own = sound o opens s r obeys .each a .retained-stands t held .0
-
-      forth : entryOf (ledgerAt o s r) a .retainedProposed ≡ true → proposedFor s t r ≡ true
-      forth h = for-it r t (rw own (marked r obeys a .retained-why t held h))
-
       back : proposedFor s t r ≡ true → entryOf (ledgerAt o s r) a .retainedProposed ≡ true
-      back h = go (was-for r t h)
-        where
-          go : (p : Run) × (e : Event) × Within (p ▹ e) r × (e .at ≡ s) × ((u : Transfer) × (proposed (e .call) ≡ some u) × (t .account ≡ u .account) × (t .number ≡ u .number))
-              → entryOf (ledgerAt o s r) a .retainedProposed ≡ true
-          go (p, e, w, seat, (u, is, account, number)) =
-              let used : UsedUp (u .number) (rulesAt s r) (entryOf (ledgerAt o s r) a) = rw (← own, account) (spent o opens s r obeys p e w seat u is) in
-              used .late-marked t held number
+      back h =
+          let own = sound o opens s r obeys .each a .retained-stands t held .0 in
+          let used : UsedUp (t .number) (rulesAt s r) (entryOf (ledgerAt o s r) a) = rw (← own) (was-for r obeys t h) in
+          used .late-marked t held refl
 
   pub next-marked : (r : Run) → Obeys o r → (t : Transfer) → t .number ≡ entryOf (ledgerAt o s r) (t .account) .current + 1
       → entryOf (ledgerAt o s r) (t .account) .pending ≡ Empty → entryOf (ledgerAt o s r) (t .account) .proposed ≡ proposedFor s t r
-  next-marked r obeys t next none-waits = same-test _ _ forth back
+  next-marked r obeys t next none-waits = same-test _ _ (λ h. marked r obeys (t .account) .next-why h t refl next) back
     where
       e : Entry
       e = entryOf (ledgerAt o s r) (t .account)
 
-      forth : e .proposed ≡ true → proposedFor s t r ≡ true
-      forth h = for-it r t (rw next (marked r obeys (t .account) .next-why h))
+      pick : MarkedOrRetained (t .number) (rulesAt s r) e → e .proposed ≡ true
+      pick (inl is-set) = is-set
+      pick (inr (since, x, held, same)) =
+          absurd (omega (arith, booked-retained o (t .account) e (sound o opens s r obeys .each (t .account)) none-waits x held))
 
       back : proposedFor s t r ≡ true → e .proposed ≡ true
-      back h = go (was-for r t h)
-        where
-          go : (p : Run) × (d : Event) × Within (p ▹ d) r × (d .at ≡ s) × ((u : Transfer) × (proposed (d .call) ≡ some u) × (t .account ≡ u .account) × (t .number ≡ u .number))
-              → e .proposed ≡ true
-          go (p, d, w, seat, (u, is, account, number)) = pick (used .next-marked (sym number ∙ next))
-            where
-              used : UsedUp (u .number) (rulesAt s r) e
-              used = rw account (spent o opens s r obeys p d w seat u is)
-
-              past : (x : Transfer) → x .number ≡ u .number → (e .pending ≡ Full x) ⊎ (x .number ≤ e .current) → e .proposed ≡ true
-              past x same (inl waits) = impossible (cc (waits, none-waits))
-              past x same (inr before-it) = absurd (omega arith)
-
-              pick : (e .proposed ≡ true) ⊎ ((rulesAt s r ≡ sinceRequest5) × (x : Transfer) × (e .retained ≡ Full x) × (x .number ≡ u .number)) → e .proposed ≡ true
-              pick (inl is-set) = is-set
-              pick (inr (since, x, held, same)) = past x same (sound o opens s r obeys .each (t .account) .retained-stands x held .1)
+      back h = pick (was-for r obeys t h .next-marked next)

@@ -16,7 +16,7 @@ use Rattle.model.specs.Transfers.{sameNumber, equal}
 use Rattle.model.specs.Acks.{holds, conflicts, acksFor, enough}
 use Rattle.model.specs.Refusals.{outOfRange, waitsAlready, ackFrom}
 use Rattle.model.specs.Settling.{settle}
-use Rattle.model.specs.Switches.{Rules, firstRules, sinceRequest3, sinceRequest5, retainsWaiting, switched}
+use Rattle.model.specs.Switches.{Rules, firstRules, sinceRequest3, sinceRequest5, retainsFrom, switched}
 use Rattle.model.proofs.Sums.{impossible, sum-set, sum-set-same, sum-same-each}
 use Rattle.model.proofs.Equality.{equal-sound, equal-refl, Conflict, conflict-complete}
 use Rattle.model.proofs.Access.{no-acks-length, set-each, set-entry-length}
@@ -149,13 +149,17 @@ module _ (o : Opening) where
           } in
           impossible (cc (agrees, conflict-complete u t both))
 
-  -- where nothing waits, what is retained has been booked, so it stands where a slip is accepted too
-  past-retained : (a : Account) (e : Entry) (t : Transfer) → SoundEntry o a e → e .pending ≡ Empty → RetainedStands a (withPending e t)
-  past-retained a e t ok empty u h = let was = ok .retained-stands u h in (was .0, go (was .1))
+  -- where nothing waits, what is retained has been booked
+  pub booked-retained : (a : Account) (e : Entry) → SoundEntry o a e → e .pending ≡ Empty → (u : Transfer) → e .retained ≡ Full u → u .number ≤ e .current
+  booked-retained a e ok empty u held = go (ok .retained-stands u held .1)
     where
-      go : (e .pending ≡ Full u) ⊎ (u .number ≤ e .current) → (withPending e t .pending ≡ Full u) ⊎ (u .number ≤ e .current)
+      go : (e .pending ≡ Full u) ⊎ (u .number ≤ e .current) → u .number ≤ e .current
       go (inl waits) = impossible (cc)
-      go (inr past) = inr past
+      go (inr past) = past
+
+  -- so it stands where a slip is accepted too
+  past-retained : (a : Account) (e : Entry) (t : Transfer) → SoundEntry o a e → e .pending ≡ Empty → RetainedStands a (withPending e t)
+  past-retained a e t ok empty u h = (ok .retained-stands u h .0, inr (booked-retained a e ok empty u h))
 
   -- one more ack is recorded
   module _ (a : Account) (e : Entry) (s : Seat) (t : Transfer)
@@ -282,7 +286,7 @@ takes-over-sound : (o : Opening) (a : Account) (v : Rules) (e : Entry) → Sound
 takes-over-sound o a firstRules e ok = ok
 takes-over-sound o a sinceRequest3 e ok = go (e .pending) refl
   where
-    go : (p : Slot) → e .pending ≡ p → SoundEntry o a (retainsWaiting p e)
+    go : (p : Slot) → e .pending ≡ p → SoundEntry o a (retainsFrom p e)
     go Empty is = retained-sound o a e (withNoneRetained e) refl refl refl (λ t h. impossible (cc)) ok
     go (Full t) is =
         retained-sound o a e (withRetained e t) refl refl refl

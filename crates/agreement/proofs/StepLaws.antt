@@ -8,23 +8,23 @@ use mathlib.Core.Path.{_≡_, refl, ap, sym, subst, _∙_}
 use mathlib.Core.Logic.{_⊎_, inl, inr}
 use mathlib.Core.Bool.{Bool, true, false, not, _&&_}
 use lib.Dec.{leb}
-use borrow.Author.Tests.{leb-true, ltb-true, lt-leb}
+use borrow.Author.Tests.{leb-true, ltb-true, le-leb, lt-leb, le-ltb}
 use mathlib.Core.Option.{none, some}
 use lib.ListN.{length}
 use Rattle.agreement.specs.Types.{Seat, Account, Transfer, Slot, Empty, Full, Entry, Ledger, Opening, Refusal, Message, Request, Circulated, Ack, Decision, Inquiry, Reply, Acknowledge, Accept, Propose, Balance, Refuse}
-use Rattle.model.specs.declared.Refusal.the-variants.{FutureNumber}
+use Rattle.model.specs.declared.Refusal.the-variants.{PastNumber, FutureNumber, AlreadyAccepted}
 use Rattle.agreement.specs.Runs.{isRefusal, message, isAccept, accepted}
 use Rattle.agreement.specs.Facts.{mustAccept}
 use Rattle.model.proofs.Opened.{Group}
-use Rattle.agreement.proofs.Soundness.{recorded-new, recorded-kept, recorded-counted, recorded-stands, SoundEntry, Sound, Admitted, admitted, marked-sound, stored, noted-entry, accepted-entry, ruled-entry, retain-sound, waits-sound, accept-sound}
+use Rattle.agreement.proofs.Soundness.{recorded-new, recorded-kept, recorded-counted, recorded-stands, SoundEntry, booked-retained, Sound, Admitted, admitted, marked-sound, stored, noted-entry, accepted-entry, ruled-entry, retain-sound, waits-sound, accept-sound}
 use Rattle.model.specs.Records.{seatOf, withAcked, withProposed, withPending, withRetained, withRetainedProposed, entryAt, setEntry, withEntries, withEntry, entryOf}
 use Rattle.model.specs.Acks.{slipIn, hasMost, holds, conflicts, acksFor, acksRecorded, enough, twoConflict, mustPropose}
-use Rattle.model.specs.Refusals.{outOfRange, waitsAlready, ackFrom}
+use Rattle.model.specs.Refusals.{firstRefusal, outOfRange, waitsAlready, ackFrom}
 use Rattle.model.specs.Settling.{settle}
 use Rattle.model.specs.Calls.{lateIn, rulesIn}
-use Rattle.model.specs.Switches.{Rules, sinceRequest5, switched, rulesMet, stepUnder}
-use Rattle.model.proofs.Sums.{impossible, some-counted, both}
-use Rattle.model.proofs.Equality.{equal-sound, equal-refl, Conflict, conflict-sound}
+use Rattle.model.specs.Switches.{Rules, firstRules, sinceRequest3, sinceRequest5, switched, rulesMet, lateMet, stepUnder}
+use Rattle.model.proofs.Sums.{impossible, some-counted, both, is-not}
+use Rattle.model.proofs.Equality.{same-number, equal-sound, equal-refl, Conflict, conflict-sound}
 use Rattle.model.proofs.Access.{entry-set-same, set-each, with-entry-same}
 use Rattle.model.proofs.Tallies.{most-sound}
 use Rattle.model.proofs.Booking.{SameButBalance, Cleared}
@@ -86,11 +86,7 @@ pub record Proposes (l : Ledger) (m : Message) (u : Transfer) (next : Ledger) : 
 
 -- "nothing was put forward for this number"
 none-yet : (n f recorded : ℕ) (x : Entry) → mustPropose n f recorded x ≡ true → x .proposed ≡ false
-none-yet n f recorded x must = go (x .proposed) (both (leb (n - f) recorded && twoConflict (x .acks)) (not (x .proposed)) must .1)
-  where
-    go : (b : Bool) → not b ≡ true → b ≡ false
-    go true h = impossible (cc)
-    go false h = refl
+none-yet n f recorded x must = is-not (x .proposed) (both (leb (n - f) recorded && twoConflict (x .acks)) (not (x .proposed)) must .1)
 
 -- "at least n - f seats' acks are recorded"
 n-f-recorded : (l : Ledger) (x : Entry) → mustPropose (l .seats) (l .faults) (acksRecorded (x .acks)) x ≡ true
@@ -376,12 +372,12 @@ answer-balance l next m r a b kind reply (joined s t u since e f join same) = im
 answer-balance l next m r a b kind reply (told c e f same) = let account : a ≡ c = cc in rw account (let told : b ≡ entryOf l c .balance = cc in told)
 
 -- K exactly if an ack makes enough, or to a ruling, where these are not refused: no other call is answered K.
-refused-must : (l : Ledger) (m : Message) (r : Reply) (q : Refusal) → r ≡ Refuse q → isAccept r ≡ mustAccept l (message m r)
-refused-must l (Request t) r q e = rw e
-refused-must l (Circulated t) r q e = rw e
-refused-must l (Ack s t) r q e = rw e
-refused-must l (Decision t) r q e = rw e
-refused-must l (Inquiry a) r q e = rw e
+refused-must : (v : Rules) (l : Ledger) (m : Message) (r : Reply) (q : Refusal) → r ≡ Refuse q → isAccept r ≡ mustAccept v l (message m r)
+refused-must v l (Request t) r q e = rw e
+refused-must v l (Circulated t) r q e = rw e
+refused-must v l (Ack s t) r q e = rw e
+refused-must v l (Decision t) r q e = rw e
+refused-must v l (Inquiry a) r q e = rw e
 
 -- a late P is due just at an ack that brings one
 joining-late : (l : Ledger) (s : Seat) (t u : Transfer) → Joining l s t u → lateIn l (Ack s t) ≡ true
@@ -389,31 +385,70 @@ joining-late l s t u join =
     rw (lt-leb (l .seats) (s .0) (join .seat-known), join .in-range, join .is-retained, join .conflicting, join .nothing-proposed)
 
 -- and to no eligible slip: of the next number, where nothing waits, nothing is retained
-eligible-not-late : (o : Opening) (l : Ledger) (s : Seat) (t : Transfer) → Group o → Sound o l → Eligible l t → lateIn l (Ack s t) ≡ false
-eligible-not-late o l s t g ok fit = go (lateIn l (Ack s t)) refl
+eligible-not-late : (v : Rules) (o : Opening) (l : Ledger) (s : Seat) (t : Transfer) → Group o → Sound o l → Eligible l t → lateMet v l (Ack s t) ≡ false
+eligible-not-late firstRules o l s t g ok fit = refl
+eligible-not-late sinceRequest3 o l s t g ok fit = refl
+eligible-not-late sinceRequest5 o l s t g ok fit = go (lateIn l (Ack s t)) refl
   where
-    next : (u : Transfer) → Conflict u t → (entryOf l (t .account) .pending ≡ Full u) ⊎ (u .number ≤ entryOf l (t .account) .current) → ⊥
-    next u clash (inl waits) = impossible (cc (waits, admitted o l t g ok fit .none-waits))
-    next u clash (inr past) = omega (arith, fit .is-next, clash .number)
-
     go : (b : Bool) → lateIn l (Ack s t) ≡ b → b ≡ false
     go true is =
+        let e = entryOf l (t .account) in
         let join = joining l s t is in
-        let u = slipIn (entryOf l (t .account) .retained) in
-        absurd (next u (conflict-sound u t (join .conflicting)) (ok .each (t .account) .retained-stands u (join .is-retained) .1))
+        let u = slipIn (e .retained) in
+        let past = booked-retained o (t .account) e (ok .each (t .account)) (admitted o l t g ok fit .none-waits) u (join .is-retained) in
+        absurd (omega (arith, past, fit .is-next, conflict-sound u t (join .conflicting) .number))
     go false is = refl
 
-pub answer-exactly : {v : Rules} (o : Opening) (l next : Ledger) (m : Message) (r : Reply) → Group o → Sound o l → Happens v l m r next
-    → isAccept r ≡ mustAccept l (message m r)
-answer-exactly o l next m r g ok (refused q e same) = refused-must l m r q e
-answer-exactly o l next m r g ok (circulated t e f same) = rw (e, f)
-answer-exactly o l next m r g ok (acknowledged t e f fit clear same) = rw (e, f)
-answer-exactly o l next m r g ok (accepted-by-acks s t e f fit new full same) = rw (e, f, eligible-not-late o l s t g ok fit, full)
-answer-exactly o l next m r g ok (proposed s t u e f fit new few must most same) = rw (e, f, eligible-not-late o l s t g ok fit, few)
-answer-exactly o l next m r g ok (noted s t e f fit new few same) = rw (e, f, eligible-not-late o l s t g ok fit, few)
-answer-exactly o l next m r g ok (accepted-by-ruling t e f fit same) = rw (e, f)
-answer-exactly o l next m r g ok (joined s t u since e f join same) = rw (e, f, joining-late l s t u join)
-answer-exactly o l next m r g ok (told a e f same) = rw (e, f)
+-- a late P comes in place of 6, where the retained slip is booked, or of 8, where it waits
+pub late-in-place : (o : Opening) (v : Rules) (l : Ledger) (m : Message) → Sound o l → lateMet v l m ≡ true
+    → (firstRefusal (rulesMet v l m) ≡ some PastNumber) ⊎ (firstRefusal (rulesMet v l m) ≡ some AlreadyAccepted)
+late-in-place o firstRules l m ok late = impossible (cc)
+late-in-place o sinceRequest3 l m ok late = impossible (cc)
+late-in-place o sinceRequest5 l (Request t) ok late = impossible (cc)
+late-in-place o sinceRequest5 l (Circulated t) ok late = impossible (cc)
+late-in-place o sinceRequest5 l (Ack s t) ok late = go (ok .each (t .account) .retained-stands u (join .is-retained) .1)
+  where
+    e : Entry
+    e = entryOf l (t .account)
+
+    u : Transfer
+    u = slipIn (e .retained)
+
+    join : Joining l s t u
+    join = joining l s t late
+
+    clash : Conflict u t
+    clash = conflict-sound u t (join .conflicting)
+
+    go : (e .pending ≡ Full u) ⊎ (u .number ≤ e .current)
+        → (firstRefusal (rulesIn l (Ack s t)) ≡ some PastNumber) ⊎ (firstRefusal (rulesIn l (Ack s t)) ≡ some AlreadyAccepted)
+    go (inl waits) =
+        let next = ok .each (t .account) .pending-stands u waits .1 in
+        inr
+        (rw (
+          lt-leb (l .seats) (s .0) (join .seat-known),
+          join .in-range,
+          lt-leb (t .number) (e .current) (omega (arith, clash .number)),
+          le-ltb (e .current + 1) (t .number) (omega (arith, clash .number)),
+          waits,
+          same-number u t (clash .account) (clash .number),
+        ))
+    go (inr past) =
+        inl (rw (lt-leb (l .seats) (s .0) (join .seat-known), join .in-range, le-leb (t .number) (e .current) (omega (arith, clash .number))))
+late-in-place o sinceRequest5 l (Decision t) ok late = impossible (cc)
+late-in-place o sinceRequest5 l (Inquiry a) ok late = impossible (cc)
+
+pub answer-exactly : (v : Rules) (o : Opening) (l next : Ledger) (m : Message) (r : Reply) → Group o → Sound o l → Happens v l m r next
+    → isAccept r ≡ mustAccept v l (message m r)
+answer-exactly v o l next m r g ok (refused q e same) = refused-must v l m r q e
+answer-exactly v o l next m r g ok (circulated t e f same) = rw (e, f)
+answer-exactly v o l next m r g ok (acknowledged t e f fit clear same) = rw (e, f)
+answer-exactly v o l next m r g ok (accepted-by-acks s t e f fit new full same) = rw (e, f, eligible-not-late v o l s t g ok fit, full)
+answer-exactly v o l next m r g ok (proposed s t u e f fit new few must most same) = rw (e, f, eligible-not-late v o l s t g ok fit, few)
+answer-exactly v o l next m r g ok (noted s t e f fit new few same) = rw (e, f, eligible-not-late v o l s t g ok fit, few)
+answer-exactly v o l next m r g ok (accepted-by-ruling t e f fit same) = rw (e, f)
+answer-exactly v o l next m r g ok (joined s t u since e f join same) = rw (e, f, since, joining-late l s t u join)
+answer-exactly v o l next m r g ok (told a e f same) = rw (e, f)
 
 -- An ack that is not refused, and brings no late P, is recorded, and stays so until its number is booked.
 abbrev pub Held : Seat → Transfer → Entry → Type 0

@@ -187,10 +187,14 @@ mark-tried = marks-stand page heldOn asItWas heldOn (acks 0 w) w (across-keeps .
 
 pub mark-says :
     (stepUnder sinceRequest3 (ledgerAt page (seatOf 0) heldOn) (Circulated w) .reply ≡ Refuse SelfPayment)
-    × (stepUnder sinceRequest3 (ledgerAt page (seatOf 0) heldOn) (Circulated t) .reply ≡ Refuse AlreadyAcked)
+    × (stepUnder sinceRequest5 (ledgerAt page (seatOf 0) heldOn) (Circulated t) .reply ≡ Refuse AlreadyAcked)
     × (mark (ledgerAt page (seatOf 1) booked) ≡ false)
 unfolding rulesAt ledgerAt noAcks equal conflict hasMost mostAcked lowestAffordable apply settleAtMost settle stepUnder
-mark-says = (mark-tried .same-slip refl, mark-tried .other-slip t refl refl refl refl refl, refl)
+mark-says = (
+  mark-tried .same-slip sinceRequest3 (lit≤ tt) refl,
+  mark-tried .other-slip sinceRequest5 (lit≤ tt) t refl refl refl refl refl,
+  refl,
+)
 
 -- No more is alike between the sets of rules than is said: the reply to a slip is not. (Nor is the slip of a tied P: `ties-differ` in Ties.antt.)
 pub slips-differ : Alike (freshLedger page) (Circulated w) → ⊥

@@ -6,7 +6,7 @@ use mathlib.Core.Logic.{inl, inr}
 use mathlib.Core.Bool.{Bool, true, false, cond}
 use mathlib.Core.Option.{Option, none, some}
 use borrow.Author.Tests.{lt-leb, le-ltb}
-use Rattle.agreement.specs.Types.{Seat, Account, Transfer, Empty, Entry, Ledger, Message, Circulated, Ack, Decision, Inquiry, Reply, Refuse}
+use Rattle.agreement.specs.Types.{Seat, Account, Transfer, Empty, Entry, Ledger, Refusal, Message, Circulated, Ack, Decision, Inquiry, Reply, Refuse}
 use Rattle.agreement.specs.Runs.{Call, message, waitingList, switch, _▹_, at-end, sooner, sameSeat, rulesAfter, rulesAt, ledgerAt, freeSlip, acksWith, StandsFor, MayReply, Obeys}
 use Rattle.agreement.specs.Switching.{SameSaveTies, Alike, TakenAlike, NoneGoesBack, NewestStays, MarksStand}
 use Rattle.agreement.proofs.Places.{seat-is, obeys-before}
@@ -17,9 +17,9 @@ use Rattle.model.specs.declared.Refusal.the-variants.{AlreadyAcked, SelfPayment
 use Rattle.model.specs.Types.{Outcome}
 use Rattle.model.specs.Basics.{bit}
 use Rattle.model.specs.Records.{entryOf}
-use Rattle.model.specs.Refusals.{outOfRange, paysItself}
+use Rattle.model.specs.Refusals.{firstRefusal, outOfRange, paysItself}
 use Rattle.model.specs.Calls.{payerOf, turnBy, finished, entryFor, rulesIn}
-use Rattle.model.specs.Switches.{Rules, firstRules, sinceRequest3, sinceRequest5, newest, rank, nextRules, switched, rulesMet, retainsAs, stepUnder}
+use Rattle.model.specs.Switches.{Rules, firstRules, sinceRequest3, sinceRequest5, newest, rank, nextRules, switched, rulesMet, lateMet, retainsAs, stepUnder}
 use Rattle.model.proofs.Proposals.{most-acked-most}
 use Rattle.model.proofs.Refusing.{refuses}
 use Rattle.model.proofs.Switching.{ack-rules, ruling-rules}
@@ -98,28 +98,41 @@ mark-set e t upto unbooked = go (e .acked) refl
     go true is = (is, omega (arith, ap bit is))
     go false is = absurd (omega (arith, ap bit is))
 
-module _ (l : Ledger) (t : Transfer) where
-  -- what a circulated slip meets: 20
-  meets-20 : outOfRange l t ≡ false → paysItself t ≡ true → stepUnder sinceRequest3 l (Circulated t) .reply ≡ Refuse SelfPayment
-  meets-20 range itself = ap (λ (x : Outcome). x .reply) (refuses sinceRequest3 l (Circulated t) SelfPayment refl (rw (range, itself)))
+module _ (v : Rules) (since : rank sinceRequest3 ≤ rank v) (l : Ledger) (t : Transfer) where
+  -- a circulated slip is refused since request 3 by what it meets today, and brings no late P
+  meets : (r : Refusal) → firstRefusal (rulesIn l (Circulated t)) ≡ some r → stepUnder v l (Circulated t) .reply ≡ Refuse r
+  meets r today = ap (λ (x : Outcome). x .reply) (refuses v l (Circulated t) r (not-late v) (met v since))
+    where
+      not-late : (v : Rules) → lateMet v l (Circulated t) ≡ false
+      not-late firstRules = refl
+      not-late sinceRequest3 = refl
+      not-late sinceRequest5 = refl
+
+      met : (v : Rules) → rank sinceRequest3 ≤ rank v → firstRefusal (rulesMet v l (Circulated t)) ≡ some r
+      met firstRules above = absurd (omega arith)
+      met sinceRequest3 above = today
+      met sinceRequest5 above = today
+
+  -- 20
+  meets-20 : outOfRange l t ≡ false → paysItself t ≡ true → stepUnder v l (Circulated t) .reply ≡ Refuse SelfPayment
+  meets-20 range itself = meets SelfPayment (rw (range, itself))
 
   -- .. and 12
   meets-12 : outOfRange l t ≡ false → paysItself t ≡ false → t .number ≡ entryOf l (t .account) .current + 1
       → entryOf l (t .account) .pending ≡ Empty → entryOf l (t .account) .acked ≡ true
-      → stepUnder sinceRequest3 l (Circulated t) .reply ≡ Refuse AlreadyAcked
+      → stepUnder v l (Circulated t) .reply ≡ Refuse AlreadyAcked
   meets-12 range other next none-waits mark =
       let e = entryOf l (t .account) in
-      ap (λ (x : Outcome). x .reply)
-      (refuses sinceRequest3 l (Circulated t) AlreadyAcked refl
-      (rw (range, other, lt-leb (t .number) (e .current) (omega arith), le-ltb (e .current + 1) (t .number) (omega arith), none-waits, mark)))
+      meets AlreadyAcked
+      (rw (range, other, lt-leb (t .number) (e .current) (omega arith), le-ltb (e .current + 1) (t .number) (omega arith), none-waits, mark))
 
 pub marks-stand : MarksStand
 marks-stand o run p q e t opens obeys w v is unbooked =
     record {
       marked = mark .0;
-      same-slip = λ itself. meets-20 l t (acked-in-range o opens q here p e t w is .1 l (sound o opens s q here)) itself;
-      other-slip = λ u account number other range none-waits.
-          meets-12 l u range other (number ∙ (mark .1 ∙ ap (λ (a : Account). entryOf l a .current + 1) (sym account)))
+      same-slip = λ v since itself. meets-20 v since l t (acked-in-range o opens q here p e t w is .1 l (sound o opens s q here)) itself;
+      other-slip = λ v since u account number other range none-waits.
+          meets-12 v since l u range other (number ∙ (mark .1 ∙ ap (λ (a : Account). entryOf l a .current + 1) (sym account)))
           (ap (λ (a : Account). entryOf l a .pending) account ∙ none-waits)
           (ap (λ (a : Account). entryOf l a .acked) account ∙ mark .0);
     }

@@ -23,7 +23,7 @@ use Rattle.agreement.proofs.Reachable.{sound, stays}
 use Rattle.agreement.proofs.Quorums.{count-lift, two-quorums, quorum-most}
 use Rattle.agreement.proofs.Acked.{acked-by-found, acked-by-later, acked-by-once, all-from, acked-in-range}
 use Rattle.agreement.proofs.Votes.{vote, Tally, votes-counted, Quorum, Majority}
-use Rattle.agreement.proofs.Agree.{number-same, acks-quorum, proposed-why, ruled-only}
+use Rattle.agreement.proofs.Agree.{acks-quorum, proposed-why, ruled-only}
 use Rattle.agreement.proofs.Reasons.{all-reasons, decided-accepted}
 use Rattle.model.specs.Basics.{bit}
 use Rattle.model.specs.Records.{seatOf, withRetainedOf, entryOf}
@@ -32,7 +32,7 @@ use Rattle.model.specs.Acks.{holds, conflicts, acksFor, enough}
 use Rattle.model.specs.Refusals.{outOfRange, waitsAlready, ackFrom}
 use Rattle.model.specs.Switches.{Rules, switched, stepUnder}
 use Rattle.model.proofs.Sums.{impossible, both}
-use Rattle.model.proofs.Equality.{equal-sound, equal-refl, Conflict, conflict-sound}
+use Rattle.model.proofs.Equality.{number-same, equal-sound, equal-refl, Conflict, conflict-sound}
 use Rattle.model.proofs.Switching.{switched-keeps}
 use Rattle.model.proofs.Refusing.{refusal-keeps}
 use Rattle.model.proofs.Steps.{Happens}

@@ -2,6 +2,7 @@
 -- proofs/Always.antt.
 use Prim.Native.Nat.{ℕ, _+_, _≤_, _<_}
 use mathlib.Core.Path.{_≡_}
+use mathlib.Core.Logic.{_⊎_}
 use mathlib.Core.Bool.{Bool, true, false, not, _&&_, _||_}
 use mathlib.Core.Option.{some}
 use lib.ListN.{take}
@@ -9,13 +10,13 @@ use Rattle.agreement.specs.Types.{Seat, Account, Transfer, Empty, Full, 
 use Rattle.agreement.specs.Runs.{Opens, Call, message, waitingList, switch, Event, Run, _▹_, Within, happened, sameSeat, rulesAt, ledgerAt, Obeys, isAccept, isRefusal, acked, accepted, proposed, ruled, passes}
 use Rattle.agreement.specs.Slates.{slateAt}
 use Rattle.model.specs.Basics.{bit, sumOf}
-use Rattle.model.specs.Records.{withAck, sumBalances, sumCurrents, entryOf}
+use Rattle.model.specs.declared.Refusal.the-variants.{PastNumber, AlreadyAccepted}
+use Rattle.model.specs.Records.{withAck, sumBalances, sumCurrents, RetainsNothing, entryOf}
 use Rattle.model.specs.Transfers.{sameNumber, equal}
 use Rattle.model.specs.Acks.{holds, acksFor, enough}
-use Rattle.model.specs.Refusals.{ackFrom}
+use Rattle.model.specs.Refusals.{firstRefusal, ackFrom}
 use Rattle.model.specs.Settling.{isWaiting}
-use Rattle.model.specs.Calls.{lateIn}
-use Rattle.model.specs.Switches.{sinceRequest5, rank}
+use Rattle.model.specs.Switches.{Rules, sinceRequest5, rank, rulesMet, lateMet}
 
 -- the call is answered K
 abbrev pub answeredK : Call → Bool
@@ -34,17 +35,17 @@ countOf (Balance b) = 0
 countOf (Refuse q) = 0
 
 -- the call is not refused, and it is a ruling, or an ack that is recorded, since it brings no late P, and with which twice the recorded acks of its slip
--- exceed n + 3f. (Before request 5 no ack of a run would bring one today either, for nothing is retained.)
-abbrev pub mustAccept : Ledger → Call → Bool
-mustAccept l (message (Request t) r) = false
-mustAccept l (message (Circulated t) r) = false
-mustAccept l (message (Ack s t) r) =
+-- exceed n + 3f: under the rules of its seat
+abbrev pub mustAccept : Rules → Ledger → Call → Bool
+mustAccept v l (message (Request t) r) = false
+mustAccept v l (message (Circulated t) r) = false
+mustAccept v l (message (Ack s t) r) =
     not (isRefusal r)
-    && (not (lateIn l (Ack s t)) && enough (l .seats) (l .faults) (acksFor t (withAck (entryOf l (t .account)) s t .acks)))
-mustAccept l (message (Decision t) r) = not (isRefusal r)
-mustAccept l (message (Inquiry a) r) = false
-mustAccept l (waitingList before r after) = false
-mustAccept l switch = false
+    && (not (lateMet v l (Ack s t)) && enough (l .seats) (l .faults) (acksFor t (withAck (entryOf l (t .account)) s t .acks)))
+mustAccept v l (message (Decision t) r) = not (isRefusal r)
+mustAccept v l (message (Inquiry a) r) = false
+mustAccept v l (waitingList before r after) = false
+mustAccept v l switch = false
 
 -- a call at seat s in this run accepted the slip
 abbrev pub acceptedBy : Seat → Transfer → Run → Bool
@@ -109,11 +110,18 @@ pub record Facts (o : Opening) (run : Run) : Type 0 where
       → accepted (e .call) ≡ some t → rank sinceRequest5 ≤ rank (rulesAt (e .at) p)
       → t .number ≡ entryOf (ledgerAt o (e .at) q) (t .account) .current + bit (isWaiting (entryOf (ledgerAt o (e .at) q) (t .account)))
       → entryOf (ledgerAt o (e .at) q) (t .account) .retained ≡ Full t
+  -- .. and what waits, also what was accepted before and is taken over at a switch
+  pub waiting-retained : (p : Run) (s : Seat) (a : Account) (t : Transfer) → Within p run → rank sinceRequest5 ≤ rank (rulesAt s p)
+      → entryOf (ledgerAt o s p) a .pending ≡ Full t → entryOf (ledgerAt o s p) a .retained ≡ Full t
   -- before request 5 nothing is retained
   pub none-retained : (p : Run) (s : Seat) (a : Account) → Within p run → rank (rulesAt s p) < rank sinceRequest5
-      → (entryOf (ledgerAt o s p) a .retained ≡ Empty) × (entryOf (ledgerAt o s p) a .retainedProposed ≡ false)
+      → RetainsNothing (entryOf (ledgerAt o s p) a)
+  -- "the reply is P with the retained slip and not 6 or 8": a late P comes in place of one of these, and of nothing else
+  pub in-place : (p : Run) (s : Seat) (m : Message) → Within p run → lateMet (rulesAt s p) (ledgerAt o s p) m ≡ true
+      → (firstRefusal (rulesMet (rulesAt s p) (ledgerAt o s p) m) ≡ some PastNumber)
+      ⊎ (firstRefusal (rulesMet (rulesAt s p) (ledgerAt o s p) m) ≡ some AlreadyAccepted)
   -- a call accepts exactly if it is an ack that is recorded and makes enough or a ruling, and is not refused: no other call does
-  pub accepts-exactly : (p : Run) (e : Event) → Within (p ▹ e) run → answeredK (e .call) ≡ mustAccept (ledgerAt o (e .at) p) (e .call)
+  pub accepts-exactly : (p : Run) (e : Event) → Within (p ▹ e) run → answeredK (e .call) ≡ mustAccept (rulesAt (e .at) p) (ledgerAt o (e .at) p) (e .call)
   -- at any place, a slip with its account's next number has been accepted exactly if twice its recorded acks exceed n + 3f or a ruling
   -- that is not refused named it
   pub accepted-exactly : (p : Run) (s : Seat) (t : Transfer) → Within p run

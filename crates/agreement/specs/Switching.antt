@@ -12,7 +12,7 @@ use Rattle.model.specs.declared.Refusal.the-variants.{AlreadyAcked, SelfPayment
 use Rattle.model.specs.Records.{entryOf}
 use Rattle.model.specs.Acks.{hasMost}
 use Rattle.model.specs.Refusals.{outOfRange, paysItself}
-use Rattle.model.specs.Switches.{firstRules, sinceRequest3, newest, rank, stepUnder}
+use Rattle.model.specs.Switches.{Rules, firstRules, sinceRequest3, newest, rank, stepUnder}
 
 -- two replies are the same, or are P with two slips that have the most of these acks
 abbrev pub SameSaveTies : List AckSlot → Reply → Reply → Type 0
@@ -48,12 +48,13 @@ NewestStays =
 pub record MarkStands (o : Opening) (s : Seat) (place : Run) (t : Transfer) : Type 0 where
   -- the mark stands
   pub marked : entryOf (ledgerAt o s place) (t .account) .acked ≡ true
-  -- so after the switch the same slip meets 20 if it pays its payer, since 20 comes before 12
-  pub same-slip : paysItself t ≡ true → stepUnder sinceRequest3 (ledgerAt o s place) (Circulated t) .reply ≡ Refuse SelfPayment
+  -- so after "this and every later switch" the same slip meets 20 if it pays its payer, since 20 comes before 12
+  pub same-slip : (v : Rules) → rank sinceRequest3 ≤ rank v → paysItself t ≡ true
+      → stepUnder v (ledgerAt o s place) (Circulated t) .reply ≡ Refuse SelfPayment
   -- and any slip of that account and number, in range and to another recipient than the payer, meets 12, where none waits
-  pub other-slip : (u : Transfer) → u .account ≡ t .account → u .number ≡ t .number → paysItself u ≡ false
+  pub other-slip : (v : Rules) → rank sinceRequest3 ≤ rank v → (u : Transfer) → u .account ≡ t .account → u .number ≡ t .number → paysItself u ≡ false
       → outOfRange (ledgerAt o s place) u ≡ false → entryOf (ledgerAt o s place) (t .account) .pending ≡ Empty
-      → stepUnder sinceRequest3 (ledgerAt o s place) (Circulated u) .reply ≡ Refuse AlreadyAcked
+      → stepUnder v (ledgerAt o s place) (Circulated u) .reply ≡ Refuse AlreadyAcked
 
 -- whatever rules the seat had when it acked, and however often it switched since
 abbrev pub MarksStand : Type 0

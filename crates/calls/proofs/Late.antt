@@ -1,35 +1,23 @@
 -- The slip of a late P: none where one of the tests fails, and else what is retained.
 use Prim.Native.Nat.{_≤_}
 use mathlib.Core.Path.{_≡_, refl, ap, _∙_}
-use mathlib.Core.Bool.{Bool, true, false, cond, not, _&&_, _||_, or-true}
+use mathlib.Core.Bool.{Bool, true, false, cond, not, _&&_, _||_}
 use mathlib.Core.List.{List}
 use lib.ListN.{List·getD-eq-default}
 use native.Mathlib.Omega.{arith}
 use Rattle.model.specs.declared.Seat.{Seat}
-use Rattle.model.specs.declared.Account.{Account}
 use Rattle.model.specs.declared.Transfer.{Transfer}
-use Rattle.model.specs.declared.Slot.{Slot}
 use Rattle.model.specs.declared.Slot.the-variants.{Empty}
 use Rattle.model.specs.Types.{Entry, Ledger}
-use Rattle.model.specs.Records.{freshEntry, entryOf}
+use Rattle.model.specs.Records.{freshEntry}
 use Rattle.model.specs.Acks.{conflicts}
 use Rattle.model.specs.Refusals.{unknownSeat, outOfRange}
 use Rattle.layout.specs.Layout.{ledgerIn, entryIn}
 use Rattle.layout.proofs.Blocks.{entries-length}
-use Rattle.model.proofs.Sums.{impossible}
 use Rattle.calls.specs.Promises.{lateSlip}
 
--- a test that is turned round
-pub is-not : (b : Bool) → not b ≡ true → b ≡ false
-is-not true h = impossible (cc)
-is-not false h = refl
-
-pub is-so : (b : Bool) → not b ≡ false → b ≡ true
-is-so true h = refl
-is-so false h = impossible (cc)
-
 module _ (l : Ledger) (e : Entry) (s : Seat) (t : Transfer) where
-  -- by the four tests
+  -- by what the tests give: 4, 5, the conflict and the mark
   by-tests : (seat range conflicting marked : Bool) → unknownSeat l s ≡ seat → outOfRange l t ≡ range → conflicts t (e .retained) ≡ conflicting
       → e .retainedProposed ≡ marked
       → lateSlip l e s t ≡ cond (not (seat || range) && (conflicting && not marked)) (e .retained) Empty

@@ -59,8 +59,8 @@ pub fn acknowledge(words: &mut [u32], t: Transfer) -> Reply
     }
 }
 
-// A seat's ack of a transfer. Where it conflicts with one that this seat has accepted, for whose number nothing was proposed yet, the seat joins in and
-// proposes the accepted one, and the ack is not recorded (document 02, request 5). Else it is tried and recorded.
+// A seat's ack of a transfer. Where it conflicts with the one that its account retains, the latest that was accepted, and nothing was proposed for that number
+// yet, the seat joins in and proposes the retained one, and the ack is not recorded (document 02, request 5). Else it is tried and recorded.
 pub fn receive_ack(words: &mut [u32], s: Seat, t: Transfer) -> Reply
     requires { ⌜ length (now words) ≡ bookWords ⌝ }
     ensures { λ r. ⌜ Answered (now (words .entry)) (Ack s t) r (now (words .exit)) ⌝ }

@@ -11,14 +11,14 @@ use Rattle.agreement.proofs.Proposals.{refused-due}
 use Rattle.agreement.proofs.Demand3.{demand3}
 use Rattle.agreement.proofs.Always.{always}
 use Rattle.model.specs.Types.{Outcome}
-use Rattle.model.specs.Records.{entryOf}
+use Rattle.model.specs.Records.{RetainsNothing, entryOf}
 use Rattle.model.specs.Switches.{Rules, firstRules, sinceRequest3, sinceRequest5, rank, switched}
 use Rattle.model.proofs.Refusing.{refusal-keeps, newest-step}
 use Rattle.model.proofs.Opened.{opened-fresh}
 use Rattle.layout.specs.Layout.{blockWords, heldBlockWords, ledgerIn}
 use Rattle.ledger.proofs.Promising.{listed}
 use Rattle.conformance.specs.Operations.{ledgerUnder, ContractServes, ContractOpens, Operated, ContractSwitches, OperatedConforms, Called, Works, WorksObeys, ObeysWorks, WorksDemand3, WorksFacts}
-use Rattle.layout.specs.Words.{wordsOf, LedgerTold, RetainsNothing}
+use Rattle.layout.specs.Words.{wordsOf, LedgerTold}
 use Rattle.layout.proofs.Words.{words-are, held-words-are}
 use Rattle.conformance.proofs.Reached.{reached-told}
 

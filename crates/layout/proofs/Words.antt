@@ -14,12 +14,12 @@ use Rattle.model.specs.declared.Slot.{Slot}
 use Rattle.model.specs.declared.Slot.the-variants.{Empty, Full}
 use Rattle.model.specs.Types.{Entry, Ledger}
 use Rattle.model.specs.Basics.{bit}
-use Rattle.model.specs.Records.{seatOf, accountOf, freshEntry, entryOf}
+use Rattle.model.specs.Records.{seatOf, accountOf, freshEntry, RetainsNothing, entryOf}
 use Rattle.model.specs.Refusals.{ackFrom}
 use Rattle.layout.specs.Layout.{blockWords, heldBlockWords, Block, blockOf, block, heldBlock, mark, slotBy, ackIn, tableFrom, entryBy, entriesBy, entriesIn, ledgerBy, ledgerIn, heldEntriesIn, heldIn}
 use Rattle.layout.proofs.Blocks.{table-at}
 use Rattle.layout.proofs.Entries.{slip-by}
-use Rattle.layout.specs.Words.{valueWord, numberWord, recipientWord, entryWord, ledgerWord, wordsOf, ToldBy, EntryTold, LedgerTold, WordsAre, RetainsNothing, HeldWordsAre}
+use Rattle.layout.specs.Words.{valueWord, numberWord, recipientWord, entryWord, ledgerWord, wordsOf, ToldBy, EntryTold, LedgerTold, WordsAre, HeldWordsAre}
 
 -- a table of what a list has at its places is that list
 table-is : {A : Type 0} (f : ℕ → A) (xs : List A) (i : ℕ) (d : A) → ((k : ℕ) → k < length xs → f (i + k) ≡ getD xs k d) → tableFrom f (length xs) i ≡ xs

@@ -2,7 +2,7 @@
 -- proofs/Words.antt.
 use Prim.Native.Nat.{ℕ, _+_, _-_, _*_, _/_, _%_, _≤_, _<_}
 use mathlib.Core.Path.{_≡_}
-use mathlib.Core.Bool.{false, cond}
+use mathlib.Core.Bool.{cond}
 use mathlib.Core.List.{List, [], _∷_}
 use lib.Dec.{ltb}
 use lib.ListN.{length, getD}
@@ -13,7 +13,7 @@ use Rattle.model.specs.declared.Slot.{Slot}
 use Rattle.model.specs.declared.Slot.the-variants.{Empty, Full}
 use Rattle.model.specs.Types.{Entry, Ledger}
 use Rattle.model.specs.Basics.{bit}
-use Rattle.model.specs.Records.{seatOf, accountOf, entryOf}
+use Rattle.model.specs.Records.{seatOf, accountOf, RetainsNothing, entryOf}
 use Rattle.model.specs.Refusals.{ackFrom}
 use Rattle.layout.specs.Layout.{blockWords, heldBlockWords, ackValuesPlace, ackRecipientsPlace, retainedValuePlace, tableFrom, ledgerIn, heldIn}
 
@@ -88,8 +88,5 @@ abbrev pub WordsAre : Type 0
 WordsAre = (l : Ledger) → LedgerTold l → ledgerIn (wordsOf blockWords l) ≡ l
 
 -- So are, in a book held from before request 5, the words of such a ledger that retains nothing.
-abbrev pub RetainsNothing : Entry → Type 0
-RetainsNothing e = (e .retained ≡ Empty) × (e .retainedProposed ≡ false)
-
 abbrev pub HeldWordsAre : Type 0
 HeldWordsAre = (l : Ledger) → LedgerTold l → ((a : Account) → RetainsNothing (entryOf l a)) → heldIn (wordsOf heldBlockWords l) ≡ l

@@ -11,18 +11,26 @@ use Rattle.model.proofs.Sums.{impossible, both}
 same-account : (a b : Account) → eqb (a .0) (b .0) ≡ true → a ≡ b
 same-account a b e = let n : a .0 ≡ b .0 = eqb-true _ _ e in ap (λ (m : ℕ). let c : Account = record { 0 = m } in c) n
 
+-- the test for account and number
+pub same-number : (t u : Transfer) → t .account ≡ u .account → t .number ≡ u .number → sameNumber t u ≡ true
+same-number t u account number =
+    rw (eq-eqb (t .account .0) (u .account .0) (ap (λ (a : Account). a .0) account)) (eq-eqb (t .number) (u .number) number)
+
+pub number-same : (t u : Transfer) → sameNumber t u ≡ true → (t .account ≡ u .account) × (t .number ≡ u .number)
+number-same t u h =
+    let parts = both (eqb (t .account .0) (u .account .0)) (eqb (t .number) (u .number)) h in
+    (same-account (t .account) (u .account) (parts .0), eqb-true (t .number) (u .number) (parts .1))
+
 -- slips that pass the test are equal
 pub equal-sound : (t u : Transfer) → equal t u ≡ true → t ≡ u
 unfolding equal
 equal-sound t u e =
     let four = both (sameNumber t u && eqb (t .value) (u .value)) (eqb (t .recipient .0) (u .recipient .0)) e in
     let three = both (sameNumber t u) (eqb (t .value) (u .value)) (four .0) in
-    let two = both (eqb (t .account .0) (u .account .0)) (eqb (t .number) (u .number)) (three .0) in
-    let account = same-account (t .account) (u .account) (two .0) in
-    let number = eqb-true (t .number) (u .number) (two .1) in
+    let two = number-same t u (three .0) in
     let value = eqb-true (t .value) (u .value) (three .1) in
     let recipient = same-account (t .recipient) (u .recipient) (four .1) in
-    λ i. record { account = account i; number = number i; value = value i; recipient = recipient i }
+    λ i. record { account = two .0 i; number = two .1 i; value = value i; recipient = recipient i }
 
 -- a slip is equal to itself
 pub equal-refl : (t : Transfer) → equal t t ≡ true

@@ -134,7 +134,7 @@ switching =
 
 -- Document 02, request 5: a seat that has accepted joins in. With one seat, which accepts alone; behind 4 and 5, before 6, by an ack alone and once; before 8,
 -- and used up when the slip is booked; used up by a P before the acceptance, of a number that is booked and of one that waits; the mark of the retained number
--- is not that of the next; a number below the retained one; an ack that was recorded before the acceptance and comes again, never 9 or 10, also where acks
+-- is not that of the next; a number below the retained one, which is booked or waits; used up by a P also where acks accepted; an ack that was recorded before the acceptance and comes again, never 9 or 10, also where acks
 -- accepted; and that nothing but the mark changes: neither this seat's mark, nor the next number's, nor its acks, of which the late one is none.
 pub late : List Row
 late =
@@ -159,6 +159,12 @@ late =
     ∷ runs 2 0 (10 ∷ 3 ∷ [])
     (Decision t gives K 1 ∷ Decision (slip 0 2 1 1) gives K 1 ∷ ackBy 0 u gives R 6 ∷ ackBy 0 (slip 0 2 2 1) gives P (slip 0 2 1 1) ∷ [])
     (5 ∷ 8 ∷ [])
+    ∷ runs 2 0 (10 ∷ 3 ∷ [])
+    (Decision t gives K 1 ∷ Decision (slip 0 2 9 1) gives K 0 ∷ ackBy 0 u gives R 6 ∷ ackBy 0 (slip 0 2 2 1) gives P (slip 0 2 9 1) ∷ [])
+    (6 ∷ 7 ∷ [])
+    ∷ runs 6 1 (10 ∷ 3 ∷ [])
+    (ackBy 0 t gives N ∷ ackBy 1 t gives N ∷ ackBy 2 t gives N ∷ ackBy 3 t gives N ∷ ackBy 4 u gives P t ∷ ackBy 5 t gives K 1 ∷ ackBy 4 u gives R 6 ∷ [])
+    (6 ∷ 7 ∷ [])
     ∷ runs 6 1 (0 ∷ 5 ∷ []) (ackBy 5 u gives N ∷ ackBy 4 t gives N ∷ Decision t gives K 0 ∷ ackBy 4 t gives R 8 ∷ ackBy 5 u gives P t ∷ ackBy 5 u gives R 8 ∷ ackBy 5 w gives R 8 ∷ []) (0 ∷ 5 ∷ [])
     ∷ runs 3 0 (10 ∷ 3 ∷ []) (ackBy 0 u gives N ∷ ackBy 1 t gives N ∷ ackBy 2 t gives K 1 ∷ ackBy 0 u gives P t ∷ ackBy 0 u gives R 6 ∷ []) (6 ∷ 7 ∷ [])
     ∷ runs 2 0 (10 ∷ 3 ∷ [])

@@ -16,9 +16,9 @@ use Rattle.model.specs.Transfers.{conflict}
 use Rattle.model.specs.Refusals.{Rule, firstRefusal, unknownSeat, waitsAlready, ackFrom, outOfRange, unknownAccount}
 use Rattle.model.specs.Acks.{holds, conflicts, slipIn, acksFor, acksRecorded, enough, mustPropose, hasMost, mostAcked}
 use Rattle.model.specs.Settling.{Settled, settle}
-use Rattle.model.specs.Calls.{payerOf, Due, replied, accepts, Effect, waits, tallied, effect, mustJoin, finishedBy, entryFor, rulesIn}
+use Rattle.model.specs.Calls.{payerOf, Due, replied, accepts, waits, effect, mustJoin, finishedBy, entryFor, rulesIn}
 use Rattle.model.specs.Switches.{Rules, firstRules, sinceRequest3, sinceRequest5, withoutCode, rulesMet, lateMet, effectUnder, stepUnder}
-use Rattle.model.proofs.Sums.{impossible, both, neither}
+use Rattle.model.proofs.Sums.{impossible, both, neither, is-not}
 use Rattle.model.proofs.Proposals.{most-acked-most}
 use Rattle.model.proofs.Access.{SameButRetained, SameGroup, with-entries, with-entry-read}
 use Rattle.model.proofs.Refusing.{AllFail, none-holds, next-number, due-under, replies-under, effectIn, joinsIn, by-tally, refuses, not-refused, late-since, joins-in}
@@ -208,7 +208,7 @@ pub joining : (l : Ledger) (s : Seat) (t : Transfer) → mustJoin l (entryOf l (
 joining l s t late =
     let e = entryOf l (t .account) in
     let parts = both (not (unknownSeat l s || outOfRange l t)) (conflicts t (e .retained) && not (e .retainedProposed)) late in
-    let passed = neither (unknownSeat l s) (outOfRange l t) (not-true (unknownSeat l s || outOfRange l t) (parts .0)) in
+    let passed = neither (unknownSeat l s) (outOfRange l t) (is-not (unknownSeat l s || outOfRange l t) (parts .0)) in
     let join = both (conflicts t (e .retained)) (not (e .retainedProposed)) (parts .1) in
     let held = in-place (e .retained) refl (join .0) in
     record {
@@ -217,13 +217,9 @@ joining l s t late =
       account-known = accounts-known l t (passed .1) .0;
       is-retained = held .0;
       conflicting = held .1;
-      nothing-proposed = not-true (e .retainedProposed) (join .1);
+      nothing-proposed = is-not (e .retainedProposed) (join .1);
     }
   where
-    not-true : (b : Bool) → not b ≡ true → b ≡ false
-    not-true true h = impossible (cc)
-    not-true false h = refl
-
     in-place : (p : Slot) → entryOf l (t .account) .retained ≡ p → conflicts t p ≡ true → (p ≡ Full (slipIn p)) × (conflict (slipIn p) t ≡ true)
     in-place Empty is h = impossible (cc)
     in-place (Full u) is h = (refl, h)

@@ -4,7 +4,7 @@ use native.Mathlib.Nat.{le-of-suc-le-suc, not-suc-le-zero}
 use native.Mathlib.Decide.{ℕ-discrete}
 use native.Mathlib.Omega.{arith}
 use mathlib.Core.Path.{_≡_, refl, ap, sym}
-use mathlib.Core.Bool.{Bool, true, false, _&&_, _||_, or-true}
+use mathlib.Core.Bool.{Bool, true, false, not, _&&_, _||_, or-true}
 use mathlib.Core.List.{List, [], _∷_, map}
 use mathlib.Core.Option.{none, some}
 use lib.ListN.{length, getD, take, set}
@@ -94,6 +94,15 @@ both false b e = impossible (cc)
 pub neither : (a b : Bool) → (a || b) ≡ false → (a ≡ false) × (b ≡ false)
 neither true b e = impossible (cc)
 neither false b e = (refl, e)
+
+-- a test that is turned round
+pub is-not : (b : Bool) → not b ≡ true → b ≡ false
+is-not true h = impossible (cc)
+is-not false h = refl
+
+pub is-so : (b : Bool) → not b ≡ false → b ≡ true
+is-so true h = refl
+is-so false h = impossible (cc)
 
 -- a test that no element passes, nor what is read behind the last
 pub any-none : {A : Type 0} (p : A → Bool) (xs : List A) (d : A) → any p xs ≡ false → p d ≡ false → (i : ℕ) → p (getD xs i d) ≡ false

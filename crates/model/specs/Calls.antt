@@ -112,9 +112,13 @@ lateIn l m = mustJoin l (entryFor l m) m
 abbrev pub rulesIn : Ledger → Message → List Rule
 rulesIn l m = rulesOf l (entryFor l m) m
 
+-- the outcome of a message by what becomes of its effect, whether it brings a late P, and the rules that it meets
+abbrev pub stepBy : (Effect → Effect) → Bool → List Rule → Ledger → Message → Outcome
+stepBy become late rules l m = finished l (payerOf m) (become (turnBy late rules l (entryFor l m) m))
+
 -- The outcome of a message, for every ledger and every message.
 unfoldable pub step : Ledger → Message → Outcome
-step l m = finished l (payerOf m) (turnBy (lateIn l m) (rulesIn l m) l (entryFor l m) m)
+step l m = stepBy (λ x. x) (lateIn l m) (rulesIn l m) l m
 
 -- Waiting list: the accounts with a waiting slip, each once. Their order is left free.
 abbrev pub WaitingAccounts : Ledger → List ℕ → Type 0

@@ -1,6 +1,7 @@
 -- The ledger and an account's entry: how they are made, read and changed. In the model no other file builds one of the two
 -- records; words are read as such in crate layout.
 use Prim.Native.Nat.{ℕ}
+use mathlib.Core.Path.{_≡_}
 use mathlib.Core.Bool.{Bool, true, false}
 use mathlib.Core.List.{List, map}
 use lib.ListN.{getD, set, replicate}
@@ -36,7 +37,16 @@ withAcked e =
 -- .. with the seat's ack recorded
 abbrev pub withAck : Entry → Seat → Transfer → Entry
 withAck e s t =
-    record { balance = e .balance; current = e .current; acked = e .acked; acks = set (e .acks) (s .0) (record { slot = Full t }); proposed = e .proposed; pending = e .pending; retained = e .retained; retainedProposed = e .retainedProposed }
+    record {
+      balance = e .balance;
+      current = e .current;
+      acked = e .acked;
+      acks = set (e .acks) (s .0) (record { slot = Full t });
+      proposed = e .proposed;
+      pending = e .pending;
+      retained = e .retained;
+      retainedProposed = e .retainedProposed;
+    }
 
 -- .. with the mark that a slip was put forward for the next number
 abbrev pub withProposed : Entry → Entry
@@ -74,6 +84,10 @@ withRetainedProposed e = withRetainedAs e (e .retained) true
 abbrev pub withNoneRetained : Entry → Entry
 withNoneRetained e = withRetainedAs e Empty false
 
+-- nothing is retained, and no mark of it is set
+abbrev pub RetainsNothing : Entry → Type 0
+RetainsNothing e = (e .retained ≡ Empty) × (e .retainedProposed ≡ false)
+
 -- the entry of an account. An account behind the last entry has a fresh one with balance 0
 abbrev pub entryAt : List Entry → Account → Entry
 entryAt es a = getD es (a .0) (freshEntry 0)
@@ -93,7 +107,13 @@ sumCurrents es = sumOf (λ e. e .current) es
 -- a ledger just opened from a page
 abbrev pub freshLedger : Opening → Ledger
 freshLedger o =
-    record { seats = o .seats; faults = o .faults; accounts = o .accounts; total = sumOf (λ b. b) (o .balances); entries = map freshEntry (o .balances) }
+    record {
+      seats = o .seats;
+      faults = o .faults;
+      accounts = o .accounts;
+      total = sumOf (λ b. b) (o .balances);
+      entries = map freshEntry (o .balances);
+    }
 
 -- a page with nothing on it
 abbrev pub emptyPage : Opening

@@ -9,7 +9,7 @@ use Rattle.model.specs.Types.{Slot, Empty, Full, Entry, Ledger, Outcome,
 use Rattle.model.specs.Replies.{codeOf}
 use Rattle.model.specs.Refusals.{Rule}
 use Rattle.model.specs.Records.{withRetainedOf, withRetained, withNoneRetained, withEntries}
-use Rattle.model.specs.Calls.{payerOf, Effect, turnBy, finished, entryFor, lateIn, rulesIn}
+use Rattle.model.specs.Calls.{Effect, entryFor, lateIn, rulesIn, stepBy}
 
 -- The sets of rules, in the order of time.
 pub data Rules : Type 0 where
@@ -35,16 +35,20 @@ nextRules firstRules = sinceRequest3
 nextRules sinceRequest3 = sinceRequest5
 nextRules sinceRequest5 = sinceRequest5
 
--- "A book held from before retains its waiting slips with their marks, and no booked ones": an account's entry, by what waits in it
-abbrev pub retainsWaiting : Slot → Entry → Entry
-retainsWaiting Empty e = withNoneRetained e
-retainsWaiting (Full t) e = withRetained e t
+-- the entry that retains what stands in this place, with the mark of the next number, or nothing
+abbrev pub retainsFrom : Slot → Entry → Entry
+retainsFrom Empty e = withNoneRetained e
+retainsFrom (Full t) e = withRetained e t
+
+-- "A book held from before retains its waiting slips with their marks, and no booked ones": what an account's entry becomes
+abbrev pub retainsWaiting : Entry → Entry
+retainsWaiting e = retainsFrom (e .pending) e
 
 -- What the ledger becomes that a seat holds when it switches from these rules to the next: "At this and every later switch a seat goes on with the book it
 -- holds, marks included". To request 5 it takes over what it retains from now on.
 abbrev pub switched : Rules → Ledger → Ledger
 switched firstRules l = l
-switched sinceRequest3 l = withEntries l (map (λ e. retainsWaiting (e .pending) e) (l .entries))
+switched sinceRequest3 l = withEntries l (map retainsWaiting (l .entries))
 switched sinceRequest5 l = l
 
 -- the rules without the one of this code
@@ -84,5 +88,4 @@ effectUnder sinceRequest5 e x = x
 
 -- The outcome of a message under a set of rules.
 unfoldable pub stepUnder : Rules → Ledger → Message → Outcome
-stepUnder v l m =
-    finished l (payerOf m) (effectUnder v (entryFor l m) (turnBy (lateMet v l m) (rulesMet v l m) l (entryFor l m) m))
+stepUnder v l m = stepBy (effectUnder v (entryFor l m)) (lateMet v l m) (rulesMet v l m) l m

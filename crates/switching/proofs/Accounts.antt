@@ -10,7 +10,7 @@ use Rattle.model.specs.declared.Slot.{Slot}
 use Rattle.model.specs.declared.Slot.the-variants.{Empty, Full}
 use Rattle.model.specs.Types.{Entry, Ledger}
 use Rattle.model.specs.Records.{accountOf, entryOf, withNoneRetained, withRetainedOf, withRetained, withEntries, withEntry}
-use Rattle.model.specs.Switches.{sinceRequest3, retainsWaiting, switched}
+use Rattle.model.specs.Switches.{sinceRequest3, retainsFrom, retainsWaiting, switched}
 use Rattle.model.proofs.Access.{with-entry-same, with-entry-again}
 use Rattle.model.proofs.Switching.{switched-entry, switched-length}
 use Rattle.layout.specs.Layout.{ledgerIn, entryIn, heldIn}
@@ -19,10 +19,6 @@ use Rattle.layout.proofs.Entries.{pending-of}
 use Rattle.store.specs.Stores.{RetainedStored}
 use Rattle.store.proofs.Taking.{held-entries-length}
 use Rattle.store.proofs.Entering.{Entered, one-entered}
-
--- what a held entry becomes
-abbrev pub becomes : Entry → Entry
-becomes e = retainsWaiting (e .pending) e
 
 -- The held entry was taken, with what the words retained; then what waits in it is retained, or nothing is.
 module _
@@ -46,22 +42,22 @@ module _
         is ∙ rw took (with-entry-again (ledgerIn before) a stored change (omega (arith, entries-length before)))
 
     pub nothing-waits : (after : List ℕ) → p ≡ Empty → ledgerIn after ≡ withEntry (ledgerIn mid) a (withNoneRetained (entryIn mid a))
-        → ledgerIn after ≡ withEntry (ledgerIn before) a (becomes e)
+        → ledgerIn after ≡ withEntry (ledgerIn before) a (retainsWaiting e)
     nothing-waits after found is =
-        changed after withNoneRetained is ∙ ap (λ (x : Slot). withEntry (ledgerIn before) a (retainsWaiting x e)) (sym found ∙ waits)
+        changed after withNoneRetained is ∙ ap (λ (x : Slot). withEntry (ledgerIn before) a (retainsFrom x e)) (sym found ∙ waits)
 
     -- the slip that waits is of the account
     pub its-account : (t : Transfer) → p ≡ Full t → t .account ≡ a
     its-account t found = pending-of mid a t inside (sym p-is ∙ found) .0
 
     pub slip-waits : (after : List ℕ) (t : Transfer) → p ≡ Full t → RetainedStored mid t after
-        → ledgerIn after ≡ withEntry (ledgerIn before) a (becomes e)
+        → ledgerIn after ≡ withEntry (ledgerIn before) a (retainsWaiting e)
     slip-waits after t found kept =
         let own = its-account t found in
         let value = pending-of mid a t inside (sym p-is ∙ found) .1 in
         let is = subst (λ (b : Account). ledgerIn after ≡ withEntry (ledgerIn mid) b (withRetained (entryIn mid b) t)) own (kept .retained value) in
         changed after (λ x. withRetained x t) is
-        ∙ ap (λ (x : Slot). withEntry (ledgerIn before) a (retainsWaiting x e)) (sym found ∙ waits)
+        ∙ ap (λ (x : Slot). withEntry (ledgerIn before) a (retainsFrom x e)) (sym found ∙ waits)
 
 -- the entries that are wanted: as many as there are accounts
 abbrev pub wanted : List ℕ → List Entry
@@ -72,10 +68,10 @@ wanted-count held = switched-length sinceRequest3 (heldIn held) ∙ held-entries
 
 -- one account more
 pub one-taken : (held before now after : List ℕ) (i : ℕ) → Entered before (wanted held) now i → i < 32 → length after ≡ length now
-    → ledgerIn after ≡ withEntry (ledgerIn now) (accountOf i) (becomes (entryOf (heldIn held) (accountOf i)))
+    → ledgerIn after ≡ withEntry (ledgerIn now) (accountOf i) (retainsWaiting (entryOf (heldIn held) (accountOf i)))
     → Entered before (wanted held) after (i + 1)
 one-taken held before now after i f h same is =
-    one-entered before (wanted held) (wanted-count held) now i f after (becomes (entryOf (heldIn held) (accountOf i))) h same
+    one-entered before (wanted held) (wanted-count held) now i f after (retainsWaiting (entryOf (heldIn held) (accountOf i))) h same
     (sym (switched-entry sinceRequest3 (heldIn held) (accountOf i))) is
 
 -- n, f, k and the opening sum after the entries: the ledger that the held one becomes

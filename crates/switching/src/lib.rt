@@ -19,7 +19,7 @@ fn take_account(held: &[u32], words: &mut [u32], a: Account)
     requires { ⌜ length (now held) ≡ heldBookWords ⌝ }
     requires { ⌜ length (now words) ≡ bookWords ⌝ }
     requires { ⌜ a .0 < 32 ⌝ }
-    ensures { λ _. ⌜ ledgerIn (now (words .exit)) ≡ withEntry (ledgerIn (now (words .entry))) a (retainsWaiting (entryOf (heldIn (now (held .entry))) a .pending) (entryOf (heldIn (now (held .entry))) a)) ⌝ }
+    ensures { λ _. ⌜ ledgerIn (now (words .exit)) ≡ withEntry (ledgerIn (now (words .entry))) a (retainsWaiting (entryOf (heldIn (now (held .entry))) a)) ⌝ }
 {
     take_entry(held, words, a);
     let pending = pending_of(words, a);

@@ -16,6 +16,7 @@ use Rattle.agreement.specs.Claims.{Claim}
 use Rattle.agreement.specs.Facts.{proposedFor, Facts}
 use Rattle.agreement.specs.Proposals.{SameAcks}
 use Rattle.agreement.specs.Undisputed.{Undisputed}
+use Rattle.agreement.specs.Switching.{LateAlone}
 use Rattle.agreement.proofs.Demand3.{demand3}
 use Rattle.agreement.proofs.Theorem1.{theorem1}
 use Rattle.agreement.proofs.Examples.{page, t, u, v, bad, today, acks, ack, ruling, _then_, putsForward, takes, slate}
@@ -317,6 +318,11 @@ pub late-not-alike :
     × SameAcks tThere third uThere third
 unfolding rulesAt ledgerAt noAcks equal conflict hasMost mostAcked lowestAffordable apply settleAtMost settle step stepUnder
 late-not-alike = (refl, refl, λ s. refl)
+
+-- What does not differ from the rules before is not said where a late P is due: there 6 is replied.
+pub late-alone-says : LateAlone tThere third → true ≡ false → Propose t ≡ Refuse PastNumber
+unfolding rulesAt ledgerAt noAcks equal conflict hasMost mostAcked lowestAffordable apply settleAtMost settle stepUnder
+late-alone-says f none = f .otherwise none .0
 
 -- A run in which a seat puts another slip forward than the one that it accepted, or does it under earlier rules, or puts forward twice, breaks the facts.
 pub late-breaks :

@@ -6,9 +6,9 @@ use mathlib.Core.Logic.{inl, inr}
 use mathlib.Core.Bool.{Bool, true, false, cond}
 use mathlib.Core.Option.{Option, none, some}
 use borrow.Author.Tests.{lt-leb, le-ltb}
-use Rattle.agreement.specs.Types.{Seat, Account, Transfer, Empty, Entry, Ledger, Refusal, Message, Circulated, Ack, Decision, Inquiry, Reply, Refuse}
+use Rattle.agreement.specs.Types.{Seat, Account, Transfer, Empty, Entry, Ledger, Refusal, Message, Circulated, Ack, Decision, Inquiry, Reply, Accept, Refuse}
 use Rattle.agreement.specs.Runs.{Call, message, waitingList, switch, _▹_, at-end, sooner, sameSeat, rulesAfter, rulesAt, ledgerAt, freeSlip, acksWith, StandsFor, MayReply, Obeys}
-use Rattle.agreement.specs.Switching.{SameSaveTies, Alike, TakenAlike, NoneGoesBack, NewestStays, MarksStand}
+use Rattle.agreement.specs.Switching.{SameSaveTies, Alike, TakenAlike, forgotten, LateAlone, NoneGoesBack, NewestStays, MarksStand}
 use Rattle.agreement.proofs.Places.{seat-is, obeys-before}
 use Rattle.agreement.proofs.Proposals.{free-carried, most-with}
 use Rattle.agreement.proofs.Reachable.{sound}
@@ -16,11 +16,14 @@ use Rattle.agreement.proofs.Acked.{lastNumber, acked-so-far, acked-in-r
 use Rattle.model.specs.declared.Refusal.the-variants.{AlreadyAcked, SelfPayment}
 use Rattle.model.specs.Types.{Outcome}
 use Rattle.model.specs.Basics.{bit}
-use Rattle.model.specs.Records.{entryOf}
+use Rattle.model.specs.Records.{withRetainedOf, withRetainedProposed, setEntry, entryOf, withEntries, withEntry}
+use Rattle.model.specs.Settling.{Settled, settle}
 use Rattle.model.specs.Refusals.{firstRefusal, outOfRange, paysItself}
-use Rattle.model.specs.Calls.{payerOf, turnBy, finished, entryFor, rulesIn}
+use Rattle.model.specs.Calls.{payerOf, Due, replied, accepts, turnBy, finishedBy, finished, entryFor, rulesIn}
 use Rattle.model.specs.Switches.{Rules, firstRules, sinceRequest3, sinceRequest5, newest, rank, nextRules, switched, rulesMet, lateMet, retainsAs, stepUnder}
 use Rattle.model.proofs.Proposals.{most-acked-most}
+use Rattle.model.proofs.Access.{with-entry-read}
+use Rattle.model.proofs.Forgetting.{forgetting, forgets-set, settledForgetting, settle-forgets}
 use Rattle.model.proofs.Refusing.{refuses}
 use Rattle.model.proofs.Switching.{ack-rules, ruling-rules}
 
@@ -58,6 +61,39 @@ taken-alike l =
       acks = λ s t. alike l (Ack s t) (ack-rules firstRules l s t);
       rulings = λ t. alike l (Decision t) (ruling-rules firstRules l t);
       questions = λ a. alike l (Inquiry a) refl;
+    }
+
+-- an effect, and the same with something else retained
+module _ (l : Ledger) (a : Account) (e : Entry) where
+  -- where the two entries are stored
+  forgets-stored : (x : Entry) → forgotten (withEntry l a x) ≡ forgotten (withEntry l a (withRetainedOf x e))
+  forgets-stored x =
+      ap (withEntries l) (forgets-set (l .entries) a x ∙ sym (forgets-set (l .entries) a (withRetainedOf x e)))
+
+  forgets-finished : (d : Due) (x : Entry)
+      → (finishedBy l a d x .reply ≡ finishedBy l a d (withRetainedOf x e) .reply)
+      × (forgotten (finishedBy l a d x .next) ≡ forgotten (finishedBy l a d (withRetainedOf x e) .next))
+  forgets-finished (replied r) x = (refl, forgets-stored x)
+  forgets-finished accepts x =
+      let xs = setEntry (l .entries) a x in
+      let ys = setEntry (l .entries) a (withRetainedOf x e) in
+      let entries : forgetting xs ≡ forgetting ys = forgets-set (l .entries) a x ∙ sym (forgets-set (l .entries) a (withRetainedOf x e)) in
+      let settled : settledForgetting (settle xs) ≡ settledForgetting (settle ys) =
+      sym (settle-forgets xs) ∙ (ap settle entries ∙ settle-forgets ys) in (
+        ap (λ (s : Settled). Accept (s .applied)) settled,
+        ap (λ (s : Settled). withEntries l (s .entries)) settled,
+      )
+
+pub late-alone : (l : Ledger) (m : Message) → LateAlone l m
+unfolding stepUnder
+late-alone l m =
+    record {
+      otherwise = λ none.
+          let e = entryFor l m in
+          let x = turnBy false (rulesIn l m) l e m in
+          rw none (forgets-finished l (payerOf m) e (x .due) (x .entry));
+      late = λ is. rw is
+          (refl, forgets-stored l (payerOf m) (entryFor l m) (withRetainedProposed (entryFor l m)) ∙ ap forgotten (with-entry-read l (payerOf m)));
     }
 
 -- a call leads to no earlier rules

@@ -1,18 +1,19 @@
 -- Document 02, request 3: "That two honest books cannot part holds across the switch." Demand 3 itself is of runs in which seats switch; what makes it true
--- stands here. The proofs are in proofs/Switching.antt.
+-- stands here, and how little each switch changes. The proofs are in proofs/Switching.antt.
 use Prim.Native.Nat.{_≤_, _<_}
 use mathlib.Core.Path.{_≡_}
 use mathlib.Core.Logic.{_⊎_}
 use mathlib.Core.Bool.{true, false}
-use mathlib.Core.List.{List}
+use mathlib.Core.List.{List, map}
 use mathlib.Core.Option.{some}
 use Rattle.agreement.specs.Types.{Seat, Account, Transfer, Empty, AckSlot, Ledger, Opening, Message, Circulated, Ack, Decision, Inquiry, Reply, Propose, Refuse}
 use Rattle.agreement.specs.Runs.{Opens, switch, Event, Run, _▹_, Within, rulesAt, ledgerAt, acksWith, MayReply, Obeys, acked}
 use Rattle.model.specs.declared.Refusal.the-variants.{AlreadyAcked, SelfPayment}
-use Rattle.model.specs.Records.{entryOf}
-use Rattle.model.specs.Acks.{hasMost}
+use Rattle.model.specs.Records.{withNoneRetained, entryOf, withEntries}
+use Rattle.model.specs.Acks.{slipIn, hasMost}
 use Rattle.model.specs.Refusals.{outOfRange, paysItself}
-use Rattle.model.specs.Switches.{Rules, firstRules, sinceRequest3, newest, rank, stepUnder}
+use Rattle.model.specs.Switches.{Rules, firstRules, sinceRequest3, sinceRequest5, newest, rank, stepUnder}
+use Rattle.model.specs.Calls.{entryFor, lateIn}
 
 -- two replies are the same, or are P with two slips that have the most of these acks
 abbrev pub SameSaveTies : List AckSlot → Reply → Reply → Type 0
@@ -32,6 +33,20 @@ pub record TakenAlike (l : Ledger) : Type 0 where
   pub acks : (s : Seat) (t : Transfer) → Alike l (Ack s t)
   pub rulings : (t : Transfer) → Alike l (Decision t)
   pub questions : (a : Account) → Alike l (Inquiry a)
+
+-- the ledger, but with nothing retained: what a book of before request 5 holds of it
+abbrev pub forgotten : Ledger → Ledger
+forgotten l = withEntries l (map withNoneRetained (l .entries))
+
+-- Request 5: "6 and 8 are unchanged otherwise", and so is all else. Whatever the ledger, between the rules since request 3 and those since request 5 the late P
+-- alone differs, and what is retained: a message that brings none has the same reply and leaves the same; and a late P leaves all as it was but its mark.
+pub record LateAlone (l : Ledger) (m : Message) : Type 0 where
+  pub otherwise : lateIn l m ≡ false
+      → (stepUnder sinceRequest5 l m .reply ≡ stepUnder sinceRequest3 l m .reply)
+      × (forgotten (stepUnder sinceRequest5 l m .next) ≡ forgotten (stepUnder sinceRequest3 l m .next))
+  pub late : lateIn l m ≡ true
+      → (stepUnder sinceRequest5 l m .reply ≡ Propose (slipIn (entryFor l m .retained)))
+      × (forgotten (stepUnder sinceRequest5 l m .next) ≡ forgotten l)
 
 -- No seat goes back to earlier rules.
 abbrev pub NoneGoesBack : Type 0

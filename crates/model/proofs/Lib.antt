@@ -9,6 +9,7 @@ pub mod Gathering
 pub mod Proposals
 pub mod Booking
 pub mod Settles
+pub mod Forgetting
 pub mod Refusing
 pub mod Switching
 pub mod Opened

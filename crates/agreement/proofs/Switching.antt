@@ -16,13 +16,12 @@ use Rattle.agreement.proofs.Acked.{lastNumber, acked-so-far, acked-in-r
 use Rattle.model.specs.declared.Refusal.the-variants.{AlreadyAcked, SelfPayment}
 use Rattle.model.specs.Types.{Outcome}
 use Rattle.model.specs.Basics.{bit}
-use Rattle.model.specs.Records.{withRetainedOf, withRetainedProposed, setEntry, entryOf, withEntries, withEntry}
+use Rattle.model.specs.Records.{withRetainedOf, setEntry, entryOf, withEntries, withEntry}
 use Rattle.model.specs.Settling.{Settled, settle}
 use Rattle.model.specs.Refusals.{firstRefusal, outOfRange, paysItself}
 use Rattle.model.specs.Calls.{payerOf, Due, replied, accepts, turnBy, finishedBy, finished, entryFor, rulesIn}
 use Rattle.model.specs.Switches.{Rules, firstRules, sinceRequest3, sinceRequest5, newest, rank, nextRules, switched, rulesMet, lateMet, retainsAs, stepUnder}
 use Rattle.model.proofs.Proposals.{most-acked-most}
-use Rattle.model.proofs.Access.{with-entry-read}
 use Rattle.model.proofs.Forgetting.{forgetting, forgets-set, settledForgetting, settle-forgets}
 use Rattle.model.proofs.Refusing.{refuses}
 use Rattle.model.proofs.Switching.{ack-rules, ruling-rules}
@@ -92,8 +91,7 @@ late-alone l m =
           let e = entryFor l m in
           let x = turnBy false (rulesIn l m) l e m in
           rw none (forgets-finished l (payerOf m) e (x .due) (x .entry));
-      late = λ is. rw is
-          (refl, forgets-stored l (payerOf m) (entryFor l m) (withRetainedProposed (entryFor l m)) ∙ ap forgotten (with-entry-read l (payerOf m)));
+      late = λ is. rw is (refl, refl);
     }
 
 -- a call leads to no earlier rules

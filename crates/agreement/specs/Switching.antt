@@ -9,11 +9,11 @@ use mathlib.Core.Option.{some}
 use Rattle.agreement.specs.Types.{Seat, Account, Transfer, Empty, AckSlot, Ledger, Opening, Message, Circulated, Ack, Decision, Inquiry, Reply, Propose, Refuse}
 use Rattle.agreement.specs.Runs.{Opens, switch, Event, Run, _▹_, Within, rulesAt, ledgerAt, acksWith, MayReply, Obeys, acked}
 use Rattle.model.specs.declared.Refusal.the-variants.{AlreadyAcked, SelfPayment}
-use Rattle.model.specs.Records.{withNoneRetained, entryOf, withEntries}
+use Rattle.model.specs.Records.{withRetainedProposed, withNoneRetained, entryOf, withEntries, withEntry}
 use Rattle.model.specs.Acks.{slipIn, hasMost}
 use Rattle.model.specs.Refusals.{outOfRange, paysItself}
 use Rattle.model.specs.Switches.{Rules, firstRules, sinceRequest3, sinceRequest5, newest, rank, stepUnder}
-use Rattle.model.specs.Calls.{entryFor, lateIn}
+use Rattle.model.specs.Calls.{payerOf, entryFor, lateIn}
 
 -- two replies are the same, or are P with two slips that have the most of these acks
 abbrev pub SameSaveTies : List AckSlot → Reply → Reply → Type 0
@@ -39,14 +39,14 @@ abbrev pub forgotten : Ledger → Ledger
 forgotten l = withEntries l (map withNoneRetained (l .entries))
 
 -- Request 5: "6 and 8 are unchanged otherwise", and so is all else. Whatever the ledger, between the rules since request 3 and those since request 5 the late P
--- alone differs, and what is retained: a message that brings none has the same reply and leaves the same; and a late P leaves all as it was but its mark.
+-- alone differs, and what is retained: a message that brings none has the same reply and leaves the same; and a late P sets the mark, and leaves all else as it was.
 pub record LateAlone (l : Ledger) (m : Message) : Type 0 where
   pub otherwise : lateIn l m ≡ false
       → (stepUnder sinceRequest5 l m .reply ≡ stepUnder sinceRequest3 l m .reply)
       × (forgotten (stepUnder sinceRequest5 l m .next) ≡ forgotten (stepUnder sinceRequest3 l m .next))
   pub late : lateIn l m ≡ true
       → (stepUnder sinceRequest5 l m .reply ≡ Propose (slipIn (entryFor l m .retained)))
-      × (forgotten (stepUnder sinceRequest5 l m .next) ≡ forgotten l)
+      × (stepUnder sinceRequest5 l m .next ≡ withEntry l (payerOf m) (withRetainedProposed (entryFor l m)))
 
 -- No seat goes back to earlier rules.
 abbrev pub NoneGoesBack : Type 0

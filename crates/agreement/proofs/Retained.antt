@@ -4,12 +4,12 @@ use Prim.Native.Nat.{ℕ, _+_, _≤_, _<_}
 use native.Mathlib.Omega.{arith}
 use mathlib.Core.Path.{_≡_, refl, ap, sym, subst, _∙_}
 use mathlib.Core.Logic.{_⊎_, inl, inr}
-use mathlib.Core.Bool.{Bool, true, _&&_}
+use mathlib.Core.Bool.{true}
 use mathlib.Core.Option.{some}
 use lib.ListN.{length}
 use Rattle.agreement.specs.Types.{Seat, Account, Transfer, Slot, Empty, Full, Entry, Ledger, Opening, Message, Reply, Propose}
 use Rattle.agreement.specs.Runs.{Opens, Call, message, waitingList, switch, Event, Run, _▹_, Within, at-end, sooner, sameSeat, rulesAt, ledgerAt, Obeys, accepted, proposed, passes}
-use Rattle.agreement.specs.Facts.{proposedFor}
+use Rattle.agreement.specs.Facts.{putsFor, proposedFor}
 use Rattle.agreement.proofs.Places.{before, within-trans, Order, same-event, earlier, later, order, happened-found, happened-holds, happened-later, obeys-before, seat-is, seat-self, rules-after, ledger-after}
 use Rattle.agreement.proofs.Deeds.{accepting-call, passes-is}
 use Rattle.agreement.proofs.Proposals.{carried}
@@ -416,10 +416,6 @@ module _ (o : Opening) (opens : Opens o) where
 
 -- Why a mark is set: a call at the seat put something forward for its number.
 module _ (o : Opening) (opens : Opens o) (s : Seat) where
-  -- a call at the seat put forward a slip with t's account and number
-  abbrev putsFor : Transfer → Event → Bool
-  putsFor t e = sameSeat (e .at) s && passes (sameNumber t) (proposed (e .call))
-
   record Marked (r : Run) (a : Account) (e : Entry) : Type 0 where
     pub next-why : e .proposed ≡ true → (t : Transfer) → t .account ≡ a → t .number ≡ e .current + 1 → proposedFor s t r ≡ true
     pub retained-why : (t : Transfer) → e .retained ≡ Full t → e .retainedProposed ≡ true → proposedFor s t r ≡ true
@@ -430,8 +426,8 @@ module _ (o : Opening) (opens : Opens o) (s : Seat) where
   marks-stay r r′ a e e′ w current proposed-same retained late why =
       record {
         next-why = λ h t account number.
-            happened-later (putsFor t) w (why .next-why (sym proposed-same ∙ h) t account (number ∙ ap (λ m. m + 1) current));
-        retained-why = λ t held h. happened-later (putsFor t) w (why .retained-why t (sym retained ∙ held) (sym late ∙ h));
+            happened-later (putsFor s t) w (why .next-why (sym proposed-same ∙ h) t account (number ∙ ap (λ m. m + 1) current));
+        retained-why = λ t held h. happened-later (putsFor s t) w (why .retained-why t (sym retained ∙ held) (sym late ∙ h));
       }
 
   -- a slip of the next number is accepted, and retained with its mark
@@ -480,7 +476,7 @@ module _ (o : Opening) (opens : Opens o) (s : Seat) where
       -- this call puts u forward, for t's number
       this-call : (u t : Transfer) → q ≡ Propose u → t .account ≡ u .account → t .number ≡ u .number → proposedFor s t now ≡ true
       this-call u t is account number =
-          happened-holds (putsFor t) {p = r} {r = now} {e = record { at = s; call = message m q }} at-end
+          happened-holds (putsFor s t) {p = r} {r = now} {e = record { at = s; call = message m q }} at-end
           (rw (seat-self s, is, same-number t u account number))
 
       as-it-was : (a : Account) (x : Entry) → x .current ≡ entryOf l a .current → x .proposed ≡ entryOf l a .proposed → x .retained ≡ entryOf l a .retained
@@ -522,7 +518,7 @@ module _ (o : Opening) (opens : Opens o) (s : Seat) where
   -- something with a slip's account and number was put forward, so that number is used up
   was-for : (r : Run) → Obeys o r → (t : Transfer) → proposedFor s t r ≡ true → UsedUp (t .number) (rulesAt s r) (entryOf (ledgerAt o s r) (t .account))
   was-for r obeys t h =
-      let found = happened-found (putsFor t) r h in
+      let found = happened-found (putsFor s t) r h in
       let parts = both (sameSeat (found .1 .at) s) (passes (sameNumber t) (proposed (found .1 .call))) (found .3) in
       let slip = passes-is (sameNumber t) (proposed (found .1 .call)) (parts .1) in
       let alike = number-same t (slip .0) (slip .2) in

@@ -61,9 +61,12 @@ taken switch = false
 abbrev pub ruledFor : Seat → Transfer → Run → Bool
 ruledFor s t run = happened (λ e. sameSeat (e .at) s && (passes (equal t) (ruled (e .call)) && taken (e .call))) run
 
--- a call at seat s in this run put forward a slip with this slip's account and number
+-- a call at seat s put forward a slip with this slip's account and number; and one in this run did
+abbrev pub putsFor : Seat → Transfer → Event → Bool
+putsFor s t e = sameSeat (e .at) s && passes (sameNumber t) (proposed (e .call))
+
 abbrev pub proposedFor : Seat → Transfer → Run → Bool
-proposedFor s t run = happened (λ e. sameSeat (e .at) s && passes (sameNumber t) (proposed (e .call))) run
+proposedFor s t run = happened (putsFor s t) run
 
 pub record Facts (o : Opening) (run : Run) : Type 0 where
   -- "Balances always add up to the opening sum", which is below 2^32

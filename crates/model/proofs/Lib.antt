@@ -5,6 +5,7 @@ pub mod Sums
 pub mod Equality
 pub mod Access
 pub mod Tallies
+pub mod Searches
 pub mod Gathering
 pub mod Proposals
 pub mod Booking

@@ -16,9 +16,10 @@ use Rattle.model.specs.Types.{AckSlot}
 use Rattle.model.specs.Basics.{bit, allWhere}
 use Rattle.model.specs.Records.{seatOf}
 use Rattle.model.specs.Acks.{ackAt, holds, isFull, acksFor}
-use Rattle.model.specs.Gathering.{hasAcked, gathered, ExactlyThose}
+use Rattle.model.specs.Gathering.{hasAcked, gathered, ExactlyGathered}
 use Rattle.model.proofs.Sums.{impossible}
-use Rattle.model.proofs.Gathering.{alone, all-more, all-few, gathered-number, gathered-exactly}
+use Rattle.model.proofs.Searches.{alone, all-more, all-few}
+use Rattle.model.proofs.Gathering.{gathered-number, gathered-exactly}
 use Rattle.basics.proofs.Counting.{Counts, counts-none, counts-more, counts-all}
 use Rattle.tally.specs.declared.Tally.{Tally}
 use Rattle.tally.specs.Results.{inArray, tallyOf, counted, seatsOf}
@@ -50,7 +51,7 @@ tally-gathered t acks =
     rw (← gathered-number t acks, array-front (gathered t acks), map-map (λ (p : Seat). p .0) seatOf (gathered t acks)) (map-id (gathered t acks))
 
 -- which are exactly those whose ack equals the slip
-pub tally-exactly : (t : Transfer) (acks : List AckSlot) (y : Tally) → y ≡ tallyOf t acks → ExactlyThose t acks (seatsOf y)
+pub tally-exactly : (t : Transfer) (acks : List AckSlot) (y : Tally) → y ≡ tallyOf t acks → ExactlyGathered t acks (seatsOf y)
 tally-exactly t acks y is = rw (is, tally-gathered t acks) (gathered-exactly t acks)
 
 -- a place with no ack leaves the tally as it is

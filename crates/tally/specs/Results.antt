@@ -14,7 +14,7 @@ use Rattle.model.specs.Types.{AckSlot, Entry}
 use Rattle.model.specs.Basics.{bit}
 use Rattle.model.specs.Records.{seatOf}
 use Rattle.model.specs.Acks.{holds, isFull, acksFor, acksRecorded, mustPropose}
-use Rattle.model.specs.Gathering.{gathered, ExactlyThose}
+use Rattle.model.specs.Gathering.{gathered, ExactlyGathered}
 use Rattle.layout.specs.Layout.{ledgerIn, entryIn}
 use Rattle.store.specs.Stores.{withNumber}
 use Rattle.tally.specs.declared.Tally.{Tally}
@@ -48,7 +48,7 @@ seatsOf y = map (λ s. s .0) (take (y .equal) (y .gathered))
 -- What is gathered for a slip, told as one of its account's next number; where it is, "exactly those seats, each once, lowest first".
 pub record Gathers (ws : List ℕ) (t : Transfer) (y : Tally) : Type 0 where
   pub tally : y ≡ tallyOf (atNext (entryIn ws (t .account)) t) (entryIn ws (t .account) .acks)
-  pub exactly : t .number ≡ entryIn ws (t .account) .current + 1 → ExactlyThose t (entryIn ws (t .account) .acks) (seatsOf y)
+  pub exactly : t .number ≡ entryIn ws (t .account) .current + 1 → ExactlyGathered t (entryIn ws (t .account) .acks) (seatsOf y)
 
 -- Whether a slip is to be put forward, told by a tally: at least n - f acks are recorded, fewer are equal to the tally's slip than are recorded, and
 -- nothing was put forward. Of a tally for one of the recorded slips this is the model's test.

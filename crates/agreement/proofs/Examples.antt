@@ -8,9 +8,8 @@ use mathlib.Core.Bool.{Bool, true, false, not, _&&_, _||_, false≢true}
 use mathlib.Core.List.{List, [], _∷_}
 use mathlib.Core.Option.{some}
 use lib.Dec.{eqb, lit≤}
-use lib.ListN.{drop, replicate}
-use borrow.Author.Tests.{ne-eqb}
-use Rattle.agreement.specs.Types.{Seat, Transfer, Entry, Opening, Message, Request, Circulated, Ack, Decision, Inquiry, Reply, Circulate, Acknowledge, Accept, Propose, Note, Balance, Refuse}
+use lib.ListN.{replicate}
+use Rattle.agreement.specs.Types.{Seat, Transfer, Opening, Message, Request, Circulated, Ack, Decision, Inquiry, Reply, Circulate, Acknowledge, Accept, Propose, Note, Balance, Refuse}
 use Rattle.agreement.specs.Runs.{Opens, countBelow, FewBad, message, waitingList, Event, Run, start, _▹_, happened, throughout, atHonest, sameSeat, rulesAt, ledgerAt, Obeys, acked, accepted, proposed, ruled, passes}
 use Rattle.agreement.specs.Premises.{Premises, genuine, rightful, proposals, someSlip}
 use Rattle.agreement.specs.Slates.{Slate, lowest, leaveAtMost, leaveAll, slateAt}
@@ -18,17 +17,19 @@ use Rattle.agreement.specs.Claims.{Claim}
 use Rattle.model.specs.declared.Refusal.the-variants.{OutOfRange, PastNumber, AlreadyAcked, AckConflicting, ShortBuffer}
 use Rattle.model.specs.declared.ListReply.{ListReply}
 use Rattle.model.specs.declared.ListReply.the-variants.{Listed, ListRefused}
-use Rattle.model.specs.Basics.{bit, count, every}
-use Rattle.model.specs.Records.{seatOf, accountOf, entryAt, noAcks}
+use Rattle.model.specs.Basics.{count}
+use Rattle.model.specs.Records.{seatOf, accountOf, noAcks}
 use Rattle.model.specs.Transfers.{equal, conflict}
 use Rattle.model.specs.Openings.{openReply}
 use Rattle.model.specs.Acks.{hasMost, mostAcked}
-use Rattle.model.specs.Settling.{isWaiting, lowestAffordable, apply, settleAtMost, settle}
+use Rattle.model.specs.Settling.{lowestAffordable, apply, settleAtMost, settle}
+use Rattle.model.specs.Calls.{waitingAccounts}
 use Rattle.model.specs.Switches.{newest, stepUnder}
 use Rattle.agreement.proofs.Places.{happened-found}
 use Rattle.agreement.proofs.Deeds.{that-slip}
+use Rattle.agreement.proofs.AnyOrder.{rising-conforms}
 use Rattle.model.proofs.Rows.{slip, pageWith}
-use Rattle.model.proofs.Sums.{impossible, both, is-not}
+use Rattle.model.proofs.Sums.{impossible}
 use Rattle.model.proofs.Equality.{conflict-sound}
 
 -- n 6, f 1: 5 acks accept, and 5 recorded acks that conflict put forward
@@ -120,36 +121,20 @@ waits =
     ▹ ruling 1 t (Accept 1) ▹ ruling 2 t (Accept 1) ▹ ruling 2 t (Refuse PastNumber) ▹ ruling 3 t (Accept 1)
     ▹ acks 0 v ▹ acks 1 v ▹ acks 2 v ▹ acks 3 v
     ▹ ack 4 0 v Note ▹ ack 4 1 v Note ▹ ack 4 2 v Note ▹ ack 4 3 v Note ▹ ack 4 5 v (Accept 0)
-    ▹ lists 4 [] (ListRefused ShortBuffer) []
+
+-- .. and its waiting list is asked for, with a buffer that is too short
+abbrev asks : Run
+asks = waits ▹ lists 4 [] (ListRefused ShortBuffer) []
 
 -- .. then the waiting list has v, and the ruling for t, which is late at seat 4, brings the funds
 abbrev pub witness : Run
 witness =
-    waits
+    asks
     ▹ lists 4 (replicate 32 9) (Listed 1) (1 ∷ replicate 31 9)
     ▹ ruling 4 t (Accept 2)
 
--- no slip waits in these entries
-abbrev noneWaits : List Entry → Bool
-noneWaits es = every (λ e. not (isWaiting e)) es
-
-none-waits : (es : List Entry) → noneWaits es ≡ true → (a : ℕ) → isWaiting (entryAt es (accountOf a)) ≡ false
-none-waits [] h a = refl
-none-waits (e ∷ es) h zero = is-not (isWaiting e) (both (not (isWaiting e)) (noneWaits es) h .0)
-none-waits (e ∷ es) h (suc a) = none-waits es (both (not (isWaiting e)) (noneWaits es) h .1) a
-
--- the list of account 1 is right for entries of which only that account's has a waiting slip
-only-one : (es : List Entry)
-    → isWaiting (entryAt es (accountOf 0)) ≡ false → isWaiting (entryAt es (accountOf 1)) ≡ true → noneWaits (drop 2 es) ≡ true
-    → (a : ℕ) → count (eqb a) (1 ∷ []) ≡ bit (isWaiting (entryAt es (accountOf a)))
-only-one es first second rest zero = rw first
-only-one es first second rest (suc zero) = rw second
-only-one [] first second rest (suc (suc a)) = impossible (cc)
-only-one (x ∷ []) first second rest (suc (suc a)) = impossible (cc)
-only-one (x ∷ y ∷ es) first second rest (suc (suc a)) = rw (ne-eqb (suc (suc a)) 1 (omega arith), none-waits es rest a)
-
 pub witness-obeys : Obeys page witness
-unfolding rulesAt ledgerAt noAcks equal conflict hasMost mostAcked lowestAffordable apply settleAtMost settle stepUnder
+unfolding rulesAt ledgerAt waitingAccounts noAcks equal conflict hasMost mostAcked lowestAffordable apply settleAtMost settle stepUnder
 witness-obeys =
     tt
     then refl
@@ -162,8 +147,8 @@ witness-obeys =
     then refl then refl then refl then refl
     then refl then refl then refl then refl
     then refl then refl then refl then refl then refl
-    then (refl, refl)
-    then (1 ∷ [], only-one (ledgerAt page (seatOf 4) waits .entries) refl refl refl, refl, refl)
+    then rising-conforms newest (ledgerAt page (seatOf 4) waits) _ _ _ (record { reply = refl; buffer = refl })
+    then rising-conforms newest (ledgerAt page (seatOf 4) asks) _ _ _ (record { reply = refl; buffer = refl })
     then refl
 
 -- The witness is a run as demand 3 means it, and keeps the premises.

@@ -19,6 +19,7 @@ pub mod Retained
 pub mod Always
 pub mod Theorem1
 pub mod Switching
+pub mod AnyOrder
 pub mod Examples
 pub mod Ties
 pub mod SwitchesTried

@@ -14,6 +14,7 @@ use Rattle.agreement.specs.Claims.{Claim}
 use Rattle.agreement.specs.Switching.{SameSaveTies, Alike, MarkStands}
 use Rattle.agreement.proofs.Demand3.{demand3}
 use Rattle.agreement.proofs.Switching.{marks-stand}
+use Rattle.agreement.proofs.AnyOrder.{rising-conforms}
 use Rattle.agreement.proofs.Examples.{page, t, bad, today, asked, acks, ack, ruling, _then_, putsForward, takes, slate}
 use Rattle.model.specs.declared.Refusal.the-variants.{AlreadyAcked, ShortBuffer, SelfPayment}
 use Rattle.model.specs.declared.ListReply.the-variants.{ListRefused}
@@ -73,10 +74,11 @@ booked =
 abbrev pub across : Run
 across =
     booked
+    ▹ noRoom 4
     ▹ acks 0 x ▹ acks 1 x ▹ acks 3 y ▹ acks 4 y
     ▹ switches 1 ▹ asked 1 (Circulated (slip 0 2 4 0)) (Refuse SelfPayment)
     ▹ ack 1 0 x Note ▹ ack 1 1 x Note ▹ ack 1 3 y Note ▹ ack 1 4 y Note ▹ ack 1 5 z (Propose x)
-    ▹ noRoom 4 ▹ ack 4 0 x Note ▹ ack 4 1 x Note ▹ ack 4 3 y Note ▹ ack 4 4 y Note ▹ ack 4 5 z (Propose y)
+    ▹ ack 4 0 x Note ▹ ack 4 1 x Note ▹ ack 4 3 y Note ▹ ack 4 4 y Note ▹ ack 4 5 z (Propose y)
     ▹ ack 2 0 x Note ▹ ack 2 1 x Note ▹ switches 2 ▹ ack 2 3 y Note ▹ ack 2 4 y Note ▹ ack 2 5 z (Propose x)
     ▹ ruling 0 x (Accept 1) ▹ ruling 1 x (Accept 1) ▹ ruling 2 x (Accept 1) ▹ ruling 3 x (Accept 1) ▹ ruling 4 x (Accept 1)
 
@@ -92,10 +94,11 @@ across-obeys =
     then refl then refl then refl then refl then refl
     then refl then refl then refl then tt then refl then refl
     then refl then refl then refl then refl then refl
+    then rising-conforms firstRules (ledgerAt page (seatOf 4) booked) _ _ _ (record { reply = refl; buffer = refl })
     then refl then refl then refl then refl
     then tt then refl
     then refl then refl then refl then refl then refl
-    then (refl, refl) then refl then refl then refl then refl then (y, refl, refl)
+    then refl then refl then refl then refl then (y, refl, refl)
     then refl then refl then tt then refl then refl then refl
     then refl then refl then refl then refl then refl
 

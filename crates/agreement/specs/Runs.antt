@@ -8,12 +8,12 @@ use mathlib.Core.Option.{Option, none, some}
 use lib.Dec.{eqb, ltb}
 use lib.ListN.{length}
 use Rattle.agreement.specs.Types.{Seat, Transfer, AckSlot, Ledger, Opening, Message, Request, Circulated, Ack, Decision, Inquiry, Reply, Circulate, Acknowledge, Accept, Propose, Note, Balance, Refuse, Opened, ListReply}
-use Rattle.model.specs.Basics.{bit}
+use Rattle.model.specs.Basics.{bit, count}
 use Rattle.model.specs.Records.{seatOf, freshLedger, entryOf, withAck}
 use Rattle.model.specs.Acks.{hasMost}
 use Rattle.model.specs.Replies.{letterOf}
 use Rattle.model.specs.Openings.{openReply}
-use Rattle.model.specs.Calls.{Lists}
+use Rattle.model.specs.Calls.{waitsAt, Lists}
 use Rattle.model.specs.Switches.{Rules, firstRules, sinceRequest3, sinceRequest5, nextRules, switched, stepUnder}
 
 -- "Take any opening page that is not refused": a page has 32 balances.
@@ -132,10 +132,19 @@ StandsFor due (some t) acks r = (u : Transfer) × (r ≡ Propose u) × (hasMost 
 abbrev pub MayReply : Rules → Ledger → Message → Reply → Type 0
 MayReply v l m r = StandsFor (stepUnder v l m .reply) (freeSlip v (stepUnder v l m .reply)) (acksWith l m) r
 
+-- "the accounts with a waiting slip, each once, in any order"
+abbrev pub InAnyOrder : Ledger → List ℕ → Type 0
+InAnyOrder l accounts = (a : ℕ) → count (eqb a) accounts ≡ bit (waitsAt l a)
+
+-- What a waiting list may reply and leave in the buffer: the order is free under every set of rules, since seats take request 6 of document 02 on
+-- different days, and no rules tell which have.
+abbrev pub MayList : Ledger → List ℕ → ListReply → List ℕ → Type 0
+MayList l before r after = (accounts : List ℕ) × InAnyOrder l accounts × Lists accounts before r after
+
 -- a call is answered by these rules. A seat may switch at any place
 abbrev pub Conforms : Rules → Ledger → Call → Type 0
 Conforms v l (message m r) = MayReply v l m r
-Conforms v l (waitingList before r after) = Lists l before r after
+Conforms v l (waitingList before r after) = MayList l before r after
 Conforms v l switch = Unit {0}
 
 -- every call of a run is answered by the rules and the ledger that its seat has there

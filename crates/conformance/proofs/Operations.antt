@@ -8,16 +8,16 @@ use Rattle.agreement.specs.Types.{Seat, Account, Ledger, Opening}
 use Rattle.agreement.specs.Runs.{Call, message, waitingList, switch, Event, Run, start, _▹_, at-end, sameSeat, rulesAfter, rulesAt, nextLedger, ledgerAt, MayReply, Conforms, Obeys}
 use Rattle.agreement.proofs.Places.{seat-is, seat-self}
 use Rattle.agreement.proofs.Proposals.{refused-due}
+use Rattle.agreement.proofs.AnyOrder.{rising-conforms}
 use Rattle.agreement.proofs.Demand3.{demand3}
 use Rattle.agreement.proofs.Always.{always}
 use Rattle.model.specs.Types.{Outcome}
 use Rattle.model.specs.Records.{RetainsNothing, entryOf}
-use Rattle.model.specs.Switches.{Rules, firstRules, sinceRequest3, sinceRequest5, rank, switched}
+use Rattle.model.specs.Switches.{Rules, firstRules, sinceRequest3, sinceRequest5, newest, rank, switched}
 use Rattle.model.proofs.Refusing.{refusal-keeps, newest-step}
 use Rattle.model.proofs.Opened.{opened-fresh}
 use Rattle.layout.specs.Layout.{blockWords, heldBlockWords, ledgerIn}
-use Rattle.ledger.proofs.Promising.{listed}
-use Rattle.conformance.specs.Operations.{ledgerUnder, ContractServes, ContractOpens, Operated, ContractSwitches, OperatedConforms, Called, Works, WorksObeys, ObeysWorks, WorksDemand3, WorksFacts}
+use Rattle.conformance.specs.Operations.{ledgerUnder, ContractServes, ContractOpens, ContractLists, ContractSwitches, Operated, OperatedConforms, Called, Works, WorksObeys, ObeysWorks, WorksDemand3, WorksFacts}
 use Rattle.layout.specs.Words.{wordsOf, LedgerTold}
 use Rattle.layout.proofs.Words.{words-are, held-words-are}
 use Rattle.conformance.proofs.Reached.{reached-told}
@@ -31,9 +31,12 @@ contract-serves words m r next done =
       kept = done .kept;
     }
 
--- and so are an opening and the switch
+-- and so are an opening, a waiting list and the switch
 pub contract-opens : ContractOpens
 contract-opens before o after done = record { reply = sym (done .opens .reply); ledger = done .opens .ledger }
+
+pub contract-lists : ContractLists
+contract-lists words before r after done = (rising-conforms newest (ledgerIn words) before r after (done .lists), refl)
 
 pub contract-switches : ContractSwitches
 contract-switches held next done = done .ledger
@@ -41,7 +44,7 @@ contract-switches held next done = done .ledger
 -- an operation is a call that conforms, and leaves the run's next ledger
 pub operated-conforms : OperatedConforms
 operated-conforms v words (message m r) next done = (done .replied, done .ledger)
-operated-conforms v words (waitingList before r after) next done = (done .0 .meets, ap (ledgerUnder v) (done .1))
+operated-conforms v words (waitingList before r after) next done = (done .0, ap (ledgerUnder v) (done .1))
 operated-conforms v words switch next done = (tt, done)
 
 -- what a seat holds after a call, if what all held before it were the run's ledgers
@@ -92,7 +95,7 @@ conforms-operated v l (message m r) before after ok =
       kept = λ code is. ap (wordsFor v) (refusal-keeps v l m code (refused-due v l m code (rw is at ok)));
     }
 conforms-operated v l switch before after ok = after ∙ ap (switched v) (sym before)
-conforms-operated v l (waitingList buffer r left) before after ok = (rw before (listed l buffer r left ok), refl)
+conforms-operated v l (waitingList buffer r left) before after ok = (rw before ok, refl)
 
 pub obeys-works : ObeysWorks
 unfolding rulesAt ledgerAt

@@ -9,7 +9,9 @@ use Rattle.model.specs.Records.{freshLedger}
 use Rattle.model.specs.Bundles.{entryCount, pageAt, messageOf, checkBundle}
 use Rattle.agreement.specs.Types.{Message}
 use Rattle.agreement.specs.Runs.{Opens, rulesAt, ledgerAt}
+use Rattle.agreement.proofs.AnyOrder.{rising-conforms}
 use Rattle.agreement.proofs.Always.{always}
+use Rattle.model.specs.Switches.{newest}
 use Rattle.ledger.specs.Promises.{ListedAs}
 use Rattle.bundle.proofs.Asking.{all-ask}
 use Rattle.replay.specs.Text.{ledgerFrom, openingPage}
@@ -53,4 +55,4 @@ unfolding rulesAt ledgerAt
 every-list bytes m s xs before reply after right opens run lists =
     let here : ListedAs (ledgerFrom bytes (entryCount bytes - 1) 1 (freshLedger (openingPage bytes))) before reply after = rw (right, opens) at (lists .meets) in
     let left = ledger-left bytes (openingPage bytes) s (entryCount bytes - 1) 1 begins xs refl (run .asked) in
-    (run .obeys, rw left at (here .meets))
+    (run .obeys, rising-conforms newest (ledgerAt (openingPage bytes) s (runOf s xs)) before reply after (rw left at (here .lists)))

@@ -4,8 +4,8 @@ use Prim.Native.Nat.{ℕ}
 use mathlib.Core.Path.{_≡_}
 use mathlib.Core.Bool.{Bool, true, false}
 use mathlib.Core.List.{List}
-use Rattle.agreement.specs.Types.{Seat, Ledger, Opening, Refusal, Message, Reply, Refuse, Opened}
-use Rattle.agreement.specs.Runs.{Opens, FewBad, Call, message, waitingList, switch, Event, Run, start, _▹_, atHonest, sameSeat, rulesAfter, rulesAt, nextLedger, ledgerAt, MayReply, Conforms, Obeys}
+use Rattle.agreement.specs.Types.{Seat, Ledger, Opening, Refusal, Message, Reply, Refuse, Opened, ListReply}
+use Rattle.agreement.specs.Runs.{Opens, FewBad, Call, message, waitingList, switch, Event, Run, start, _▹_, atHonest, sameSeat, rulesAfter, rulesAt, nextLedger, ledgerAt, MayReply, MayList, Conforms, Obeys}
 use Rattle.agreement.specs.Premises.{Premises}
 use Rattle.agreement.specs.Claims.{Claim}
 use Rattle.agreement.specs.Facts.{Facts}
@@ -35,8 +35,13 @@ ContractServes = (words : List ℕ) (m : Message) (r : Reply) (next : List ℕ) 
 -- to read: they stay. A seat that switches "goes on with the book it holds": with words of what its ledger becomes.
 abbrev pub Operated : Rules → List ℕ → Call → List ℕ → Type 0
 Operated v words (message m r) next = Served v words m r next
-Operated v words (waitingList before r after) next = ListedAs (ledgerUnder v words) before r after × (next ≡ words)
+Operated v words (waitingList before r after) next = MayList (ledgerUnder v words) before r after × (next ≡ words)
 Operated v words switch next = ledgerUnder (nextRules v) next ≡ switched v (ledgerUnder v words)
+
+-- A waiting list that keeps today's contract is one of those, of a seat under the newest rules.
+abbrev pub ContractLists : Type 0
+ContractLists =
+    (words before : List ℕ) (r : ListReply) (after : List ℕ) → ListedAs (ledgerIn words) before r after → Operated newest words (waitingList before r after) words
 
 -- Taking a held book over, as its contract has it, is the switch from the rules since request 3.
 abbrev pub ContractSwitches : Type 0

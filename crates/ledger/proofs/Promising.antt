@@ -12,9 +12,7 @@ use Rattle.model.specs.declared.ListReply.{ListReply}
 use Rattle.model.specs.Refusals.{firstRefusal, listRules}
 use Rattle.model.specs.Replies.{valuesOfOpen, valuesOfList}
 use Rattle.model.specs.Openings.{openRules, openReplyBy, openReply}
-use Rattle.model.specs.Settling.{waiting}
-use Rattle.model.specs.Calls.{ListsUnlessRefused, Lists}
-use Rattle.model.proofs.Listing.{list-count}
+use Rattle.model.specs.Calls.{waitingAccounts, listReplyBy, Lists}
 use Rattle.opening.specs.Promises.{Opens}
 use Rattle.ledger.specs.Promises.{codeIfAny, OpenedAs, listValues, ListedAs}
 
@@ -26,10 +24,9 @@ opened before page r after h = record { opens = h; told = ap valuesOfOpen (h .re
     go none = refl
     go (some q) = refl
 
-pub listed : (l : Ledger) (before : List ℕ) (r : ListReply) (after : List ℕ) → Lists l before r after → ListedAs l before r after
-listed l before r after h = record { meets = h; told = go (firstRefusal (listRules before)) refl h }
+pub listed : (l : Ledger) (before : List ℕ) (r : ListReply) (after : List ℕ) → Lists (waitingAccounts l) before r after → ListedAs l before r after
+listed l before r after h = record { lists = h; told = ap valuesOfList (h .reply) ∙ go (firstRefusal (listRules before)) }
   where
-    go : (o : Option Refusal) → firstRefusal (listRules before) ≡ o → ListsUnlessRefused o l before r after → valuesOfList r ≡ listValues o (waiting (l .entries))
-    go none e w =
-        ap valuesOfList (w .2) ∙ ap (λ (n : ℕ). 0 ∷ n ∷ []) (list-count l before after (length (w .0)) (rw (w .2) at h))
-    go (some q) e w = ap valuesOfList (w .0)
+    go : (o : Option Refusal) → valuesOfList (listReplyBy o (waitingAccounts l)) ≡ listValues o (length (waitingAccounts l))
+    go none = refl
+    go (some q) = refl

@@ -6,6 +6,7 @@ use Prim.Native.Nat.{ℕ}
 use mathlib.Core.Path.{_≡_}
 use mathlib.Core.List.{List, [], _∷_}
 use mathlib.Core.Option.{Option, none, some}
+use lib.ListN.{length}
 use Rattle.model.specs.Types.{Ledger}
 use Rattle.model.specs.declared.Opening.{Opening}
 use Rattle.model.specs.declared.Refusal.{Refusal}
@@ -14,8 +15,7 @@ use Rattle.model.specs.declared.ListReply.{ListReply}
 use Rattle.model.specs.Refusals.{firstRefusal, listRules}
 use Rattle.model.specs.Replies.{codeOf, valuesOfOpen, valuesOfList}
 use Rattle.model.specs.Openings.{openRules}
-use Rattle.model.specs.Settling.{waiting}
-use Rattle.model.specs.Calls.{Lists}
+use Rattle.model.specs.Calls.{waitingAccounts, Lists}
 use Rattle.model.specs.Switches.{sinceRequest3, switched}
 use Rattle.layout.specs.Layout.{ledgerIn, heldIn}
 use Rattle.opening.specs.Promises.{Opens}
@@ -40,7 +40,7 @@ abbrev pub listValues : Option Refusal → ℕ → List ℕ
 listValues none count = 0 ∷ count ∷ []
 listValues (some r) count = codeOf r ∷ []
 
--- The waiting list: the reply, and the buffer after it, given the buffer before it.
+-- The waiting list: the reply, and the buffer after it, given the buffer before it, by the accounts at which a slip waits, lowest first.
 pub record ListedAs (l : Ledger) (before : List ℕ) (r : ListReply) (after : List ℕ) : Type 0 where
-  pub meets : Lists l before r after
-  pub told : valuesOfList r ≡ listValues (firstRefusal (listRules before)) (waiting (l .entries))
+  pub lists : Lists (waitingAccounts l) before r after
+  pub told : valuesOfList r ≡ listValues (firstRefusal (listRules before)) (length (waitingAccounts l))

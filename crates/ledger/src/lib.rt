@@ -1,10 +1,10 @@
 // The ledger's operations, on a book that the caller lends: the opening, the switch, the five kinds of message, and the waiting list. Each is total: it takes any
 // words and any value of its types, and its contract says what it replies and leaves, by the documents' definitions. What a function promises is a
 // record of specs/Promises.antt.
-use calls::lists;
 use calls::messages;
 use layout::BOOK_WORDS;
 use layout::HELD_WORDS;
+use listing;
 use model::Account;
 use model::ListReply;
 use model::Message;
@@ -81,9 +81,9 @@ pub fn inquire(words: &[u32; BOOK_WORDS], a: Account) -> Reply
     messages::inquire(words, a)
 }
 
-// The waiting list: the accounts at which a transfer waits, in rising order, into the front of the buffer. The words stay the same.
+// The waiting list: the accounts at which a transfer waits, lowest first, into the front of the buffer. The words stay the same.
 pub fn list_waiting(words: &[u32; BOOK_WORDS], buffer: &mut [u8]) -> ListReply
     ensures { λ r. ⌜ ListedAs (ledgerIn (now (words .entry))) (now (buffer .entry)) r (now (buffer .exit)) ⌝ }
 {
-    lists::list_waiting(words, buffer)
+    listing::list_waiting(words, buffer)
 }

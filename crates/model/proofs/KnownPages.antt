@@ -1,6 +1,6 @@
 -- Document 01, "Known pages": its facts as the rows of one table, with document 02's cases beside them, and one theorem, computed, that all of them hold
 -- of the definitions.
-use Prim.Native.Nat.{ℕ}
+use Prim.Native.Nat.{ℕ, zero, suc}
 use mathlib.Core.Bool.{true, false}
 use mathlib.Core.List.{List, [], _∷_, _++_}
 use lib.Dec.{T}
@@ -13,11 +13,11 @@ use Rattle.model.specs.Openings.{openReply, openLedger}
 use Rattle.model.specs.Acks.{hasMost, mostAcked}
 use Rattle.model.specs.Gathering.{gathered}
 use Rattle.model.specs.Settling.{lowestAffordable, apply, settleAtMost, settle}
-use Rattle.model.specs.Calls.{step}
+use Rattle.model.specs.Calls.{waitingAccounts, step}
 use Rattle.model.specs.Switches.{firstRules, sinceRequest3, sinceRequest5, stepUnder}
 use Rattle.model.specs.Bundles.{checkBundle}
 use Rattle.model.specs.Writing.{written}
-use Rattle.model.proofs.Rows.{slip, ackBy, pageWith, A, B, C, K, N, P, R, _gives_, everyKind, offered, Row, acksNeeded, opens, runs, runsAcross, putsForward, gathers, lists, sums, checks, counts, shows, showsOpening, reads, writes, fits, leaves, rowHolds}
+use Rattle.model.proofs.Rows.{slip, ackBy, pageWith, A, B, C, K, N, P, R, _gives_, everyKind, offered, Asked, Row, acksNeeded, opens, runs, runsAcross, putsForward, gathers, lists, sums, checks, counts, shows, showsOpening, reads, writes, fits, leaves, rowHolds}
 
 -- slips that conflict with one another
 abbrev t : Transfer
@@ -246,8 +246,31 @@ further =
     ∷ opens (record { seats = 6; faults = 1; accounts = 1; balances = 10 ∷ 3 ∷ replicate 30 0 }) (2 ∷ [])
     ∷ opens (pageWith 6 1 (4_294_967_295 ∷ 1 ∷ [])) (3 ∷ [])
     ∷ opens (pageWith 6 1 (4_294_967_295 ∷ 0 ∷ [])) (0 ∷ [])
-    ∷ lists 31 (17 ∷ [])
-    ∷ lists 32 (0 ∷ 0 ∷ [])
+    ∷ []
+
+-- rulings for slips of the accounts below this one, each above its balance of 1, the highest account's first
+abbrev falling : ℕ → List Asked
+falling zero = []
+falling (suc a) = Decision (slip a 1 2 0) gives K 0 ∷ falling a
+
+-- the numbers from this one on
+abbrev from : ℕ → ℕ → List ℕ
+from zero i = []
+from (suc left) i = i ∷ from left (suc i)
+
+-- Document 02, request 6: the waiting list. Nothing waits; accounts that come to wait highest first; one that waited and is booked;
+-- every account; a buffer longer than 32 bytes; and one that is too short, where something waits.
+pub waitingLists : List Row
+waitingLists =
+    lists (10 ∷ []) [] (replicate 32 9) (0 ∷ 0 ∷ []) (replicate 32 9)
+    ∷ lists (replicate 4 1)
+    (Decision (slip 3 1 2 0) gives K 0 ∷ Decision (slip 2 1 2 1) gives K 0 ∷ Decision (slip 1 1 1 2) gives K 2 ∷ Decision (slip 1 2 3 0) gives K 0
+    ∷ Decision (slip 0 1 2 3) gives K 0 ∷ [])
+    (replicate 33 9) (0 ∷ 3 ∷ []) (0 ∷ 1 ∷ 3 ∷ replicate 30 9)
+    ∷ lists (replicate 32 1) (falling 32) (replicate 40 9) (0 ∷ 32 ∷ []) (from 32 0 ++ replicate 8 9)
+    ∷ lists (replicate 4 1) (falling 4) (replicate 32 9) (0 ∷ 4 ∷ []) (0 ∷ 1 ∷ 2 ∷ 3 ∷ replicate 28 9)
+    ∷ lists (replicate 4 1) (falling 4) (replicate 31 9) (17 ∷ []) (replicate 31 9)
+    ∷ lists (replicate 4 1) (falling 4) [] (17 ∷ []) []
     ∷ []
 
 -- the body of a page with the slip t
@@ -365,5 +388,6 @@ pub facts : T (every rowHolds marked)
     × T (every rowHolds further)
     × T (every rowHolds format)
     × T (every rowHolds writing)
-unfolding marked tied selfPaid switching late takenOver gathering further format writing written noAcks equal conflict hasMost mostAcked gathered openReply openLedger lowestAffordable apply settleAtMost settle step stepUnder checkBundle
-facts = (tt, tt, tt, tt, tt, tt, tt, tt, tt, tt)
+    × T (every rowHolds waitingLists)
+unfolding marked tied selfPaid switching late takenOver gathering further format writing waitingLists waitingAccounts written noAcks equal conflict hasMost mostAcked gathered openReply openLedger lowestAffordable apply settleAtMost settle step stepUnder checkBundle
+facts = (tt, tt, tt, tt, tt, tt, tt, tt, tt, tt, tt)

@@ -1,6 +1,6 @@
 -- A refusal changes nothing, for every ledger and every call; and a call is refused exactly by the first rule that holds. Of messages, under every set of
 -- rules at once; and today's step is the step under the newest.
-use Prim.Native.Nat.{ℕ, _+_}
+use Prim.Native.Nat.{_+_}
 use native.Mathlib.Omega.{arith}
 use borrow.Author.Tests.{leb-false, ltb-false}
 use mathlib.Core.Path.{_≡_, refl, ap, sym, subst, _∙_}
@@ -9,12 +9,12 @@ use mathlib.Core.Bool.{Bool, true, false, cond}
 use mathlib.Core.List.{List, [], _∷_}
 use mathlib.Core.Option.{Option, none, some}
 use lib.Dec.{leb·zero}
-use Rattle.model.specs.Types.{Account, Transfer, Entry, Ledger, Outcome, Opening, Refusal, UnknownSeat, OutOfRange, Message, Request, Circulated, Ack, Decision, Inquiry, Reply, Propose, Note, Refuse, OpenRefused, ListRefused}
+use Rattle.model.specs.Types.{Account, Transfer, Entry, Ledger, Outcome, Opening, Refusal, UnknownSeat, OutOfRange, Message, Request, Circulated, Ack, Decision, Inquiry, Reply, Propose, Note, Refuse, OpenRefused}
 use Rattle.model.specs.Records.{freshLedger, noLedger, withAck, withProposed, withRetainedOf}
-use Rattle.model.specs.Refusals.{Rule, firstRefusal, pastNumber, futureNumber, listRules}
+use Rattle.model.specs.Refusals.{Rule, firstRefusal, pastNumber, futureNumber}
 use Rattle.model.specs.Openings.{openRules, openReplyBy, openReply, openLedgerBy, openLedger}
 use Rattle.model.specs.Acks.{acksFor, acksRecorded, enough, mustPropose, mostAcked}
-use Rattle.model.specs.Calls.{payerOf, Due, replied, accepts, Effect, replies, waits, tallied, effect, unlessRefused, joins, finishedBy, finished, entryFor, lateIn, rulesIn, step, Lists, ListsUnlessRefused}
+use Rattle.model.specs.Calls.{payerOf, Due, replied, accepts, Effect, replies, waits, tallied, effect, unlessRefused, joins, finishedBy, finished, entryFor, lateIn, rulesIn, step}
 use Rattle.model.specs.Switches.{Rules, firstRules, sinceRequest3, sinceRequest5, newest, rulesMet, lateMet, effectUnder, stepUnder}
 use Rattle.model.proofs.Sums.{impossible}
 use Rattle.model.proofs.Access.{with-entry-read}
@@ -183,11 +183,3 @@ no-ledger-refuses m = (first m .0, sym (newest-step noLedger m) ∙ refuses newe
     first (Ack s t) = (UnknownSeat, rw (leb·zero (s .0)), rw (leb·zero (s .0)))
     first (Decision t) = (OutOfRange, refl, rw (leb·zero (t .account .0)))
     first (Inquiry a) = (OutOfRange, refl, rw (leb·zero (a .0)))
-
--- a refused waiting list leaves the buffer as it was
-pub list-refused : (l : Ledger) (before after : List ℕ) (r : Refusal) → Lists l before (ListRefused r) after → after ≡ before
-list-refused l before after r h = go (firstRefusal (listRules before)) h
-  where
-    go : (q : Option Refusal) → ListsUnlessRefused q l before (ListRefused r) after → after ≡ before
-    go none h = impossible (cc (h .2))
-    go (some q) h = h .1

@@ -5,14 +5,14 @@ use mathlib.Core.List.{List, [], _∷_, _++_, map}
 use mathlib.Core.Option.{Option, none, some}
 use lib.Dec.{eqb}
 use lib.ListN.{length, take, replicate}
-use Rattle.model.specs.Types.{Transfer, Slot, Ledger, Outcome, Opening, Refusal, Message, Request, Circulated, Ack, Decision, Inquiry, Reply, ListReply, Listed, ListRefused}
+use Rattle.model.specs.Types.{Transfer, Slot, Ledger, Outcome, Opening, Message, Request, Circulated, Ack, Decision, Inquiry, Reply, ListReply}
 use Rattle.model.specs.Records.{seatOf, accountOf, noLedger}
 use Rattle.model.specs.Replies.{letterOf, valuesOf, valuesOfTransfer, valuesOfOpen, valuesOfList, valuesOfBundle, valuesOfWrite}
 use Rattle.model.specs.Refusals.{firstRefusal, listRules}
 use Rattle.model.specs.Openings.{openReply, openLedger}
 use Rattle.model.specs.Acks.{enough, mostAcked}
 use Rattle.model.specs.Gathering.{gathered}
-use Rattle.model.specs.Calls.{step}
+use Rattle.model.specs.Calls.{waitingAccounts, listReplyBy, listBuffer, step}
 use Rattle.model.specs.Switches.{Rules, nextRules, switched, stepUnder}
 use Rattle.model.specs.Bundles.{bodySum, badCount, checkBundle, pageAt, messageOf, openingOf, Reading, taken, noMore, readNext}
 use Rattle.model.specs.Writing.{written, writeFaults, writeReply, bufferAfter}
@@ -81,8 +81,8 @@ pub data Row : Type 0 where
   putsForward : List Slot → Transfer → Row
   -- each seat's ack, seat by seat from 0, a slip, and the seats that are gathered for it
   gathers : List Slot → Transfer → List ℕ → Row
-  -- the length of a waiting list's buffer, and the values of its answer where nothing waits
-  lists : ℕ → List ℕ → Row
+  -- balances; the messages with their answers; then a waiting list: the buffer, the values of its answer, and the buffer after it
+  lists : List ℕ → List Asked → List ℕ → List ℕ → List ℕ → Row
   -- bytes and their sum
   sums : List ℕ → ℕ → Row
   -- a bundle, and the values of its check's answer
@@ -122,10 +122,11 @@ allAnswered steps l (q ∷ qs) then = answered (steps l (q .0) .reply) (q .1) &&
 abbrev pub hasBalances : List ℕ → Ledger → Bool
 hasBalances balances l = same (take (length balances) (map (λ e. e .balance) (l .entries))) balances
 
--- the waiting list's reply where nothing waits
-abbrev pub listReply : Option Refusal → ListReply
-listReply none = Listed 0
-listReply (some r) = ListRefused r
+-- the waiting list is answered so, and leaves this in the buffer
+abbrev pub listsAs : List ℕ → List ℕ → List ℕ → Ledger → Bool
+listsAs before said after l =
+    let reply : ListReply = listReplyBy (firstRefusal (listRules before)) (waitingAccounts l) in
+    same (valuesOfList reply) said && same (listBuffer reply (waitingAccounts l) before) after
 
 -- a message's kind, seat and slip as numbers
 abbrev pub numbersOf : Option Message → List ℕ
@@ -155,7 +156,7 @@ rowHolds (runsAcross v n f balances asked later final) =
     (λ l. allAnswered (stepUnder (nextRules v)) (switched v l) later (hasBalances final))
 rowHolds (putsForward places t) = same (valuesOfTransfer (mostAcked (map (λ s. record { slot = s }) places))) (valuesOfTransfer t)
 rowHolds (gathers places t seats) = same (gathered t (map (λ s. record { slot = s }) places)) seats
-rowHolds (lists size said) = same (valuesOfList (listReply (firstRefusal (listRules (replicate size 0))))) said
+rowHolds (lists balances asked before said after) = allAnswered step (openLedger (pageWith 6 1 balances) noLedger) asked (listsAs before said after)
 rowHolds (sums bytes s) = eqb (bodySum bytes) s
 rowHolds (checks bytes said) = same (valuesOfBundle (checkBundle bytes)) said
 rowHolds (counts m bad) = Bool·beq (badCount m) bad

@@ -6,10 +6,9 @@ use mathlib.Core.Path.{_≡_}
 use mathlib.Core.Bool.{Bool, false, cond, not, _&&_, _||_}
 use mathlib.Core.List.{List, _++_}
 use mathlib.Core.Option.{Option, none, some}
-use lib.Dec.{eqb}
 use lib.ListN.{length, drop}
 use Rattle.model.specs.Types.{Account, Transfer, Entry, Ledger, Outcome, Refusal, Message, Request, Circulated, Ack, Decision, Inquiry, Reply, Circulate, Acknowledge, Accept, Propose, Note, Balance, Refuse, ListReply, Listed, ListRefused}
-use Rattle.model.specs.Basics.{bit, count}
+use Rattle.model.specs.Basics.{allWhere}
 use Rattle.model.specs.Records.{accountOf, entryOf, setEntry, withEntry, withEntries, withAcked, withAck, withProposed, withPending, withRetained, withRetainedProposed}
 use Rattle.model.specs.Refusals.{Rule, firstRefusal, unknownSeat, outOfRange, rulesOf, listRules}
 use Rattle.model.specs.Acks.{conflicts, acksFor, acksRecorded, enough, mustPropose, slipIn, mostAcked}
@@ -120,18 +119,25 @@ stepBy become late rules l m = finished l (payerOf m) (become (turnBy late rules
 unfoldable pub step : Ledger → Message → Outcome
 step l m = stepBy (λ x. x) (lateIn l m) (rulesIn l m) l m
 
--- Waiting list: the accounts with a waiting slip, each once. Their order is left free.
-abbrev pub WaitingAccounts : Ledger → List ℕ → Type 0
-WaitingAccounts l accounts = (a : ℕ) → count (eqb a) accounts ≡ bit (isWaiting (entryOf l (accountOf a)))
+-- Waiting list: "the accounts with a waiting slip"
+abbrev pub waitsAt : Ledger → ℕ → Bool
+waitsAt l a = isWaiting (entryOf l (accountOf a))
 
--- what the list replies and leaves in the buffer, given what the buffer held; the ledger stays the same
-abbrev pub ListsUnlessRefused : Option Refusal → Ledger → List ℕ → ListReply → List ℕ → Type 0
-ListsUnlessRefused none l before reply after =
-    (accounts : List ℕ)
-    × WaitingAccounts l accounts
-    × (reply ≡ Listed (length accounts))
-    × (after ≡ accounts ++ drop (length accounts) before)
-ListsUnlessRefused (some r) l before reply after = (reply ≡ ListRefused r) × (after ≡ before)
+-- document 02, request 6: "Accounts now come lowest first"
+unfoldable pub waitingAccounts : Ledger → List ℕ
+waitingAccounts l = allWhere (waitsAt l) (length (l .entries)) 0
 
-abbrev pub Lists : Ledger → List ℕ → ListReply → List ℕ → Type 0
-Lists l before reply after = ListsUnlessRefused (firstRefusal (listRules before)) l before reply after
+-- "replies how many", unless it is refused
+abbrev pub listReplyBy : Option Refusal → List ℕ → ListReply
+listReplyBy none accounts = Listed (length accounts)
+listReplyBy (some r) accounts = ListRefused r
+
+-- "into the front of a lent buffer ... Bytes behind them keep their content." A refusal changes nothing.
+abbrev pub listBuffer : ListReply → List ℕ → List ℕ → List ℕ
+listBuffer (Listed n) accounts before = accounts ++ drop n before
+listBuffer (ListRefused r) accounts before = before
+
+-- What a list of these accounts replies, and leaves in a buffer that held this before. The ledger stays the same.
+pub record Lists (accounts before : List ℕ) (r : ListReply) (after : List ℕ) : Type 0 where
+  pub reply : r ≡ listReplyBy (firstRefusal (listRules before)) accounts
+  pub buffer : after ≡ listBuffer r accounts before

@@ -1,27 +1,25 @@
--- The loop keeps at the front of the buffer the accounts that wait among those it has passed, and behind them what the buffer held before.
-use Prim.Native.Nat.{_≤_, _<_, _-_}
+-- The loop keeps at the front of the buffer the accounts before `i` at which a slip waits, and behind them what the buffer held before.
+use Prim.Native.Nat.{_≤_, _-_}
 use native.Mathlib.Omega.{arith}
-use mathlib.Core.Path.{refl, ap, sym, _∙_}
+use mathlib.Core.Path.{_≡_, ap, sym, _∙_}
 use mathlib.Core.Logic.{⊎-elim}
 use lib.ListN.{length}
 use borrow.Author.Needs.{needs}
-use borrow.Author.Tests.{lt-ltb, le-ltb}
-use Rattle.model.specs.Records.{freshEntry}
 use Rattle.model.specs.Acks.{isFull}
 use Rattle.layout.specs.Layout.{ledgerIn}
 use Rattle.layout.proofs.Blocks.{entries-length}
-use Rattle.calls.proofs.Waiters.{ListedBelow, listed-none, listed-same, listed-more, listed-all}
-use Rattle.calls.proofs.lists.list_waiting.Statement.{statement}
-use Rattle.calls.proofs.lists.list_waiting.Tie as tie
+use Rattle.listing.proofs.Waiters.{ListedBelow, listed-none, listed-not, listed-same, listed-more, listed-all}
+use Rattle.listing.proofs.list_waiting.Statement.{statement}
+use Rattle.listing.proofs.list_waiting.Tie as tie
 
 abbrev Inv-loop : tie.InvT-loop
-Inv-loop words buffer₀ n₀ i₀ buffer n i = (i ≤ 32) × ListedBelow (ledgerIn words .entries) i n buffer₀ buffer
+Inv-loop words buffer₀ n₀ i₀ buffer n i = (i ≤ 32) × ListedBelow (ledgerIn words) buffer₀ i n buffer
 
 abbrev μ-loop : tie.MeasureT-loop
 μ-loop words buffer₀ n₀ i₀ buffer n i = 32 - i
 
 returns : tie.Need-returns Inv-loop μ-loop
-returns c = rw (lt-ltb _ _ (c .if1 .taken)) (refl, refl)
+returns c = listed-not _ _ (c .if1 .taken)
 
 loop-holds : tie.Need-loop-holds Inv-loop μ-loop
 loop-holds c = (omega arith, listed-none _ _)
@@ -50,13 +48,12 @@ loop-less c = omega arith
 loop-again : tie.Need-loop-again Inv-loop μ-loop
 loop-again c =
     let at = c .before .before .before .before .loop in
-    let es = ledgerIn (c .before .before .before .before .before .before .before .before .args .words .now) .entries in
-    let inside : at .i < length es = omega (arith, entries-length (c .before .before .before .before .before .before .before .before .args .words .now)) in
+    let l = ledgerIn (c .before .before .before .before .before .before .before .before .args .words .now) in
     let found = c .before .is-full .ensures ∙ ap isFull (c .before .before .pending-of .ensures) in (
       omega arith,
       ⊎-elim
-          (λ w. rw (w .1, w .2) (listed-more es _ _ _ (freshEntry 0) _ inside (at .inv .1) (sym found ∙ w .0 .taken) (omega arith)))
-          (λ w. rw (w .1, w .2) (listed-same es _ _ _ (freshEntry 0) _ inside (at .inv .1) (sym found ∙ w .0 .left)))
+          (λ w. rw (w .1, w .2) (listed-more l _ _ _ _ (at .inv .1) (sym found ∙ w .0 .taken) (omega arith)))
+          (λ w. rw (w .1, w .2) (listed-same l _ _ _ _ (at .inv .1) (sym found ∙ w .0 .left)))
           (c .if2 .came),
     )
 
@@ -66,9 +63,9 @@ same-length c = c .before .loop .inv .1 .size
 returns-2 : tie.Need-returns-2 Inv-loop μ-loop
 returns-2 c =
     let at = c .before .loop in
-    let l = ledgerIn (c .before .before .before .before .before .args .words .now) in
-    let all : length (l .entries) ≤ at .i = omega (arith, entries-length (c .before .before .before .before .before .args .words .now)) in
-    rw (le-ltb _ _ (c .before .before .if1 .left)) (listed-all l _ _ _ _ all (at .inv .1))
+    let words = c .before .before .before .before .before .args .words .now in
+    let all : at .i ≡ length (ledgerIn words .entries) = omega (arith, entries-length words) in
+    listed-all (ledgerIn words) _ _ _ _ (at .inv .1) all (c .before .before .if1 .left)
 
 pub list-waiting-spec : {M : Type 1} → statement M
 list-waiting-spec =

@@ -1,4 +1,4 @@
-// The waiting list.
+// The waiting list, of the ledger where it lies.
 use basics::slots::is_full;
 use model::Account;
 use model::ListReply;
@@ -7,12 +7,12 @@ use store::pending_of;
 ghost use mathlib.Core.Path.{_≡_};
 ghost use lib.ListN.{length};
 ghost use Rattle.layout.specs.Layout.{bookWords, ledgerIn};
-ghost use Rattle.model.specs.Calls.{Lists};
+ghost use Rattle.model.specs.Calls.{waitingAccounts, Lists};
 
-// The accounts at which a transfer waits, in rising order, into the front of the buffer. The ledger stays the same.
+// The accounts at which a transfer waits, lowest first, into the front of the buffer. The ledger stays the same.
 pub fn list_waiting(words: &[u32], buffer: &mut [u8]) -> ListReply
     requires { ⌜ length (now words) ≡ bookWords ⌝ }
-    ensures { λ r. ⌜ Lists (ledgerIn (now (words .entry))) (now (buffer .entry)) r (now (buffer .exit)) ⌝ }
+    ensures { λ r. ⌜ Lists (waitingAccounts (ledgerIn (now (words .entry)))) (now (buffer .entry)) r (now (buffer .exit)) ⌝ }
 {
     if buffer.len() < 32 {
         return ListReply::ListRefused(Refusal::ShortBuffer);

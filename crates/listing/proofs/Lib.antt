@@ -1,0 +1,2 @@
+-- What the loop of the waiting list knows.
+pub mod Waiters

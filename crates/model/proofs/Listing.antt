@@ -10,12 +10,12 @@ use mathlib.Core.Option.{Option, none, some}
 use lib.Dec.{eqb}
 use lib.ListN.{length, drop, List·getD-eq-default}
 use lib.Seq.{drop-append-seam}
-use Rattle.model.specs.Types.{Ledger, Refusal, Listed, ListRefused}
+use Rattle.model.specs.Types.{Ledger, Refusal, ListReply, Listed, ListRefused}
 use Rattle.model.specs.Basics.{bit, count, ExactlyThose}
 use Rattle.model.specs.Records.{freshEntry}
 use Rattle.model.specs.Refusals.{firstRefusal, listRules}
 use Rattle.model.specs.Settling.{isWaiting, waiting}
-use Rattle.model.specs.Calls.{waitsAt, waitingAccounts, listReplyBy, Lists}
+use Rattle.model.specs.Calls.{waitsAt, waitingAccounts, listReplyBy, listBuffer, Lists}
 use Rattle.model.proofs.Sums.{impossible}
 use Rattle.model.proofs.Searches.{all-number, all-exactly, only-all, all-once}
 
@@ -58,6 +58,12 @@ module _ (accounts before after : List ℕ) where
           let many : n ≡ length accounts = cc (e) in
           rw (h .buffer, many) (drop-append-seam accounts (drop (length accounts) before))
       go (some r) e = impossible (cc (e))
+
+  -- "this answer is free no longer": there is one
+  pub list-one : (other : List ℕ) (r q : ListReply) → Lists accounts before r after → Lists accounts before q other → (r ≡ q) × (after ≡ other)
+  list-one other r q h k =
+      let same : r ≡ q = h .reply ∙ sym (k .reply) in
+      (same, h .buffer ∙ ap (λ (x : ListReply). listBuffer x accounts before) same ∙ sym (k .buffer))
 
   -- a refused list leaves the buffer as it was
   pub list-refused : (r : Refusal) → Lists accounts before (ListRefused r) after → after ≡ before

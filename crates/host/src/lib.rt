@@ -116,7 +116,7 @@ fn number_of(reply: ListReply) -> u32
     }
 }
 
-// Writes the waiting list, the accounts at which a transfer waits in the book, in rising order into the front of the list that is lent, 32 bytes
+// Writes the waiting list, the accounts at which a transfer waits in the book, lowest first, into the front of the list that is lent, 32 bytes
 // or more. Returns how many; or 256 times 17 where the list is shorter, and it is as it was.
 #[no_mangle]
 pub extern "C" fn ledger_waiting(words: &[u32; BOOK_WORDS], list: &mut [u8]) -> u32

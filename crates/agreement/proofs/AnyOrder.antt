@@ -1,5 +1,4 @@
--- The waiting list in a run: the one with the lowest account first is one of those that may be, and with two neighbours exchanged one of those still is;
--- each of them has as many accounts as slips wait.
+-- The waiting list in a run: the one with the lowest account first is one of those that may be; their order is free, and nothing else.
 use Prim.Native.Nat.{ℕ, zero, suc, _+_, _≤_, _<_}
 use native.Mathlib.Nat.{le-of-suc-le-suc, not-suc-le-zero}
 use native.Mathlib.Omega.{arith}
@@ -9,13 +8,15 @@ use mathlib.Core.List.{List, [], _∷_, _++_}
 use lib.Dec.{eqb, eqb·zero-suc, eqb·suc-zero, eqb·suc-suc}
 use lib.ListN.{length}
 use borrow.Author.Tests.{eq-eqb}
-use Rattle.model.specs.Basics.{bit, count}
+use Rattle.model.specs.declared.ListReply.the-variants.{Listed}
+use Rattle.model.specs.Basics.{bit, count, Rising}
 use Rattle.model.specs.Settling.{waiting}
 use Rattle.model.specs.Calls.{waitsAt, waitingAccounts, Lists}
 use Rattle.model.specs.Switches.{Rules}
-use Rattle.model.proofs.Listing.{has-entry, waiting-once, waiting-number}
+use Rattle.model.proofs.Listing.{has-entry, waiting-exactly, only-waiting, waiting-once, waiting-number, list-number}
+use Rattle.model.proofs.Searches.{stands-counted, counted-stands, rising-once}
 use Rattle.agreement.specs.Types.{Ledger, ListReply}
-use Rattle.agreement.specs.Runs.{waitingList, InAnyOrder, Conforms}
+use Rattle.agreement.specs.Runs.{waitingList, InAnyOrder, MayList, Conforms}
 
 -- Under every set of rules a list in any order conforms,
 pub any-conforms : (v : Rules) (l : Ledger) (accounts before : List ℕ) (r : ListReply) (after : List ℕ)
@@ -64,18 +65,38 @@ count-all (x ∷ xs) n h =
     let rest = count-all xs n (λ a more. h a (omega arith)) in
     below-add (λ a. bit (eqb a x)) (λ a. count (eqb a) xs) n ∙ omega arith
 
+-- two lists with the same counts, of numbers below n, are equally long
+same-length : (xs ys : List ℕ) (n : ℕ) → ((a : ℕ) → 1 ≤ count (eqb a) ys → a < n) → ((a : ℕ) → count (eqb a) xs ≡ count (eqb a) ys) → length xs ≡ length ys
+same-length xs ys n below same =
+    sym (count-all xs n (λ a some. below a (rw (same a) at some)))
+    ∙ ap (λ (f : ℕ → ℕ). sumBelow f n) (fun-ext same)
+    ∙ count-all ys n below
+
 module _ (l : Ledger) where
+  -- two neighbours may be exchanged,
   pub exchanged : (xs : List ℕ) (y z : ℕ) (zs : List ℕ) → InAnyOrder l (xs ++ y ∷ z ∷ zs) → InAnyOrder l (xs ++ z ∷ y ∷ zs)
-  exchanged xs y z zs h a = sym (same-counts a xs y z zs) ∙ h a
+  exchanged xs y z zs h = λ a. sym (same-counts a xs y z zs) ∙ h a
 
-  -- the sum of their counts, whatever their order
-  counted : (accounts : List ℕ) → InAnyOrder l accounts → sumBelow (λ a. bit (waitsAt l a)) (length (l .entries)) ≡ length accounts
-  counted accounts h =
-      ap (λ (f : ℕ → ℕ). sumBelow f (length (l .entries))) (sym (fun-ext h)) ∙ count-all accounts (length (l .entries)) (λ a some. go a (waitsAt l a) refl (rw (h a) at some))
+  -- of the lists that rise it is the only one,
+  pub only-rising : (accounts : List ℕ) → InAnyOrder l accounts → Rising accounts → accounts ≡ waitingAccounts l
+  only-rising accounts h rises =
+      only-waiting l accounts
+      (record {
+        only = λ x stands. waits (waitsAt l x) (omega (arith, stands-counted x accounts stands, h x));
+        all = λ x e. counted-stands x accounts (omega (arith, h x, ap bit e));
+        once = rising-once accounts rises;
+        rising = rises;
+      })
     where
-      go : (a : ℕ) (b : Bool) → waitsAt l a ≡ b → 1 ≤ bit (waitsAt l a) → a < length (l .entries)
-      go a true e some = has-entry l a e
-      go a false e some = absurd (not-suc-le-zero (rw e at some))
+      waits : (b : Bool) → 1 ≤ bit b → b ≡ true
+      waits true some = refl
+      waits false some = absurd (not-suc-le-zero some)
 
-  pub any-number : (accounts : List ℕ) → InAnyOrder l accounts → length accounts ≡ waiting (l .entries)
-  any-number accounts h = sym (counted accounts h) ∙ counted (waitingAccounts l) (waiting-once l) ∙ waiting-number l
+  -- and the reply is how many slips wait.
+  pub any-number : (before : List ℕ) (n : ℕ) (after : List ℕ) → MayList l before (Listed n) after → n ≡ waiting (l .entries)
+  any-number before n after (accounts, h, lists) =
+      let many = same-length accounts (waitingAccounts l) (length (l .entries)) inside (λ a. h a ∙ sym (waiting-once l a)) in
+      list-number accounts before after n lists ∙ many ∙ waiting-number l
+    where
+      inside : (a : ℕ) → 1 ≤ count (eqb a) (waitingAccounts l) → a < length (l .entries)
+      inside a some = has-entry l a (waiting-exactly l .only a (counted-stands a (waitingAccounts l) some))

@@ -27,10 +27,11 @@ use Rattle.model.specs.Calls.{waitingAccounts}
 use Rattle.model.specs.Switches.{newest, stepUnder}
 use Rattle.agreement.proofs.Places.{happened-found}
 use Rattle.agreement.proofs.Deeds.{that-slip}
-use Rattle.agreement.proofs.AnyOrder.{rising-conforms}
+use Rattle.agreement.proofs.AnyOrder.{any-conforms, rising-conforms, exchanged}
 use Rattle.model.proofs.Rows.{slip, pageWith}
 use Rattle.model.proofs.Sums.{impossible}
 use Rattle.model.proofs.Equality.{conflict-sound}
+use Rattle.model.proofs.Listing.{waiting-once}
 
 -- n 6, f 1: 5 acks accept, and 5 recorded acks that conflict put forward
 abbrev pub page : Opening
@@ -421,6 +422,24 @@ twoWait = today ▹ ruling 0 (slip 0 1 6 1) (Accept 0) ▹ ruling 0 (slip 1 1 8 
 
 abbrev pub chain : Run
 chain = twoWait ▹ ruling 0 (slip 2 1 5 0) (Accept 3) ▹ ruling 0 (slip 2 1 5 0) (Refuse PastNumber)
+
+-- Two slips wait at seats 0 and 1. Each is asked for its waiting list, and one lists them the other way round
+abbrev bothWait : Run
+bothWait = today ▹ ruling 0 (slip 0 1 11 1) (Accept 0) ▹ ruling 0 (slip 1 1 4 0) (Accept 0) ▹ ruling 1 (slip 1 1 4 0) (Accept 0) ▹ ruling 1 (slip 0 1 11 1) (Accept 0)
+
+abbrev listedFirst : Run
+listedFirst = bothWait ▹ lists 0 (replicate 32 9) (Listed 2) (0 ∷ 1 ∷ replicate 30 9)
+
+abbrev eitherOrder : Run
+eitherOrder = listedFirst ▹ lists 1 (replicate 32 9) (Listed 2) (1 ∷ 0 ∷ replicate 30 9)
+
+pub either-order : Obeys page eitherOrder
+unfolding rulesAt ledgerAt waitingAccounts noAcks equal conflict hasMost mostAcked lowestAffordable apply settleAtMost settle stepUnder
+either-order =
+    let l = ledgerAt page (seatOf 1) listedFirst in
+    tt then refl then refl then refl then refl
+    then rising-conforms newest (ledgerAt page (seatOf 0) bothWait) _ _ _ (record { reply = refl; buffer = refl })
+    then any-conforms newest l (1 ∷ 0 ∷ []) _ _ _ (exchanged l [] 0 1 [] (waiting-once l)) (record { reply = refl; buffer = refl })
 
 -- "Recipient may equal payer": acks and rulings for such slips are still taken
 abbrev pub toItself : Run

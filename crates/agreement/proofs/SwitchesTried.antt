@@ -69,16 +69,19 @@ booked =
     ▹ ack 4 1 w Note ▹ ack 4 2 w Note ▹ ack 4 3 w Note ▹ ack 4 4 w Note ▹ ack 4 5 w (Accept 1)
 
 -- Of the next number, seats 0 and 1 ack x, seats 3 and 4 ack y, and the bad seat z. Seat 1 switches once more, to the rules since request 5: it refuses a home
--- that pays itself, and puts x forward, the first by its lowest seat. Seat 4 never switches, whatever else it is asked, and puts y forward. Seat 2 switches
--- between these acks. The council rules for x, at all five.
-abbrev pub across : Run
-across =
+-- that pays itself, and puts x forward, the first by its lowest seat: this far first.
+abbrev forward : Run
+forward =
     booked
-    ▹ noRoom 4
     ▹ acks 0 x ▹ acks 1 x ▹ acks 3 y ▹ acks 4 y
     ▹ switches 1 ▹ asked 1 (Circulated (slip 0 2 4 0)) (Refuse SelfPayment)
     ▹ ack 1 0 x Note ▹ ack 1 1 x Note ▹ ack 1 3 y Note ▹ ack 1 4 y Note ▹ ack 1 5 z (Propose x)
-    ▹ ack 4 0 x Note ▹ ack 4 1 x Note ▹ ack 4 3 y Note ▹ ack 4 4 y Note ▹ ack 4 5 z (Propose y)
+
+-- .. Seat 4 never switches, whatever else it is asked, and puts y forward. Seat 2 switches between these acks. The council rules for x, at all five.
+abbrev pub across : Run
+across =
+    forward
+    ▹ noRoom 4 ▹ ack 4 0 x Note ▹ ack 4 1 x Note ▹ ack 4 3 y Note ▹ ack 4 4 y Note ▹ ack 4 5 z (Propose y)
     ▹ ack 2 0 x Note ▹ ack 2 1 x Note ▹ switches 2 ▹ ack 2 3 y Note ▹ ack 2 4 y Note ▹ ack 2 5 z (Propose x)
     ▹ ruling 0 x (Accept 1) ▹ ruling 1 x (Accept 1) ▹ ruling 2 x (Accept 1) ▹ ruling 3 x (Accept 1) ▹ ruling 4 x (Accept 1)
 
@@ -94,10 +97,10 @@ across-obeys =
     then refl then refl then refl then refl then refl
     then refl then refl then refl then tt then refl then refl
     then refl then refl then refl then refl then refl
-    then rising-conforms firstRules (ledgerAt page (seatOf 4) booked) _ _ _ (record { reply = refl; buffer = refl })
     then refl then refl then refl then refl
     then tt then refl
     then refl then refl then refl then refl then refl
+    then rising-conforms firstRules (ledgerAt page (seatOf 4) forward) _ _ _ (record { reply = refl; buffer = refl })
     then refl then refl then refl then refl then (y, refl, refl)
     then refl then refl then tt then refl then refl then refl
     then refl then refl then refl then refl then refl

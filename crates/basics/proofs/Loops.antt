@@ -9,12 +9,6 @@ use lib.ListN.{length, getD, drop}
 use lib.Seq.{drop-cons}
 use Rattle.model.specs.Basics.{sumOf, any}
 
--- an element that is there does not depend on what stands for one that is not
-pub there : {A : Type 0} (xs : List A) (i : ℕ) (d e : A) → i < length xs → getD xs i d ≡ getD xs i e
-there [] i d e h = absurd (not-suc-le-zero h)
-there (x ∷ xs) zero d e h = refl
-there (x ∷ xs) (suc i) d e h = there xs i d e (le-of-suc-le-suc h)
-
 -- the next turn takes one element
 pub one-left : {A : Type 0} (xs : List A) (i : ℕ) (d : A) → i < length xs → drop i xs ≡ getD xs i d ∷ drop (i + 1) xs
 one-left xs i d h = rw (add-one i, drop-cons xs i d h)

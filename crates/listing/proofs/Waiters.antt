@@ -32,8 +32,8 @@ module _ (l : Ledger) (before : List ℕ) where
   listed-none = record { many = refl; few = omega arith; size = refl; front = refl }
 
   -- a buffer that is too short stays
-  pub listed-not : length before < 32 → Lists (waitingAccounts l) before (ListRefused ShortBuffer) before
-  listed-not short = record { reply = rw (lt-ltb (length before) 32 short); buffer = refl }
+  pub not-listed : length before < 32 → Lists (waitingAccounts l) before (ListRefused ShortBuffer) before
+  not-listed short = record { reply = rw (lt-ltb (length before) 32 short); buffer = refl }
 
   passed-more : (i : ℕ) → passed (i + 1) ≡ passed i ++ alone (waitsAt l i) i
   passed-more i = rw (add-one i) (rw (zero-add i) at (all-more (waitsAt l) i 0))

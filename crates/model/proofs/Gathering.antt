@@ -11,7 +11,7 @@ use Rattle.model.specs.Acks.{ackAt, holds, acksFor}
 use Rattle.model.specs.Gathering.{hasAcked, gathered, ExactlyGathered}
 use Rattle.model.proofs.Sums.{impossible}
 use Rattle.model.proofs.Tallies.{inside}
-use Rattle.model.proofs.Searches.{all-number, all-exactly, only-all}
+use Rattle.model.proofs.Searches.{all-number, all-exactly, only-those}
 
 module _ (t : Transfer) (acks : List AckSlot) where
   abbrev test : ℕ → Bool
@@ -36,4 +36,4 @@ module _ (t : Transfer) (acks : List AckSlot) where
   -- and no other list is exactly those
   pub only-gathered : (seats : List ℕ) → ExactlyThose test seats → seats ≡ gathered t acks
   unfolding gathered
-  only-gathered seats those = only-all test (length acks) has-place seats those
+  only-gathered seats those = only-those test (length acks) has-place seats those

@@ -253,7 +253,7 @@ abbrev falling : ℕ → List Asked
 falling zero = []
 falling (suc a) = Decision (slip a 1 2 0) gives K 0 ∷ falling a
 
--- the numbers from this one on
+-- so many numbers, from this one on
 abbrev from : ℕ → ℕ → List ℕ
 from zero i = []
 from (suc left) i = i ∷ from left (suc i)

@@ -3,7 +3,7 @@ use Prim.Native.Nat.{ℕ, _<_}
 use native.Mathlib.Decide.{decLt}
 use native.Mathlib.Nat.{zero-add}
 use native.Mathlib.Omega.{arith}
-use mathlib.Core.Path.{_≡_, ap, sym, _∙_}
+use mathlib.Core.Path.{_≡_, refl, ap, sym, _∙_}
 use mathlib.Core.Bool.{true, false}
 use mathlib.Core.List.{List}
 use mathlib.Core.Option.{Option, none, some}
@@ -15,9 +15,9 @@ use Rattle.model.specs.Basics.{bit, count, ExactlyThose}
 use Rattle.model.specs.Records.{freshEntry}
 use Rattle.model.specs.Refusals.{firstRefusal, listRules}
 use Rattle.model.specs.Settling.{isWaiting, waiting}
-use Rattle.model.specs.Calls.{waitsAt, waitingAccounts, listReplyBy, listBuffer, Lists}
+use Rattle.model.specs.Calls.{waitsAt, waitingAccounts, listReplyBy, listReply, listBuffer, Lists}
 use Rattle.model.proofs.Sums.{impossible}
-use Rattle.model.proofs.Searches.{all-number, all-exactly, only-all, all-once}
+use Rattle.model.proofs.Searches.{all-number, all-exactly, only-those, all-once}
 
 module _ (l : Ledger) where
   -- an account at which a slip waits has an entry
@@ -36,7 +36,7 @@ module _ (l : Ledger) where
 
   pub only-waiting : (accounts : List ℕ) → ExactlyThose (waitsAt l) accounts → accounts ≡ waitingAccounts l
   unfolding waitingAccounts
-  only-waiting accounts those = only-all (waitsAt l) (length (l .entries)) has-entry accounts those
+  only-waiting accounts those = only-those (waitsAt l) (length (l .entries)) has-entry accounts those
 
   -- each account as often as a slip waits at it
   pub waiting-once : (a : ℕ) → count (eqb a) (waitingAccounts l) ≡ bit (waitsAt l a)
@@ -48,22 +48,28 @@ module _ (l : Ledger) where
   unfolding waitingAccounts
   waiting-number = all-number isWaiting (freshEntry 0) (l .entries) (waitsAt l) 0 (λ k below. ap (waitsAt l) (zero-add k))
 
+-- "this answer is free no longer": there is one, and no other
+pub one-answer : (accounts before : List ℕ)
+    → (r : ListReply) × (after : List ℕ) × Lists accounts before r after × ((q : ListReply) (other : List ℕ) → Lists accounts before q other → (q ≡ r) × (other ≡ after))
+one-answer accounts before = (
+  listReply accounts before,
+  listBuffer (listReply accounts before) accounts before,
+  record { reply = refl; buffer = refl },
+  λ q other h. (h .reply, h .buffer ∙ ap (λ (x : ListReply). listBuffer x accounts before) (h .reply)),
+)
+
 module _ (accounts before after : List ℕ) where
-  -- the bytes behind the list keep their content
-  pub list-rest : (n : ℕ) → Lists accounts before (Listed n) after → drop n after ≡ drop n before
-  list-rest n h = go (firstRefusal (listRules before)) (h .reply)
+  -- the reply is how many there are
+  pub list-number : (n : ℕ) → Lists accounts before (Listed n) after → n ≡ length accounts
+  list-number n h = go (firstRefusal (listRules before)) (h .reply)
     where
-      go : (q : Option Refusal) → Listed n ≡ listReplyBy q accounts → drop n after ≡ drop n before
-      go none e =
-          let many : n ≡ length accounts = cc (e) in
-          rw (h .buffer, many) (drop-append-seam accounts (drop (length accounts) before))
+      go : (q : Option Refusal) → Listed n ≡ listReplyBy q accounts → n ≡ length accounts
+      go none e = cc (e)
       go (some r) e = impossible (cc (e))
 
-  -- "this answer is free no longer": there is one
-  pub list-one : (other : List ℕ) (r q : ListReply) → Lists accounts before r after → Lists accounts before q other → (r ≡ q) × (after ≡ other)
-  list-one other r q h k =
-      let same : r ≡ q = h .reply ∙ sym (k .reply) in
-      (same, h .buffer ∙ ap (λ (x : ListReply). listBuffer x accounts before) same ∙ sym (k .buffer))
+  -- the bytes behind the list keep their content
+  pub list-rest : (n : ℕ) → Lists accounts before (Listed n) after → drop n after ≡ drop n before
+  list-rest n h = rw (h .buffer, list-number n h) (drop-append-seam accounts (drop (length accounts) before))
 
   -- a refused list leaves the buffer as it was
   pub list-refused : (r : Refusal) → Lists accounts before (ListRefused r) after → after ≡ before

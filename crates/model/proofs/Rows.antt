@@ -12,7 +12,7 @@ use Rattle.model.specs.Refusals.{firstRefusal, listRules}
 use Rattle.model.specs.Openings.{openReply, openLedger}
 use Rattle.model.specs.Acks.{enough, mostAcked}
 use Rattle.model.specs.Gathering.{gathered}
-use Rattle.model.specs.Calls.{waitingAccounts, listReplyBy, listBuffer, step}
+use Rattle.model.specs.Calls.{waitingAccounts, listReply, listBuffer, step}
 use Rattle.model.specs.Switches.{Rules, nextRules, switched, stepUnder}
 use Rattle.model.specs.Bundles.{bodySum, badCount, checkBundle, pageAt, messageOf, openingOf, Reading, taken, noMore, readNext}
 use Rattle.model.specs.Writing.{written, writeFaults, writeReply, bufferAfter}
@@ -125,7 +125,7 @@ hasBalances balances l = same (take (length balances) (map (λ e. e .balance) (l
 -- the waiting list is answered so, and leaves this in the buffer
 abbrev pub listsAs : List ℕ → List ℕ → List ℕ → Ledger → Bool
 listsAs before said after l =
-    let reply : ListReply = listReplyBy (firstRefusal (listRules before)) (waitingAccounts l) in
+    let reply : ListReply = listReply (waitingAccounts l) before in
     same (valuesOfList reply) said && same (listBuffer reply (waitingAccounts l) before) after
 
 -- a message's kind, seat and slip as numbers

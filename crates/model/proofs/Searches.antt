@@ -121,6 +121,23 @@ module _ (p : ℕ → Bool) (a : ℕ) where
           omega (arith, first, count-below left (suc i) (omega arith))
       go (no other) later = rw (ne-eqb a i other) (omega (arith, later (omega arith) (λ h. omega (arith, within h))))
 
+-- what stands in a list is counted there, and what is counted there stands in it
+pub stands-counted : (x : ℕ) (xs : List ℕ) → Stands x xs → 1 ≤ count (eqb x) xs
+stands-counted x xs s = go xs (s .place) (s .inside) (s .is)
+  where
+    go : (ys : List ℕ) (k : ℕ) → k < length ys → getD ys k 0 ≡ x → 1 ≤ count (eqb x) ys
+    go [] k below is = absurd (not-suc-le-zero below)
+    go (y ∷ ys) zero below is = omega (arith, ap bit (eq-eqb x y (sym is)))
+    go (y ∷ ys) (suc k) below is = omega (arith, go ys k (le-of-suc-le-suc below) is)
+
+pub counted-stands : (x : ℕ) (xs : List ℕ) → 1 ≤ count (eqb x) xs → Stands x xs
+counted-stands x [] some = absurd (not-suc-le-zero some)
+counted-stands x (y ∷ ys) some = go (ℕ-discrete x y) (counted-stands x ys)
+  where
+    go : Dec (x ≡ y) → (1 ≤ count (eqb x) ys → Stands x ys) → Stands x (y ∷ ys)
+    go (yes same) later = rw (← same) (first-stands x ys)
+    go (no other) later = rest-stands y x ys (later (omega (arith, ap bit (ne-eqb x y other))))
+
 -- the places whose elements pass a test are as many as the elements that do
 pub all-number : {A : Type 0} (q : A → Bool) (d : A) (xs : List A) (p : ℕ → Bool) (i : ℕ)
     → ((k : ℕ) → k < length xs → p (i + k) ≡ q (getD xs k d)) → length (allWhere p (length xs) i) ≡ count q xs
@@ -195,8 +212,8 @@ module _ (p : ℕ → Bool) (left : ℕ) (below : (x : ℕ) → p x ≡ true →
       }
 
   -- and no other list is
-  pub only-all : (xs : List ℕ) → ExactlyThose p xs → xs ≡ allWhere p left 0
-  only-all xs those =
+  pub only-those : (xs : List ℕ) → ExactlyThose p xs → xs ≡ allWhere p left 0
+  only-those xs those =
       rising-same xs (allWhere p left 0) (those .rising) (all-exactly .rising)
       (λ x stands. all-exactly .all x (those .only x stands))
       (λ x stands. those .all x (all-exactly .only x stands))

@@ -132,6 +132,9 @@ abbrev pub listReplyBy : Option Refusal → List ℕ → ListReply
 listReplyBy none accounts = Listed (length accounts)
 listReplyBy (some r) accounts = ListRefused r
 
+abbrev pub listReply : List ℕ → List ℕ → ListReply
+listReply accounts before = listReplyBy (firstRefusal (listRules before)) accounts
+
 -- "into the front of a lent buffer ... Bytes behind them keep their content." A refusal changes nothing.
 abbrev pub listBuffer : ListReply → List ℕ → List ℕ → List ℕ
 listBuffer (Listed n) accounts before = accounts ++ drop n before
@@ -139,5 +142,5 @@ listBuffer (ListRefused r) accounts before = before
 
 -- What a list of these accounts replies, and leaves in a buffer that held this before. The ledger stays the same.
 pub record Lists (accounts before : List ℕ) (r : ListReply) (after : List ℕ) : Type 0 where
-  pub reply : r ≡ listReplyBy (firstRefusal (listRules before)) accounts
+  pub reply : r ≡ listReply accounts before
   pub buffer : after ≡ listBuffer r accounts before

@@ -8,7 +8,7 @@ use borrow.Author.Needs.{needs}
 use Rattle.model.specs.Acks.{isFull}
 use Rattle.layout.specs.Layout.{ledgerIn}
 use Rattle.layout.proofs.Blocks.{entries-length}
-use Rattle.listing.proofs.Waiters.{ListedBelow, listed-none, listed-not, listed-same, listed-more, listed-all}
+use Rattle.listing.proofs.Waiters.{ListedBelow, listed-none, not-listed, listed-same, listed-more, listed-all}
 use Rattle.listing.proofs.list_waiting.Statement.{statement}
 use Rattle.listing.proofs.list_waiting.Tie as tie
 
@@ -19,7 +19,7 @@ abbrev μ-loop : tie.MeasureT-loop
 μ-loop words buffer₀ n₀ i₀ buffer n i = 32 - i
 
 returns : tie.Need-returns Inv-loop μ-loop
-returns c = listed-not _ _ (c .if1 .taken)
+returns c = not-listed _ _ (c .if1 .taken)
 
 loop-holds : tie.Need-loop-holds Inv-loop μ-loop
 loop-holds c = (omega arith, listed-none _ _)

@@ -10,6 +10,7 @@ use lib.ListN.{length}
 use borrow.Author.Tests.{eq-eqb}
 use Rattle.model.specs.declared.ListReply.the-variants.{Listed}
 use Rattle.model.specs.Basics.{bit, count, Rising}
+use Rattle.model.specs.Refusals.{listRefusal}
 use Rattle.model.specs.Settling.{waiting}
 use Rattle.model.specs.Calls.{waitsAt, waitingAccounts, Lists}
 use Rattle.model.specs.Switches.{Rules}
@@ -96,7 +97,7 @@ module _ (l : Ledger) where
   pub any-number : (before : List ℕ) (n : ℕ) (after : List ℕ) → MayList l before (Listed n) after → n ≡ waiting (l .entries)
   any-number before n after (accounts, h, lists) =
       let many = same-length accounts (waitingAccounts l) (length (l .entries)) inside (λ a. h a ∙ sym (waiting-once l a)) in
-      list-number accounts before after n lists ∙ many ∙ waiting-number l
+      list-number (listRefusal before) accounts before after n lists ∙ many ∙ waiting-number l
     where
       inside : (a : ℕ) → 1 ≤ count (eqb a) (waitingAccounts l) → a < length (l .entries)
       inside a some = has-entry l a (waiting-exactly l .only a (counted-stands a (waitingAccounts l) some))

@@ -53,6 +53,6 @@ every-text bytes m s right opens =
 pub every-list : EveryList
 unfolding rulesAt ledgerAt
 every-list bytes m s xs before reply after right opens run lists =
-    let here : ListedAs (ledgerFrom bytes (entryCount bytes - 1) 1 (freshLedger (openingPage bytes))) before reply after = rw (right, opens) at (lists .meets) in
+    let here : ListedAs (ledgerFrom bytes (entryCount bytes - 1) 1 (freshLedger (openingPage bytes))) before reply after = rw (right, opens) at lists in
     let left = ledger-left bytes (openingPage bytes) s (entryCount bytes - 1) 1 begins xs refl (run .asked) in
     (run .obeys, rising-conforms newest (ledgerAt (openingPage bytes) s (runOf s xs)) before reply after (rw left at (here .lists)))

@@ -24,10 +24,12 @@ use replay::replay;
 use writer::records::write_records;
 ghost use mathlib.Core.Path.{_≡_};
 ghost use Rattle.model.specs.Acks.{enough};
+ghost use Rattle.model.specs.Refusals.{listRefusal};
 ghost use Rattle.model.specs.Bundles.{bodySum};
+ghost use Rattle.model.specs.Calls.{waitingAccounts};
 ghost use Rattle.layout.specs.Layout.{ledgerIn};
-ghost use Rattle.ledger.specs.Promises.{SwitchedAs, ListedAs};
-ghost use Rattle.replay.specs.Lists.{ListOf};
+ghost use Rattle.ledger.specs.Promises.{SwitchedAs};
+ghost use Rattle.replay.specs.Lists.{accountsBehind, refusalBehind};
 ghost use Rattle.replay.specs.Text.{textOf};
 ghost use Rattle.replay.specs.Promises.{Replayed};
 ghost use Rattle.host.specs.Messages.{replyWords, ToldOpening, ToldCall};
@@ -120,7 +122,7 @@ fn number_of(reply: ListReply) -> u32
 // or more. Returns how many; or 256 times 17 where the list is shorter, and it is as it was.
 #[no_mangle]
 pub extern "C" fn ledger_waiting(words: &[u32; BOOK_WORDS], list: &mut [u8]) -> u32
-    ensures { λ r. ⌜ ToldList (λ reply. ListedAs (ledgerIn (now (words .entry))) (now (list .entry)) reply (now (list .exit))) r ⌝ }
+    ensures { λ r. ⌜ ToldList (listRefusal (now (list .entry))) (waitingAccounts (ledgerIn (now (words .entry)))) (now (list .entry)) r (now (list .exit)) ⌝ }
 {
     number_of(list_waiting(words, list))
 }
@@ -149,11 +151,11 @@ pub extern "C" fn daybook_text(bytes: &[u8], text: &mut [u8; TEXT_SIZE]) -> usiz
     replay(bytes, text)
 }
 
-// The waiting list of the ledger that a bundle leaves, in the front of the list that is lent: how many accounts were written. Where it is
+// The waiting list of the ledger that a bundle leaves, lowest account first, in the front of the list that is lent: how many were written. Where it is
 // refused, 256 times the code: that of the bundle or of its opening, else 17.
 #[no_mangle]
 pub extern "C" fn daybook_waiting(bytes: &[u8], list: &mut [u8]) -> u32
-    ensures { λ r. ⌜ ToldList (λ reply. ListOf (now (bytes .entry)) (now (list .entry)) reply (now (list .exit))) r ⌝ }
+    ensures { λ r. ⌜ ToldList (refusalBehind (now (bytes .entry)) (now (list .entry))) (accountsBehind (now (bytes .entry))) (now (list .entry)) r (now (list .exit)) ⌝ }
 {
     number_of(list_after(bytes, list))
 }

@@ -12,9 +12,9 @@ use Rattle.model.specs.declared.ListReply.{ListReply}
 use Rattle.model.specs.Refusals.{firstRefusal, listRules}
 use Rattle.model.specs.Replies.{valuesOfOpen, valuesOfList}
 use Rattle.model.specs.Openings.{openRules, openReplyBy, openReply}
-use Rattle.model.specs.Calls.{waitingAccounts, listReplyBy, Lists}
+use Rattle.model.specs.Calls.{listReply, ListsBy}
 use Rattle.opening.specs.Promises.{Opens}
-use Rattle.ledger.specs.Promises.{codeIfAny, OpenedAs, listValues, ListedAs}
+use Rattle.ledger.specs.Promises.{codeIfAny, OpenedAs, listValues, ListedBy}
 
 pub opened : (before : List ℕ) (page : Opening) (r : OpenReply) (after : List ℕ) → Opens before page r after → OpenedAs before page r after
 unfolding openReply
@@ -24,9 +24,9 @@ opened before page r after h = record { opens = h; told = ap valuesOfOpen (h .re
     go none = refl
     go (some q) = refl
 
-pub listed : (l : Ledger) (before : List ℕ) (r : ListReply) (after : List ℕ) → Lists (waitingAccounts l) before r after → ListedAs l before r after
-listed l before r after h = record { lists = h; told = ap valuesOfList (h .reply) ∙ go (firstRefusal (listRules before)) }
+pub listed : (q : Option Refusal) (accounts before : List ℕ) (r : ListReply) (after : List ℕ) → ListsBy q accounts before r after → ListedBy q accounts before r after
+listed q accounts before r after h = record { lists = h; told = ap valuesOfList (h .reply) ∙ go q }
   where
-    go : (o : Option Refusal) → valuesOfList (listReplyBy o (waitingAccounts l)) ≡ listValues o (length (waitingAccounts l))
+    go : (o : Option Refusal) → valuesOfList (listReply o accounts) ≡ listValues o (length accounts)
     go none = refl
     go (some q) = refl

@@ -12,10 +12,10 @@ use Rattle.model.specs.declared.Opening.{Opening}
 use Rattle.model.specs.declared.Refusal.{Refusal}
 use Rattle.model.specs.declared.OpenReply.{OpenReply}
 use Rattle.model.specs.declared.ListReply.{ListReply}
-use Rattle.model.specs.Refusals.{firstRefusal, listRules}
+use Rattle.model.specs.Refusals.{firstRefusal, listRefusal}
 use Rattle.model.specs.Replies.{codeOf, valuesOfOpen, valuesOfList}
 use Rattle.model.specs.Openings.{openRules}
-use Rattle.model.specs.Calls.{waitingAccounts, Lists}
+use Rattle.model.specs.Calls.{waitingAccounts, ListsBy}
 use Rattle.model.specs.Switches.{sinceRequest3, switched}
 use Rattle.layout.specs.Layout.{ledgerIn, heldIn}
 use Rattle.opening.specs.Promises.{Opens}
@@ -40,7 +40,11 @@ abbrev pub listValues : Option Refusal → ℕ → List ℕ
 listValues none count = 0 ∷ count ∷ []
 listValues (some r) count = codeOf r ∷ []
 
--- The waiting list: the reply, and the buffer after it, given the buffer before it, by the accounts at which a slip waits, lowest first.
-pub record ListedAs (l : Ledger) (before : List ℕ) (r : ListReply) (after : List ℕ) : Type 0 where
-  pub lists : Lists (waitingAccounts l) before r after
-  pub told : valuesOfList r ≡ listValues (firstRefusal (listRules before)) (length (waitingAccounts l))
+-- A list of these accounts: the reply, given the refusal that it meets, if any, and the buffer after it, given the buffer before it.
+pub record ListedBy (q : Option Refusal) (accounts before : List ℕ) (r : ListReply) (after : List ℕ) : Type 0 where
+  pub lists : ListsBy q accounts before r after
+  pub told : valuesOfList r ≡ listValues q (length accounts)
+
+-- The waiting list: of the accounts at which a slip waits, lowest first.
+abbrev pub ListedAs : Ledger → List ℕ → ListReply → List ℕ → Type 0
+ListedAs l before r after = ListedBy (listRefusal before) (waitingAccounts l) before r after

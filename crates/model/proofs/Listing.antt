@@ -15,7 +15,7 @@ use Rattle.model.specs.Basics.{bit, count, ExactlyThose}
 use Rattle.model.specs.Records.{freshEntry}
 use Rattle.model.specs.Refusals.{firstRefusal, listRules}
 use Rattle.model.specs.Settling.{isWaiting, waiting}
-use Rattle.model.specs.Calls.{waitsAt, waitingAccounts, listReplyBy, listReply, listBuffer, Lists}
+use Rattle.model.specs.Calls.{waitsAt, waitingAccounts, listReply, listBuffer, ListsBy}
 use Rattle.model.proofs.Sums.{impossible}
 use Rattle.model.proofs.Searches.{all-number, all-exactly, only-those, all-once}
 
@@ -48,29 +48,30 @@ module _ (l : Ledger) where
   unfolding waitingAccounts
   waiting-number = all-number isWaiting (freshEntry 0) (l .entries) (waitsAt l) 0 (λ k below. ap (waitsAt l) (zero-add k))
 
--- "this answer is free no longer": there is one, and no other
-pub one-answer : (accounts before : List ℕ)
-    → (r : ListReply) × (after : List ℕ) × Lists accounts before r after × ((q : ListReply) (other : List ℕ) → Lists accounts before q other → (q ≡ r) × (other ≡ after))
-one-answer accounts before = (
-  listReply accounts before,
-  listBuffer (listReply accounts before) accounts before,
-  record { reply = refl; buffer = refl },
-  λ q other h. (h .reply, h .buffer ∙ ap (λ (x : ListReply). listBuffer x accounts before) (h .reply)),
-)
+module _ (q : Option Refusal) (accounts before : List ℕ) where
+  -- "this answer is free no longer": there is one, and no other
+  pub one-answer : (r : ListReply) × (after : List ℕ) × ListsBy q accounts before r after
+      × ((other : ListReply) (left : List ℕ) → ListsBy q accounts before other left → (other ≡ r) × (left ≡ after))
+  one-answer = (
+    listReply q accounts,
+    listBuffer (listReply q accounts) accounts before,
+    record { reply = refl; buffer = refl },
+    λ other left h. (h .reply, h .buffer ∙ ap (λ (x : ListReply). listBuffer x accounts before) (h .reply)),
+  )
 
-module _ (accounts before after : List ℕ) where
-  -- the reply is how many there are
-  pub list-number : (n : ℕ) → Lists accounts before (Listed n) after → n ≡ length accounts
-  list-number n h = go (firstRefusal (listRules before)) (h .reply)
-    where
-      go : (q : Option Refusal) → Listed n ≡ listReplyBy q accounts → n ≡ length accounts
-      go none e = cc (e)
-      go (some r) e = impossible (cc (e))
+  module _ (after : List ℕ) where
+    -- the reply is how many there are
+    pub list-number : (n : ℕ) → ListsBy q accounts before (Listed n) after → n ≡ length accounts
+    list-number n h = go q (h .reply)
+      where
+        go : (q : Option Refusal) → Listed n ≡ listReply q accounts → n ≡ length accounts
+        go none e = cc (e)
+        go (some r) e = impossible (cc (e))
 
-  -- the bytes behind the list keep their content
-  pub list-rest : (n : ℕ) → Lists accounts before (Listed n) after → drop n after ≡ drop n before
-  list-rest n h = rw (h .buffer, list-number n h) (drop-append-seam accounts (drop (length accounts) before))
+    -- the bytes behind the list keep their content
+    pub list-rest : (n : ℕ) → ListsBy q accounts before (Listed n) after → drop n after ≡ drop n before
+    list-rest n h = rw (h .buffer, list-number n h) (drop-append-seam accounts (drop (length accounts) before))
 
-  -- a refused list leaves the buffer as it was
-  pub list-refused : (r : Refusal) → Lists accounts before (ListRefused r) after → after ≡ before
-  list-refused r h = h .buffer
+    -- a refused list leaves the buffer as it was
+    pub list-refused : (r : Refusal) → ListsBy q accounts before (ListRefused r) after → after ≡ before
+    list-refused r h = h .buffer

@@ -8,7 +8,7 @@ use lib.ListN.{length, take, replicate}
 use Rattle.model.specs.Types.{Transfer, Slot, Ledger, Outcome, Opening, Message, Request, Circulated, Ack, Decision, Inquiry, Reply, ListReply}
 use Rattle.model.specs.Records.{seatOf, accountOf, noLedger}
 use Rattle.model.specs.Replies.{letterOf, valuesOf, valuesOfTransfer, valuesOfOpen, valuesOfList, valuesOfBundle, valuesOfWrite}
-use Rattle.model.specs.Refusals.{firstRefusal, listRules}
+use Rattle.model.specs.Refusals.{listRefusal}
 use Rattle.model.specs.Openings.{openReply, openLedger}
 use Rattle.model.specs.Acks.{enough, mostAcked}
 use Rattle.model.specs.Gathering.{gathered}
@@ -125,7 +125,7 @@ hasBalances balances l = same (take (length balances) (map (λ e. e .balance) (l
 -- the waiting list is answered so, and leaves this in the buffer
 abbrev pub listsAs : List ℕ → List ℕ → List ℕ → Ledger → Bool
 listsAs before said after l =
-    let reply : ListReply = listReply (waitingAccounts l) before in
+    let reply : ListReply = listReply (listRefusal before) (waitingAccounts l) in
     same (valuesOfList reply) said && same (listBuffer reply (waitingAccounts l) before) after
 
 -- a message's kind, seat and slip as numbers

@@ -10,7 +10,7 @@ use lib.ListN.{length, drop}
 use Rattle.model.specs.Types.{Account, Transfer, Entry, Ledger, Outcome, Refusal, Message, Request, Circulated, Ack, Decision, Inquiry, Reply, Circulate, Acknowledge, Accept, Propose, Note, Balance, Refuse, ListReply, Listed, ListRefused}
 use Rattle.model.specs.Basics.{allWhere}
 use Rattle.model.specs.Records.{accountOf, entryOf, setEntry, withEntry, withEntries, withAcked, withAck, withProposed, withPending, withRetained, withRetainedProposed}
-use Rattle.model.specs.Refusals.{Rule, firstRefusal, unknownSeat, outOfRange, rulesOf, listRules}
+use Rattle.model.specs.Refusals.{Rule, firstRefusal, unknownSeat, outOfRange, rulesOf, listRefusal}
 use Rattle.model.specs.Acks.{conflicts, acksFor, acksRecorded, enough, mustPropose, slipIn, mostAcked}
 use Rattle.model.specs.Settling.{isWaiting, Settled, settle}
 
@@ -128,19 +128,20 @@ unfoldable pub waitingAccounts : Ledger → List ℕ
 waitingAccounts l = allWhere (waitsAt l) (length (l .entries)) 0
 
 -- "replies how many", unless it is refused
-abbrev pub listReplyBy : Option Refusal → List ℕ → ListReply
-listReplyBy none accounts = Listed (length accounts)
-listReplyBy (some r) accounts = ListRefused r
-
-abbrev pub listReply : List ℕ → List ℕ → ListReply
-listReply accounts before = listReplyBy (firstRefusal (listRules before)) accounts
+abbrev pub listReply : Option Refusal → List ℕ → ListReply
+listReply none accounts = Listed (length accounts)
+listReply (some r) accounts = ListRefused r
 
 -- "into the front of a lent buffer ... Bytes behind them keep their content." A refusal changes nothing.
 abbrev pub listBuffer : ListReply → List ℕ → List ℕ → List ℕ
 listBuffer (Listed n) accounts before = accounts ++ drop n before
 listBuffer (ListRefused r) accounts before = before
 
--- What a list of these accounts replies, and leaves in a buffer that held this before. The ledger stays the same.
-pub record Lists (accounts before : List ℕ) (r : ListReply) (after : List ℕ) : Type 0 where
-  pub reply : r ≡ listReply accounts before
+-- What a list of these accounts replies, given the refusal that it meets, if any, and leaves in a buffer that held this before. The ledger stays the same.
+pub record ListsBy (q : Option Refusal) (accounts before : List ℕ) (r : ListReply) (after : List ℕ) : Type 0 where
+  pub reply : r ≡ listReply q accounts
   pub buffer : after ≡ listBuffer r accounts before
+
+-- "of at least 32 bytes"
+abbrev pub Lists : List ℕ → List ℕ → ListReply → List ℕ → Type 0
+Lists accounts before r after = ListsBy (listRefusal before) accounts before r after

@@ -105,3 +105,6 @@ rulesOf l e (Inquiry a) = inquiryRules l a
 -- the waiting list: 17, a buffer under 32 bytes
 abbrev pub listRules : List ℕ → List Rule
 listRules buffer = (ltb (length buffer) 32, ShortBuffer) ∷ []
+
+abbrev pub listRefusal : List ℕ → Option Refusal
+listRefusal buffer = firstRefusal (listRules buffer)

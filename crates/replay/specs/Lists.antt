@@ -1,41 +1,48 @@
 -- The waiting list of the ledger that a bundle leaves. No bundle asks for it; a host may, behind the last entry.
 use Prim.Native.Nat.{ℕ, _-_}
-use mathlib.Core.Path.{_≡_}
-use mathlib.Core.List.{List, [], _∷_}
+use mathlib.Core.List.{List}
+use mathlib.Core.Option.{Option, some}
 use Rattle.model.specs.Types.{Ledger}
 use Rattle.model.specs.declared.Refusal.{Refusal}
 use Rattle.model.specs.declared.ListReply.{ListReply}
-use Rattle.model.specs.declared.ListReply.the-variants.{ListRefused}
 use Rattle.model.specs.declared.OpenReply.{OpenReply}
 use Rattle.model.specs.declared.OpenReply.the-variants.{Opened, OpenRefused}
 use Rattle.model.specs.declared.BundleReply.{BundleReply}
 use Rattle.model.specs.declared.BundleReply.the-variants.{Sound, BundleRefused}
 use Rattle.model.specs.Records.{freshLedger}
-use Rattle.model.specs.Replies.{codeOf, valuesOfList}
+use Rattle.model.specs.Refusals.{listRefusal}
 use Rattle.model.specs.Bundles.{entryCount, checkBundle}
-use Rattle.ledger.specs.Promises.{ListedAs}
+use Rattle.model.specs.Calls.{waitingAccounts}
+use Rattle.ledger.specs.Promises.{ListedBy}
 use Rattle.replay.specs.Text.{ledgerFrom, openingPage, opened}
 
--- a refusal is told by its code, and leaves the buffer as it was
-abbrev pub NoList : Refusal → List ℕ → ListReply → List ℕ → Type 0
-NoList r before reply after = (reply ≡ ListRefused r) × (valuesOfList reply ≡ codeOf r ∷ []) × (after ≡ before)
+-- the accounts that wait in the ledger that the bundle's entries leave, from this one on; and from the one that its page opens
+abbrev pub accountsFrom : List ℕ → Ledger → List ℕ
+accountsFrom bytes l = waitingAccounts (ledgerFrom bytes (entryCount bytes - 1) 1 l)
 
--- the list of the ledger that the bundle's entries leave
-abbrev pub ListedFrom : List ℕ → Ledger → List ℕ → ListReply → List ℕ → Type 0
-ListedFrom bytes l before reply after = ListedAs (ledgerFrom bytes (entryCount bytes - 1) 1 l) before reply after
+abbrev pub accountsBehind : List ℕ → List ℕ
+accountsBehind bytes = accountsFrom bytes (freshLedger (openingPage bytes))
 
-abbrev pub OpenedList : List ℕ → OpenReply → List ℕ → ListReply → List ℕ → Type 0
-OpenedList bytes (OpenRefused r) before reply after = NoList r before reply after
-OpenedList bytes Opened before reply after = ListedFrom bytes (freshLedger (openingPage bytes)) before reply after
+-- the refusal of an opening, or of a bundle, and if it has none, one that is met later
+abbrev pub openingRefusalOr : Option Refusal → OpenReply → Option Refusal
+openingRefusalOr later (OpenRefused r) = some r
+openingRefusalOr later Opened = later
 
-abbrev pub CheckedList : List ℕ → BundleReply → List ℕ → ListReply → List ℕ → Type 0
-CheckedList bytes (BundleRefused r i) before reply after = NoList r before reply after
-CheckedList bytes (Sound m) before reply after = OpenedList bytes (opened bytes) before reply after
+abbrev pub bundleRefusalOr : Option Refusal → BundleReply → Option Refusal
+bundleRefusalOr later (BundleRefused r i) = some r
+bundleRefusalOr later (Sound m) = later
 
--- the list of a bundle that is sound
-pub record SoundList (bytes before : List ℕ) (reply : ListReply) (after : List ℕ) : Type 0 where
-  pub meets : OpenedList bytes (opened bytes) before reply after
+-- the refusal that the list behind a sound bundle meets; and behind any bundle
+abbrev pub soundRefusal : List ℕ → List ℕ → Option Refusal
+soundRefusal bytes before = openingRefusalOr (listRefusal before) (opened bytes)
 
--- The whole of it: the reply, and the buffer after it, given the buffer before it.
-pub record ListOf (bytes before : List ℕ) (reply : ListReply) (after : List ℕ) : Type 0 where
-  pub meets : CheckedList bytes (checkBundle bytes) before reply after
+abbrev pub refusalBehind : List ℕ → List ℕ → Option Refusal
+refusalBehind bytes before = bundleRefusalOr (soundRefusal bytes before) (checkBundle bytes)
+
+-- the list behind a sound bundle
+abbrev pub SoundList : List ℕ → List ℕ → ListReply → List ℕ → Type 0
+SoundList bytes before r after = ListedBy (soundRefusal bytes before) (accountsBehind bytes) before r after
+
+-- The list behind a bundle: the reply, and the buffer after it, given the buffer before it.
+abbrev pub ListOf : List ℕ → List ℕ → ListReply → List ℕ → Type 0
+ListOf bytes before r after = ListedBy (refusalBehind bytes before) (accountsBehind bytes) before r after

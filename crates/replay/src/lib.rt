@@ -26,12 +26,14 @@ ghost use mathlib.Core.Path.{_≡_};
 ghost use Prim.Native.Nat.{_-_, _≤_};
 ghost use lib.ListN.{length};
 ghost use Rattle.model.specs.declared.BundleReply.the-variants.{Sound};
+ghost use Rattle.model.specs.Refusals.{listRefusal};
 ghost use Rattle.model.specs.Bundles.{entryCount};
 ghost use Rattle.basics.specs.Outputs.{Writes};
 ghost use Rattle.layout.specs.Layout.{bookWords, ledgerIn};
 ghost use Rattle.opening.specs.Promises.{Opens};
 ghost use Rattle.replay.specs.Text.{closing, playedText, openingPage, checkedText, textOf};
-ghost use Rattle.replay.specs.Lists.{ListedFrom, SoundList, ListOf};
+ghost use Rattle.ledger.specs.Promises.{ListedBy};
+ghost use Rattle.replay.specs.Lists.{accountsFrom, SoundList, ListOf};
 ghost use Rattle.replay.specs.Promises.{closingMost, Replayed, ReplayedInput, Wrote, PlayedAll};
 
 // The longest text: 999 lines of a proposed transfer, 36 bytes each, and 32 lines of an account, 27 bytes each: 36,828 bytes.
@@ -141,7 +143,7 @@ pub fn replay_input(input: &[u8; INPUT_SIZE], read: usize, out: &mut [u8; TEXT_S
 // The waiting list of the book that the bundle's entries leave. The text goes nowhere.
 fn list_opened(bytes: &[u8], words: &mut [u32; BOOK_WORDS], buffer: &mut [u8]) -> ListReply
     requires { ⌜ entryCount (now bytes) ≤ 1_000 ⌝ }
-    ensures { λ r. ⌜ ListedFrom (now (bytes .entry)) (ledgerIn (now (words .entry))) (now (buffer .entry)) r (now (buffer .exit)) ⌝ }
+    ensures { λ r. ⌜ ListedBy (listRefusal (now (buffer .entry))) (accountsFrom (now (bytes .entry)) (ledgerIn (now (words .entry)))) (now (buffer .entry)) r (now (buffer .exit)) ⌝ }
 {
     let mut nowhere = [0u8; 1];
     let _ = play(bytes, words, &mut nowhere);
@@ -161,7 +163,7 @@ fn list_sound(bytes: &[u8], buffer: &mut [u8]) -> ListReply
     }
 }
 
-// The waiting list, asked behind a bundle's last entry. A bundle or an opening that is refused has no list: its own code is replied.
+// The waiting list, lowest account first, asked behind a bundle's last entry. A bundle or an opening that is refused has no list: its own code is replied.
 pub fn list_after(bytes: &[u8], buffer: &mut [u8]) -> ListReply
     ensures { λ r. ⌜ ListOf (now (bytes .entry)) (now (buffer .entry)) r (now (buffer .exit)) ⌝ }
 {

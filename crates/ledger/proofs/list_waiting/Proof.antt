@@ -11,7 +11,7 @@ same-length : tie.Need-same-length
 same-length c = search needs
 
 returns : tie.Need-returns
-returns c = listed _ _ _ _ (c .before .before .list-waiting .ensures)
+returns c = listed _ _ _ _ _ (c .before .before .list-waiting .ensures)
 
 pub list-waiting-spec : {M : Type 1} → statement M
 list-waiting-spec = tie.close (tie.spec list-waiting-requires same-length returns)

@@ -235,20 +235,17 @@ impl Book {
         reply.unwrap_or_else(Reply::Refused)
     }
 
-    /// Writes the accounts with a waiting slip into the front of the buffer and replies how many; 17 if the buffer is
-    /// too short.
+    /// Writes the accounts with a waiting slip, lowest first, each once, into the front of the buffer and replies how
+    /// many; 17 if the buffer is shorter than 32 bytes. The bytes behind them keep their content.
     pub fn waiting_list(&self, buffer: &mut [u8]) -> Result<usize, u8> {
         if buffer.len() < MOST_ACCOUNTS {
             return Err(17);
         }
-        let mut count = 0;
-        for (number, account) in (0..).zip(&self.accounts) {
-            if account.waiting.is_some() {
-                buffer[count] = number;
-                count += 1;
-            }
-        }
-        Ok(count)
+        // the accounts stand by their numbers, and each has at most one slip that waits
+        let waiting = self.accounts.iter().filter_map(|account| account.waiting);
+        let payers: Vec<u8> = waiting.map(|slip| slip.account).collect();
+        buffer[..payers.len()].copy_from_slice(&payers);
+        Ok(payers.len())
     }
 
     /// n

@@ -1,4 +1,4 @@
-//! Document 01's known pages, its rules one by one, and what document 02 says of ties.
+//! Document 01's known pages, its rules one by one, and what document 02 says of ties and of the waiting list.
 
 mod common;
 
@@ -218,6 +218,34 @@ fn settled_twice() {
     assert_eq!((book.balance(0), book.balance(1)), (0, 5));
     assert_eq!((book.current(0), book.current(1)), (1, 1));
     assert_eq!(book.waiting_list(&mut buffer), Ok(0));
+}
+
+/// Accounts that come to wait in falling order are listed lowest first, and a refusal leaves the buffer.
+#[test]
+fn waiting_lists() {
+    let mut book = open(1, 0, &[1; 32]);
+    for account in [31, 17, 0] {
+        let waits = Message::Ruling(slip(account, 1, 2, account));
+        assert_eq!(book.call(&waits), Reply::Accepted { booked: 0 });
+    }
+    for length in 0..=40 {
+        let before: Vec<u8> = (100..).take(length).collect();
+        let mut buffer = before.clone();
+        let reply = book.waiting_list(&mut buffer);
+        if length < 32 {
+            assert_eq!((reply, buffer), (Err(17), before));
+        } else {
+            assert_eq!(
+                (reply, &buffer[..3], &buffer[3..]),
+                (Ok(3), &[0, 17, 31][..], &before[3..])
+            );
+        }
+    }
+    // account 17 gets what it lacks
+    let pays = Message::Ruling(slip(5, 1, 1, 17));
+    assert_eq!(book.call(&pays), Reply::Accepted { booked: 2 });
+    let mut buffer = [7; 32];
+    assert_eq!((book.waiting_list(&mut buffer), &buffer[..3]), (Ok(2), &[0, 31, 7][..]));
 }
 
 #[test]

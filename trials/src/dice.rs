@@ -59,6 +59,11 @@ impl Dice {
         self.any() as u8
     }
 
+    /// So many bytes, each of which is any.
+    pub fn bytes(&mut self, count: usize) -> Vec<u8> {
+        (0..count).map(|_| self.byte()).collect()
+    }
+
     /// A place of a list that has `length` places, which is not 0.
     pub fn place(&mut self, length: usize) -> usize {
         self.below(length as u64) as usize

@@ -237,7 +237,8 @@ impl Sent {
             self.seat = dice.byte();
         }
         if dice.once_in(2) {
-            self.body.extend((0..dice.below(9)).map(|_| dice.byte()));
+            let more = dice.place(9);
+            self.body.extend(dice.bytes(more));
             return;
         }
         while self.body.last() == Some(&0) && !dice.once_in(4) {
@@ -249,7 +250,8 @@ impl Sent {
     pub fn nothing(dice: &mut Dice) -> Sent {
         let any = dice.within(6, 255) as u8;
         let kind = *dice.pick(&[0, 6, 255, any]);
-        let body = (0..dice.below(140)).map(|_| dice.byte()).collect();
+        let length = dice.place(140);
+        let body = dice.bytes(length);
         let seat = dice.below(17) as u8;
         Sent { kind, seat, body }
     }

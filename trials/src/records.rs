@@ -105,7 +105,7 @@ pub fn tried(dice: &mut Dice, page: &OpeningPage, records: &[u8], room: usize) -
 }
 
 fn call(dice: &mut Dice, page: &OpeningPage, records: &[u8], room: usize) -> Result<(Written, Vec<u8>), String> {
-    let mut bytes: Vec<u8> = (0..AROUND + room + AROUND).map(|_| dice.byte()).collect();
+    let mut bytes = dice.bytes(AROUND + room + AROUND);
     let mut wanted = bytes.clone();
     let lent = AROUND..AROUND + room;
     let reply_due = due(page, records, &mut wanted[lent.clone()])?;

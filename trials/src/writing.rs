@@ -186,7 +186,7 @@ pub fn random(checks: &mut Checks, seed: u64, program: &str) {
 /// A page, often a refused one, and 0 to 999 messages with any fields.
 fn list(dice: &mut Dice) -> (OpeningPage, Vec<Message>) {
     let page = if dice.once_in(4) {
-        read_opening(&any_bytes(dice, 131))
+        read_opening(&dice.bytes(131))
     } else {
         openings::wild(dice)
     };
@@ -204,18 +204,14 @@ fn message(dice: &mut Dice) -> Message {
         return wild::message(dice);
     }
     let kind = dice.within(REQUEST.into(), QUESTION.into()) as u8;
-    read_message(kind, dice.byte(), &any_bytes(dice, 10))
-}
-
-fn any_bytes(dice: &mut Dice, count: u64) -> Vec<u8> {
-    (0..count).map(|_| dice.byte()).collect()
+    read_message(kind, dice.byte(), &dice.bytes(10))
 }
 
 /// The records of messages; what is not read of a question's is anything.
 fn any_records(dice: &mut Dice, messages: &[Message]) -> Vec<u8> {
     let mut records = records(messages);
     for record in records.chunks_exact_mut(RECORD).filter(|record| record[0] == QUESTION) {
-        record[3..].copy_from_slice(&any_bytes(dice, 9));
+        record[3..].copy_from_slice(&dice.bytes(9));
     }
     records
 }
@@ -286,8 +282,8 @@ fn try_malformed(dice: &mut Dice, tallies: &mut Tallies) -> Result<(), String> {
         change_record(dice, &mut records);
     }
     if dice.once_in(2) {
-        let size = dice.within(1, 11);
-        records.extend(any_bytes(dice, size));
+        let size = 1 + dice.place(RECORD - 1);
+        records.extend(dice.bytes(size));
     }
     let length = length(&records);
     let room = *dice.pick(&[0, length - 1, length, length + 40]);

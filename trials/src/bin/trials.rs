@@ -165,8 +165,8 @@ fn try_every_byte(checks: &mut Checks) {
 fn try_functions(checks: &mut Checks, seed: u64) {
     let mut dice = Dice::new(seed);
     for _ in 0..2_000 {
-        let length = dice.below(201);
-        let bytes: Vec<u8> = (0..length).map(|_| dice.byte()).collect();
+        let length = dice.place(201);
+        let bytes = dice.bytes(length);
         checks.same(
             &format!("the sum of {bytes:?}"),
             daybook::sum(&bytes),

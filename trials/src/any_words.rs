@@ -9,7 +9,7 @@ use crate::lent::{told, HeldWords, Lent, Sent, BLOCK, GROUP, NOTHING, REPLY, WOR
 use crate::seen::Seen;
 use crate::ties::{self, Ack};
 use crate::trial::caught;
-use crate::waiting;
+use crate::waiting::{self, Answer};
 use reference::book::{Account, Book, Message, Reply, Retained, Slip};
 use reference::bundle::read_opening;
 
@@ -131,9 +131,8 @@ fn meet(dice: &mut Dice, lent: &mut Lent) -> Result<String, String> {
     let message = message(dice, lent);
     let reply = lent.call(&Sent::of(&message));
     judge(&before, &message, reply, lent).map_err(|what| format!("{message:?}: {reply:?}: {what}"))?;
-    let length = waiting::length(dice);
-    let wanted = if length < 32 { Err(17) } else { Ok(lent.that_wait()) };
-    waiting::answered(length, |list| lent.waiting(list), wanted).map(drop)?;
+    let ask = |list: &mut [u8]| lent.waiting(list);
+    waiting::compared(waiting::buffer(dice), ask, |list| listed(lent, list)).map(drop)?;
     Ok(match reply[0] as u8 as char {
         'R' => format!("R {}", reply[1]),
         'P' => match late_in_place_of(&before, &message) {
@@ -307,6 +306,13 @@ fn refusal(lent: &Lent, message: &Message) -> Option<u8> {
         Message::Slip(_) | Message::Request(_) => funds,
         _ => None,
     }
+}
+
+/// The waiting list: all accounts that wait, unless the buffer is too short.
+fn listed(lent: &Lent, list: &mut [u8]) -> Answer {
+    let accounts = lent.that_wait();
+    let wanted = if list.len() < 32 { Err(17) } else { Ok(&accounts[..]) };
+    waiting::written(wanted, list)
 }
 
 /// Whether this reply is right, and the words after it.

@@ -61,11 +61,10 @@ impl Replay {
     }
 }
 
-/// The waiting list after the bundle's last message, into the front of `list`: the code, 0 if it is listed, and how
-/// many accounts are written.
-pub fn waiting(bytes: &[u8], list: &mut [u8]) -> (u8, u8) {
-    let reply = unsafe { daybook_waiting(bytes.as_ptr(), bytes.len(), list.as_mut_ptr(), list.len()) };
-    ((reply / 256) as u8, (reply % 256) as u8)
+/// The waiting list after the bundle's last message, into the front of `list`: how many accounts are written, or 256
+/// times the code.
+pub fn waiting(bytes: &[u8], list: &mut [u8]) -> u32 {
+    unsafe { daybook_waiting(bytes.as_ptr(), bytes.len(), list.as_mut_ptr(), list.len()) }
 }
 
 /// The sum of these bytes, as a contents entry has it of a body.

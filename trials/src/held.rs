@@ -119,9 +119,8 @@ impl Held {
                 tallies.add(column, SETTLED_LATER);
             }
         }
-        let length = waiting::length(dice);
-        let wanted = waiting::listed(&self.book, length);
-        let answer = waiting::answered(length, |list| self.lent.waiting(list), wanted)?;
+        let ask = |list: &mut [u8]| self.lent.waiting(list);
+        let answer = waiting::compared(waiting::buffer(dice), ask, |list| self.book.waiting_list(list))?;
         self.most_waiting = self.most_waiting.max(answer.unwrap_or(0));
         tallies.waiting(column, answer);
         Ok(())

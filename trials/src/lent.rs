@@ -75,10 +75,9 @@ impl Lent {
         reply
     }
 
-    /// The waiting list, into the front of `list`: the code, 0 if it is listed, and how many accounts are written.
-    pub fn waiting(&self, list: &mut [u8]) -> (u8, u8) {
-        let reply = unsafe { ledger_waiting(&*self.words, list.as_mut_ptr(), list.len()) };
-        ((reply / 256) as u8, (reply % 256) as u8)
+    /// The waiting list, into the front of `list`: how many accounts are written, or 256 times the code.
+    pub fn waiting(&self, list: &mut [u8]) -> u32 {
+        unsafe { ledger_waiting(&*self.words, list.as_mut_ptr(), list.len()) }
     }
 
     /// The book that goes on with words of before request 5. What the new words held is to be replaced.
@@ -160,7 +159,7 @@ impl Lent {
         lent
     }
 
-    /// The accounts that wait, rising.
+    /// The accounts that wait, lowest first: each account is looked at once, from 0 on.
     pub fn that_wait(&self) -> Vec<u8> {
         (0..32)
             .filter(|account| self.account(usize::from(*account)).waiting.is_some())

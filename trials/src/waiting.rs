@@ -1,77 +1,69 @@
-//! The waiting list after a bundle, held to the second program.
+//! The waiting list, held to what is due byte for byte: the reply, and the whole buffer after it.
 
-use crate::daybook::{self, UNTOUCHED};
+use crate::daybook;
 use crate::dice::Dice;
 use crate::trial::caught;
 use reference::book::Book;
 use reference::bundle;
 
-/// What `daybook` answered: how many accounts wait, or the code of the refusal.
+/// How many accounts wait, or the code of the refusal.
 pub type Answer = Result<usize, u8>;
 
-/// The length of a buffer, 0 to 40, mostly at a limit.
-pub fn length(dice: &mut Dice) -> usize {
-    let any = dice.below(41) as usize;
-    *dice.pick(&[0, 31, 32, 32, 33, 33, any, any])
+/// A buffer of 0 to 40 bytes, mostly at a limit, with any content.
+pub fn buffer(dice: &mut Dice) -> Vec<u8> {
+    let any = dice.place(41);
+    let length = *dice.pick(&[0, 31, 32, 32, 33, 33, any, any]);
+    dice.bytes(length)
 }
 
-/// Asks for the list with a buffer of this length. Err says what is wrong with the answer or with the buffer.
-pub fn tried(bytes: &[u8], length: usize) -> Result<Answer, String> {
-    caught(|| ask(bytes, length)).and_then(|answer| answer)
+/// The list behind a bundle, held to the second program, in a buffer that holds this before.
+pub fn tried(bytes: &[u8], before: Vec<u8>) -> Result<Answer, String> {
+    let ask = |list: &mut [u8]| daybook::waiting(bytes, list);
+    caught(|| compared(before, ask, |list| behind(bytes, list))).and_then(|answer| answer)
 }
 
-fn ask(bytes: &[u8], length: usize) -> Result<Answer, String> {
-    answered(length, |list| daybook::waiting(bytes, list), expected(bytes, length))
-}
-
-/// Asks with a buffer of this length, and holds the code and the count that come back, and the buffer, to what is wanted: the
-/// accounts that wait, rising, or the code of the refusal.
-pub fn answered(
-    length: usize,
-    ask: impl FnOnce(&mut [u8]) -> (u8, u8),
-    wanted: Result<Vec<u8>, u8>,
+/// Two buffers hold this before: one is lent to the static library, and to the other is done what is due. The numbers
+/// returned and all bytes have to be the same.
+pub fn compared(
+    before: Vec<u8>,
+    ask: impl FnOnce(&mut [u8]) -> u32,
+    due: impl FnOnce(&mut [u8]) -> Answer,
 ) -> Result<Answer, String> {
-    let mut list = vec![UNTOUCHED; length];
-    let (code, count) = ask(&mut list);
-    let count = usize::from(count);
-    if count > length {
-        return Err(format!("the waiting list has {count} accounts in {length} bytes"));
+    let (mut list, mut list_due) = (before.clone(), before);
+    let (reply, answer) = (ask(&mut list), due(&mut list_due));
+    let reply_due = number(answer);
+    if (reply, &list) == (reply_due, &list_due) {
+        return Ok(answer);
     }
-    if list[count..].iter().any(|byte| *byte != UNTOUCHED) {
-        return Err(format!(
-            "a byte behind the {count} waiting accounts was changed: {list:?}"
-        ));
-    }
-    // document 01 leaves the order free
-    list[..count].sort_unstable();
-    let (code_due, accounts_due) = match &wanted {
-        Ok(accounts) => (0, &accounts[..]),
-        Err(code) => (*code, &[][..]),
-    };
-    if code != code_due || list[..count] != *accounts_due {
-        return Err(format!(
-            "waiting list: code {code}, accounts {:?} and not {wanted:?}",
-            &list[..count]
-        ));
-    }
-    Ok(if code == 0 { Ok(count) } else { Err(code) })
+    let told = |reply, list| format!("code {}, count {}, buffer {list:?}", reply / 256, reply % 256);
+    Err(format!(
+        "waiting list: {} and not {}",
+        told(reply, list),
+        told(reply_due, list_due)
+    ))
 }
 
-/// The accounts that wait after a bundle by the second program, rising, or the code of the refusal.
-fn expected(bytes: &[u8], length: usize) -> Result<Vec<u8>, u8> {
+/// An answer as the static library returns it: the count, or 256 times the code.
+pub fn number(answer: Answer) -> u32 {
+    match answer {
+        Ok(count) => count as u32,
+        Err(code) => 256 * u32::from(code),
+    }
+}
+
+/// These accounts come into the front of the buffer, or a refusal by this code leaves it.
+pub fn written(wanted: Result<&[u8], u8>, list: &mut [u8]) -> Answer {
+    let accounts = wanted?;
+    list[..accounts.len()].copy_from_slice(accounts);
+    Ok(accounts.len())
+}
+
+/// What the second program answers behind a bundle, and writes.
+fn behind(bytes: &[u8], list: &mut [u8]) -> Answer {
     let (page, messages) = bundle::read(bytes).map_err(|fault| fault.code)?;
     let mut book = Book::open(&page)?;
     for message in &messages {
         book.call(message);
     }
-    listed(&book, length)
-}
-
-/// The accounts that wait in a book of the second program, rising, or the code of the refusal.
-pub fn listed(book: &Book, length: usize) -> Result<Vec<u8>, u8> {
-    let mut list = vec![UNTOUCHED; length];
-    let count = book.waiting_list(&mut list)?;
-    list.truncate(count);
-    list.sort_unstable();
-    Ok(list)
+    book.waiting_list(list)
 }

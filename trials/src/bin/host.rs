@@ -9,11 +9,12 @@ use reference::rules::Rules;
 use std::process::ExitCode;
 use trials::any_words::try_opening;
 use trials::checks::Checks;
-use trials::daybook::{acks_needed, is_enough, text_of, waiting, UNTOUCHED};
+use trials::daybook::{acks_needed, is_enough, text_of, waiting};
 use trials::dice::Dice;
 use trials::edges::wait_of;
 use trials::known::{self, page};
 use trials::lent::{Lent, Sent};
+use trials::waiting::{compared, written};
 use trials::{taken_over, writing};
 
 /// The two functions on acks against each other and against document 01: twice the count exceeds n + 3f.
@@ -104,31 +105,30 @@ fn damaged(checks: &mut Checks, folder: &str) {
     }
 }
 
-/// The waiting list after a bundle: its code and count, and the whole buffer, where what is not written stays.
-fn waiting_lists(checks: &mut Checks, folder: &str) {
-    let mut ask = |bytes: &[u8], length: usize, code, accounts: &[u8]| {
-        let mut list = vec![UNTOUCHED; length];
-        let mut wanted = list.clone();
-        wanted[..accounts.len()].copy_from_slice(accounts);
-        let reply = waiting(bytes, &mut list);
-        let what = format!("a waiting list of {length} bytes, where {code} is due and {accounts:?}");
-        checks.same(&what, reply, (code, accounts.len() as u8));
-        checks.same(&what, list, wanted);
+/// The waiting list after a bundle: the accounts in the front of the buffer, or the code; what is not written stays.
+fn waiting_lists(checks: &mut Checks, dice: &mut Dice, folder: &str) {
+    let mut ask = |bytes: &[u8], length: usize, due: Result<&[u8], u8>| {
+        let answer = compared(
+            dice.bytes(length),
+            |list| waiting(bytes, list),
+            |list| written(due, list),
+        );
+        checks.same(&format!("a buffer of {length} bytes"), answer.map(drop), Ok(()));
     };
     let settled = example(folder, "settled_twice");
     for length in [32, 33, 255] {
-        ask(&settled, length, 0, &[]);
-        ask(&wait_of(7).bytes, length, 0, &[7]);
-        ask(&wait_of(31).bytes, length, 0, &[31]);
-        ask(&example(folder, "wrong_sum"), length, 16, &[]);
-        ask(&example(folder, "refused_opening_17_0"), length, 1, &[]);
+        ask(&settled, length, Ok(&[]));
+        ask(&wait_of(7).bytes, length, Ok(&[7]));
+        ask(&wait_of(31).bytes, length, Ok(&[31]));
+        ask(&example(folder, "wrong_sum"), length, Err(16));
+        ask(&example(folder, "refused_opening_17_0"), length, Err(1));
     }
     for length in [0, 1, 31] {
-        ask(&settled, length, 17, &[]);
-        ask(&wait_of(7).bytes, length, 17, &[]);
+        ask(&settled, length, Err(17));
+        ask(&wait_of(7).bytes, length, Err(17));
         // the bundle's own codes are tried first
-        ask(&example(folder, "empty"), length, 13, &[]);
-        ask(&example(folder, "refused_opening_5_1"), length, 1, &[]);
+        ask(&example(folder, "empty"), length, Err(13));
+        ask(&example(folder, "refused_opening_5_1"), length, Err(1));
     }
 }
 
@@ -190,7 +190,7 @@ fn main() -> ExitCode {
     long_inputs(&mut checks, &folder);
     damaged(&mut checks, &folder);
     checks.part("host: waiting lists");
-    waiting_lists(&mut checks, &folder);
+    waiting_lists(&mut checks, &mut dice, &folder);
     checks.part("host: the writer of bundles");
     writing::examples(&mut checks, &mut dice, &folder);
     writing::known_replies(&mut checks, &mut dice);

@@ -111,7 +111,7 @@ fn try_random(checks: &mut Checks, tallies: &mut Tallies, options: &Options, ind
     let counted = trial::caught(|| tallies.text(class, &bytes, &text));
     trial::count(checks, &name, &bytes, outcome.and(counted));
     if everything || index % WAITING_EACH == 0 {
-        let answer = waiting::tried(&bytes, waiting::length(&mut dice));
+        let answer = waiting::tried(&bytes, waiting::buffer(&mut dice));
         trial::count(
             checks,
             &name,
@@ -128,6 +128,7 @@ fn try_random(checks: &mut Checks, tallies: &mut Tallies, options: &Options, ind
 
 /// Each edge once, through the program as well, its waiting list, and what is read of it written out again.
 fn try_edges(checks: &mut Checks, options: &Options) {
+    let mut dice = Dice::new(options.seed);
     let mut sound = 0;
     for edge in made(checks, "the edges", edges::edges).unwrap_or_default() {
         let (text, outcome) = trial::text_tried(&edge.bytes, Some(&options.program));
@@ -137,10 +138,10 @@ fn try_edges(checks: &mut Checks, options: &Options) {
             text == edge.text.as_bytes(),
         );
         for length in [31, 32] {
-            let answer = waiting::tried(&edge.bytes, length);
+            let answer = waiting::tried(&edge.bytes, dice.bytes(length));
             trial::count(checks, &edge.name, &edge.bytes, answer.map(drop));
         }
-        let again = written_again(&mut Dice::new(options.seed), &edge.bytes);
+        let again = written_again(&mut dice, &edge.bytes);
         sound += u32::from(again == Ok(true));
         trial::count(checks, &edge.name, &edge.bytes, again.map(drop));
     }

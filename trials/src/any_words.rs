@@ -57,6 +57,7 @@ pub fn try_messages(checks: &mut Checks, seed: u64) {
         let what = format!("content {index} of seed {seed}");
         meet_some(checks, &mut dice, &mut lent, &mut seen, &what);
     }
+    each_length(checks, &seen);
     let letters = ["C", "A", "K", "N", "B"].iter().chain(&ties::SIZES).chain(&LATE);
     let codes = (4..=12).chain([20]).map(|code| format!("R {code}"));
     seen.table(checks, letters.map(|row| row.to_string()).chain(codes));
@@ -73,17 +74,15 @@ pub fn try_switches(checks: &mut Checks, seed: u64) {
         checks.same(&what, taken_over(&held, &lent), Ok(()));
         meet_some(checks, &mut dice, &mut lent, &mut seen, &what);
     }
+    each_length(checks, &seen);
     // what is retained is just what waits
     seen.table(checks, &LATE[..1]);
 }
 
 fn meet_some(checks: &mut Checks, dice: &mut Dice, lent: &mut Lent, seen: &mut Seen, what: &str) {
     for _ in 0..MESSAGES {
-        let met = caught(|| meet(dice, lent)).and_then(|met| met);
-        if let Ok(row) = &met {
-            seen.add(row);
-        }
-        checks.same(what, met.map(drop), Ok(()));
+        let met = caught(|| meet(dice, lent, seen)).and_then(|met| met);
+        checks.same(what, met, Ok(()));
     }
 }
 
@@ -117,31 +116,49 @@ fn refused_by_none(dice: &mut Dice) -> Result<(), String> {
     same_words(&Lent::default(), &lent)
 }
 
-/// One message, or what is no message, and the waiting list after it: the reply's letter, and a refusal's code, or
-/// the row of a P.
-fn meet(dice: &mut Dice, lent: &mut Lent) -> Result<String, String> {
+/// One message, or what is no message, and the waiting list after it.
+fn meet(dice: &mut Dice, lent: &mut Lent, seen: &mut Seen) -> Result<(), String> {
     let before = lent.clone();
     if dice.once_in(20) {
         let sent = Sent::nothing(dice);
         if lent.call(&sent) != NOTHING {
             return Err(format!("{sent:?} is no message, and was answered"));
         }
-        return same_words(&before, lent).map(|()| String::new());
+        return same_words(&before, lent);
     }
     let message = message(dice, lent);
     let reply = lent.call(&Sent::of(&message));
     judge(&before, &message, reply, lent).map_err(|what| format!("{message:?}: {reply:?}: {what}"))?;
+    seen.add(&row(&before, &message, reply, lent));
     let ask = |list: &mut [u8]| lent.waiting(list);
-    waiting::compared(waiting::buffer(dice), ask, |list| listed(lent, list)).map(drop)?;
-    Ok(match reply[0] as u8 as char {
+    let answer = waiting::compared(waiting::buffer(dice), ask, |list| listed(lent, list))?;
+    if let Ok(count) = answer {
+        seen.add(&list_of(count));
+    }
+    Ok(())
+}
+
+/// The row of a reply: its letter, and a refusal's code, or which P it is.
+fn row(before: &Lent, message: &Message, reply: [u32; REPLY], after: &Lent) -> String {
+    match reply[0] as u8 as char {
         'R' => format!("R {}", reply[1]),
-        'P' => match late_in_place_of(&before, &message) {
+        'P' => match late_in_place_of(before, message) {
             Some(row) => row.to_string(),
             // behind P stands the account
-            None => ties::size(&recorded(&lent.account(reply[1] as usize))).to_string(),
+            None => ties::size(&recorded(&after.account(reply[1] as usize))).to_string(),
         },
         letter => letter.to_string(),
-    })
+    }
+}
+
+/// The row of a waiting list with so many accounts.
+fn list_of(count: usize) -> String {
+    format!("list of {count}")
+}
+
+/// Each length of a waiting list has to occur.
+fn each_length(checks: &mut Checks, seen: &Seen) {
+    seen.each(checks, "lists of 0 to 32, each at least", (0..=32).map(list_of));
 }
 
 // What is made.
@@ -153,9 +170,20 @@ fn content(dice: &mut Dice) -> Lent {
     for word in lent.words.iter_mut() {
         *word = if dice.below(8) < full { any_word(dice) } else { 0 };
     }
+    let_wait(dice, &mut lent.words[..GROUP]);
     retain_near(dice, &mut lent.words[..GROUP]);
     put_in_range(dice, &mut lent.words[GROUP..]);
     lent
+}
+
+/// A slip waits at 0 to 32 of the accounts, each number of them as likely as any other.
+fn let_wait(dice: &mut Dice, accounts: &mut [u32]) {
+    let mut blocks: Vec<&mut [u32]> = accounts.chunks_mut(BLOCK).collect();
+    dice.shuffle(&mut blocks);
+    let waiting = dice.place(33);
+    for (place, block) in blocks.into_iter().enumerate() {
+        block[4] = if place < waiting { any_word(dice).max(1) } else { 0 };
+    }
 }
 
 /// Each account's retained slip becomes mostly one of the current or the next number, and its mark is 0 more often.

@@ -26,7 +26,8 @@ const SHORT: usize = 500;
 const VARIED_EACH: u64 = 4;
 const NOTHING_EACH: u64 = 50;
 
-/// The long life, a shorter one of a small group, and short ones of any group; each message is a check.
+/// The long life, a shorter one of a small group, and short ones of any group, each until all accounts wait; each
+/// message is a check.
 pub fn lives(checks: &mut Checks, seed: u64) {
     let mut tallies = Tallies::of_lives(&LIVES);
     let large = OpeningPage::of(16, 3, &[100; 32]);
@@ -45,7 +46,7 @@ pub fn lives(checks: &mut Checks, seed: u64) {
 /// A life with so many messages. It ends at the first fault, since all behind it would differ.
 fn live(checks: &mut Checks, tallies: &mut Tallies, column: usize, dice: &mut Dice, page: &OpeningPage, most: usize) {
     let lived = caught(|| {
-        let messages = ledgers::lasting(dice, page, most);
+        let messages = ledgers::ending(dice, page, most);
         let mut held = Held::open(page)?;
         for (place, message) in (1..).zip(&messages) {
             let met = held.meet(dice, message, tallies, column);

@@ -3,42 +3,51 @@
 
 use crate::dice::Dice;
 use crate::openings;
-use reference::book::{Account, Book, Message, OpeningPage, Reply, Slip};
+use reference::book::{Account, Book, Message, OpeningPage, Slip};
 use reference::bundle;
 
 /// From so many messages on a bundle is long.
 const LONG: usize = 200;
+/// So many messages at least come to a book in which all accounts wait.
+const AT_REST: usize = 24;
 
-/// The bytes of a bundle with `most` messages (a few more where it begins with a chain over all accounts).
+/// The bytes of a bundle with `most` messages (a few more or fewer where it begins with a chain over all accounts, or
+/// ends with all of them waiting).
 pub fn living(dice: &mut Dice, most: usize) -> Vec<u8> {
     let mut page = openings::sound(dice);
     if most >= LONG && dice.once_in(2) {
         // one seat accepts at once, so that numbers of three digits are booked
         (page.n, page.f) = (1, 0);
     }
+    let k = usize::from(page.k);
     let mut life = Life::open(dice, page, most);
     if life.dice.once_in(8) {
-        life.most = most.max(usize::from(life.page.k) + 1);
+        life.most = most.max(k + 1);
         life.chain(true);
     }
-    while life.messages.len() < life.most {
-        life.scene();
+    let stops = life.dice.once_in(3);
+    if stops {
+        // room for the last rulings
+        life.most = life.most.saturating_sub(k);
+    }
+    life.play();
+    if stops {
+        life.stop();
     }
     bundle::write(&life.page, &life.messages)
 }
 
 /// So many messages to a book that this page opens and that never comes to a stop, however long it lives.
 pub fn lasting(dice: &mut Dice, page: &OpeningPage, most: usize) -> Vec<Message> {
-    let mut life = Life::open(dice, page.clone(), most);
-    life.lasts = true;
-    life.chain(true);
-    while life.messages.len() < most {
-        match life.dice.below(32) {
-            0 => life.chain(true),
-            1 | 2 => life.relief(),
-            _ => life.scene(),
-        }
-    }
+    Life::last(dice, page, most).messages
+}
+
+/// So many messages to a book that lasts so, until near the end all accounts come to wait, for ever.
+pub fn ending(dice: &mut Dice, page: &OpeningPage, most: usize) -> Vec<Message> {
+    let mut life = Life::last(dice, page, most - usize::from(page.k) - AT_REST);
+    life.stop();
+    life.most = most;
+    life.play();
     life.messages
 }
 
@@ -74,8 +83,23 @@ impl<'a> Life<'a> {
         }
     }
 
+    /// A life of so many messages that never comes to a stop.
+    fn last(dice: &'a mut Dice, page: &OpeningPage, most: usize) -> Life<'a> {
+        let mut life = Life::open(dice, page.clone(), most);
+        life.lasts = true;
+        life.chain(true);
+        while life.messages.len() < most {
+            match life.dice.below(32) {
+                0 => life.chain(true),
+                1 | 2 => life.relief(),
+                _ => life.scene(),
+            }
+        }
+        life
+    }
+
     /// A message comes. In a life that lasts, a slip that could wait for ever is only asked for.
-    fn say(&mut self, message: Message) -> Reply {
+    fn say(&mut self, message: Message) {
         match message {
             Message::Ack { slip, .. } | Message::Ruling(slip) if self.lasts && self.could_stop(slip) => {
                 self.tell(Message::Request(slip))
@@ -84,12 +108,19 @@ impl<'a> Life<'a> {
         }
     }
 
-    /// Once the bundle is full a message is left out, and so is all that follows.
-    fn tell(&mut self, message: Message) -> Reply {
+    /// Once there are as many messages as there may be, the book gets no more.
+    fn tell(&mut self, message: Message) {
         if self.messages.len() < self.most {
             self.messages.push(message);
+            self.book.call(&message);
         }
-        self.book.call(&message)
+    }
+
+    /// Scenes until there are as many messages as there may be.
+    fn play(&mut self) {
+        while self.messages.len() < self.most {
+            self.scene();
+        }
     }
 
     /// A few messages that belong together, at least one.
@@ -491,12 +522,25 @@ impl<'a> Life<'a> {
         }
     }
 
+    /// The end: in any order, each account that does not wait gets a ruling that it cannot pay, and once all wait nothing
+    /// is booked any more. (An account that has all portions can pay any.)
+    fn stop(&mut self) {
+        let mut accounts = self.accounts_that_do_not_wait();
+        self.dice.shuffle(&mut accounts);
+        self.most = self.messages.len() + accounts.len();
+        for account in accounts {
+            let balance = self.balance(account);
+            if balance < self.sum {
+                let value = self.dice.portions(balance + 1, self.sum);
+                let slip = self.slip(account);
+                self.tell(Message::Ruling(Slip { value, ..slip }));
+            }
+        }
+    }
+
     fn accounts_that_do_not_wait(&self) -> Vec<u8> {
-        let mut list = [0; 32];
-        let count = self.book.waiting_list(&mut list).expect("a list of 32 bytes");
-        (0..self.page.k)
-            .filter(|account| !list[..count].contains(account))
-            .collect()
+        let free = |account: &u8| self.book.account(usize::from(*account)).waiting.is_none();
+        (0..self.page.k).filter(free).collect()
     }
 
     /// Each account pays the next one; all but the first can pay only once the one before them has paid.

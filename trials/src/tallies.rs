@@ -34,7 +34,7 @@ const ROWS: [&[&str]; 8] = [
     &late::ROWS,
     &["R 4", "R 5", "R 6", "R 7", "R 8", "R 9", "R 10", "R 11", "R 12", "R 20"],
     &self_payments::ROWS,
-    &["none waits", "one waits", "more wait", "waiting list 17"],
+    &["none waits", "one waits", "2 to 31 wait", "32 wait", "waiting list 17"],
 ];
 
 /// The rows of bundles alone.
@@ -191,7 +191,8 @@ impl Tallies {
         let row = match answer {
             Ok(0) => "none waits",
             Ok(1) => "one waits",
-            Ok(_) => "more wait",
+            Ok(32) => "32 wait",
+            Ok(_) => "2 to 31 wait",
             Err(17) => "waiting list 17",
             Err(_) => "waiting list F",
         };

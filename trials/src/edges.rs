@@ -199,18 +199,19 @@ fn chain() -> Edge {
     )
 }
 
+/// Of 32 accounts with a portion each, these come to wait in this order, each for one portion more.
+pub fn waits(accounts: &[u8]) -> (OpeningPage, Vec<Message>) {
+    let ruling = |account: &u8| Message::Ruling(slip(*account, 1, 2, *account));
+    (OpeningPage::of(1, 0, &[1; 32]), accounts.iter().map(ruling).collect())
+}
+
 /// Every account waits for one portion more than it has.
 fn all_wait() -> Edge {
-    let messages: Vec<Message> = (0..32)
-        .map(|account| Message::Ruling(slip(account, 1, 2, account)))
-        .collect();
+    let all: Vec<u8> = (0..32).collect();
+    let (page, messages) = waits(&all);
     let waits: String = (1..33).map(|entry| format!("{entry} K 0\n")).collect();
     let accounts: String = (0..32).map(|account| format!("= {account} 1 0\n")).collect();
-    edge(
-        "every account waits",
-        write(&OpeningPage::of(1, 0, &[1; 32]), &messages),
-        &(waits + &accounts),
-    )
+    edge("every account waits", write(&page, &messages), &(waits + &accounts))
 }
 
 /// This account waits, and no other.

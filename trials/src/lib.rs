@@ -25,3 +25,4 @@ pub mod trial;
 pub mod waiting;
 pub mod wild;
 pub mod writing;
+pub mod wrong_lists;

@@ -14,7 +14,7 @@ use trials::dice::{self, Dice};
 use trials::records::written_again;
 use trials::tallies::{Tallies, CLASSES, WRITTEN_AGAIN};
 use trials::{any_words, damage, daybook, edges, held, known, ledgers, openings};
-use trials::{taken_over, trial, waiting, wild, writing};
+use trials::{taken_over, trial, waiting, wild, writing, wrong_lists};
 
 const USAGE: &str = "trials --examples DIR --program PATH [--seed N] [--bundles N] [--only INDEX]";
 
@@ -194,6 +194,8 @@ fn run(checks: &mut Checks, options: &Options) {
     known::examples(checks, &options.examples, Some(&options.program));
     checks.part("edges");
     try_edges(checks, options);
+    checks.part("waiting lists, wrong on purpose");
+    wrong_lists::all_noticed(checks, &mut Dice::new(options.seed));
     checks.part("exported functions");
     try_functions(checks, options.seed);
     checks.part("words of any content");

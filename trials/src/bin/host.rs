@@ -5,15 +5,17 @@
 //! with the folder of examples. The last line is `N passed, M failed`, and the status is 1 if one failed.
 
 use reference::book::{Book, Message, OpeningPage, Slip};
+use reference::bundle::write;
 use reference::rules::Rules;
 use std::process::ExitCode;
 use trials::any_words::try_opening;
 use trials::checks::Checks;
 use trials::daybook::{acks_needed, is_enough, text_of, waiting};
 use trials::dice::Dice;
-use trials::edges::wait_of;
+use trials::edges::{wait_of, waits};
 use trials::known::{self, page};
 use trials::lent::{Lent, Sent};
+use trials::records::page_bytes;
 use trials::waiting::{compared, written};
 use trials::{taken_over, writing};
 
@@ -132,6 +134,50 @@ fn waiting_lists(checks: &mut Checks, dice: &mut Dice, folder: &str) {
     }
 }
 
+/// Accounts that come to wait in falling order, or in none, are listed lowest first.
+fn lowest_first(checks: &mut Checks, dice: &mut Dice) {
+    let mut list = |came: &[u8], then: &[Message], listed: &[u8]| list_is(checks, dice, came, then, listed);
+    let all: Vec<u8> = (0..32).collect();
+    let falling: Vec<u8> = (0..32).rev().collect();
+    // an account is booked once another pays it what it lacks
+    let pays = |account, recipient| {
+        Message::Ruling(Slip {
+            account,
+            number: 1,
+            value: 1,
+            recipient,
+        })
+    };
+    list(&[31, 17, 0], &[], &[0, 17, 31]);
+    list(&[17, 31, 0], &[], &[0, 17, 31]);
+    list(&[9, 8], &[], &[8, 9]);
+    list(&falling, &[], &all);
+    list(&all, &[], &all);
+    list(&[31, 17, 0], &[pays(5, 17)], &[0, 31]);
+    list(&[31, 17, 0], &[pays(5, 31), pays(6, 0)], &[17]);
+    list(&falling[1..], &[pays(31, 30)], &all[..30]);
+}
+
+/// Accounts came to wait in this order, then messages came: the list behind that bundle, and that of the held book.
+fn list_is(checks: &mut Checks, dice: &mut Dice, came: &[u8], then: &[Message], listed: &[u8]) {
+    let (page, mut messages) = waits(came);
+    messages.extend(then);
+    let bytes = write(&page, &messages);
+    let mut lent = Lent::default();
+    lent.open(&page_bytes(&page));
+    for message in &messages {
+        lent.call(&Sent::of(message));
+    }
+    for length in [32, 33] {
+        let before = dice.bytes(length);
+        let due = |list: &mut [u8]| written(Ok(listed), list);
+        let behind = compared(before.clone(), |list| waiting(&bytes, list), due);
+        checks.same(&format!("{came:?} came, a bundle"), behind, Ok(Ok(listed.len())));
+        let held = compared(before, |list| lent.waiting(list), due);
+        checks.same(&format!("{came:?} came, a held book"), held, Ok(Ok(listed.len())));
+    }
+}
+
 /// A book held from before request 3, in which this seat has acked a home that pays itself: its words are taken over, and the
 /// host goes on with the new ones. That slip meets 20, another of its number 12; acks and rulings for it are taken.
 fn held_book(checks: &mut Checks) {
@@ -191,6 +237,7 @@ fn main() -> ExitCode {
     damaged(&mut checks, &folder);
     checks.part("host: waiting lists");
     waiting_lists(&mut checks, &mut dice, &folder);
+    lowest_first(&mut checks, &mut dice);
     checks.part("host: the writer of bundles");
     writing::examples(&mut checks, &mut dice, &folder);
     writing::known_replies(&mut checks, &mut dice);

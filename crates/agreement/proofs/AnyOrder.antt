@@ -78,7 +78,7 @@ module _ (l : Ledger) where
   pub exchanged : (xs : List ℕ) (y z : ℕ) (zs : List ℕ) → InAnyOrder l (xs ++ y ∷ z ∷ zs) → InAnyOrder l (xs ++ z ∷ y ∷ zs)
   exchanged xs y z zs h = λ a. sym (same-counts a xs y z zs) ∙ h a
 
-  -- of the lists that rise it is the only one,
+  -- of those that rise the one with the lowest account first is the only one,
   pub only-rising : (accounts : List ℕ) → InAnyOrder l accounts → Rising accounts → accounts ≡ waitingAccounts l
   only-rising accounts h rises =
       only-waiting l accounts

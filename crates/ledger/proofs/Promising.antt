@@ -4,12 +4,11 @@ use mathlib.Core.Path.{_≡_, refl, ap, _∙_}
 use mathlib.Core.List.{List, [], _∷_}
 use mathlib.Core.Option.{Option, none, some}
 use lib.ListN.{length}
-use Rattle.model.specs.Types.{Ledger}
 use Rattle.model.specs.declared.Opening.{Opening}
 use Rattle.model.specs.declared.Refusal.{Refusal}
 use Rattle.model.specs.declared.OpenReply.{OpenReply}
 use Rattle.model.specs.declared.ListReply.{ListReply}
-use Rattle.model.specs.Refusals.{firstRefusal, listRules}
+use Rattle.model.specs.Refusals.{firstRefusal}
 use Rattle.model.specs.Replies.{valuesOfOpen, valuesOfList}
 use Rattle.model.specs.Openings.{openRules, openReplyBy, openReply}
 use Rattle.model.specs.Calls.{listReply, ListsBy}

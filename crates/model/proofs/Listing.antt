@@ -13,7 +13,6 @@ use lib.Seq.{drop-append-seam}
 use Rattle.model.specs.Types.{Ledger, Refusal, ListReply, Listed, ListRefused}
 use Rattle.model.specs.Basics.{bit, count, ExactlyThose}
 use Rattle.model.specs.Records.{freshEntry}
-use Rattle.model.specs.Refusals.{firstRefusal, listRules}
 use Rattle.model.specs.Settling.{isWaiting, waiting}
 use Rattle.model.specs.Calls.{waitsAt, waitingAccounts, listReply, listBuffer, ListsBy}
 use Rattle.model.proofs.Sums.{impossible}

@@ -15,6 +15,7 @@ use Rattle.model.specs.Switches.{newest}
 use Rattle.ledger.specs.Promises.{ListedAs}
 use Rattle.bundle.proofs.Asking.{all-ask}
 use Rattle.replay.specs.Text.{ledgerFrom, openingPage}
+use Rattle.replay.specs.Lists.{accountsBehind, refusalBehind}
 use Rattle.replay.proofs.Sound.{sound-count}
 use Rattle.conformance.specs.Texts.{begins, runOf, RunOfBundle, EveryText, EveryRun, EveryList}
 use Rattle.conformance.proofs.EntryRuns.{goes-on, told-lines, ledger-left}
@@ -51,7 +52,7 @@ every-text bytes m s right opens =
     }
 
 pub every-list : EveryList
-unfolding rulesAt ledgerAt
+unfolding rulesAt ledgerAt accountsBehind refusalBehind
 every-list bytes m s xs before reply after right opens run lists =
     let here : ListedAs (ledgerFrom bytes (entryCount bytes - 1) 1 (freshLedger (openingPage bytes))) before reply after = rw (right, opens) at lists in
     let left = ledger-left bytes (openingPage bytes) s (entryCount bytes - 1) 1 begins xs refl (run .asked) in

@@ -16,7 +16,7 @@ use Rattle.layout.specs.Layout.{ledgerIn}
 use Rattle.opening.specs.Promises.{Opens}
 use Rattle.ledger.specs.Promises.{ListedBy}
 use Rattle.replay.specs.Text.{openingPage}
-use Rattle.replay.specs.Lists.{accountsFrom, accountsBehind, SoundList, ListOf}
+use Rattle.replay.specs.Lists.{accountsFrom, accountsBehind, refusalBehind, SoundList, ListOf}
 use Rattle.replay.proofs.Sound.{fresh-words}
 
 -- a list that meets a refusal tells it, and leaves the buffer
@@ -27,6 +27,7 @@ module _ (bytes : List ℕ) {before after : List ℕ} {r : ListReply} where
   -- the answer of the opening page decides what follows
   pub list-opened : (words held : List ℕ) (a : OpenReply) → Opens words (openingPage bytes) a held → a ≡ Opened
       → ListedBy (listRefusal before) (accountsFrom bytes (ledgerIn held)) before r after → SoundList bytes before r after
+  unfolding accountsBehind
   list-opened words held a answer opens h = rw (← answer .reply, opens) (rw (fresh-words words held (openingPage bytes) a answer opens) at h)
 
   pub list-not-opened : (words held : List ℕ) (a : OpenReply) (q : Refusal) → Opens words (openingPage bytes) a held → a ≡ OpenRefused q → r ≡ ListRefused q → after ≡ before
@@ -35,7 +36,9 @@ module _ (bytes : List ℕ) {before after : List ℕ} {r : ListReply} where
 
   -- and so does that of the check
   pub list-of-sound : (m : ℕ) → checkBundle bytes ≡ Sound m → SoundList bytes before r after → ListOf bytes before r after
+  unfolding refusalBehind
   list-of-sound m sound h = rw sound h
 
   pub list-of-refused : (q : Refusal) (i : ℕ) → checkBundle bytes ≡ BundleRefused q i → r ≡ ListRefused q → after ≡ before → ListOf bytes before r after
+  unfolding refusalBehind
   list-of-refused q i refused told kept = rw refused (refused-list q (accountsBehind bytes) before r after told kept)

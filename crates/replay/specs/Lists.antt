@@ -20,7 +20,7 @@ use Rattle.replay.specs.Text.{ledgerFrom, openingPage, opened}
 abbrev pub accountsFrom : List ℕ → Ledger → List ℕ
 accountsFrom bytes l = waitingAccounts (ledgerFrom bytes (entryCount bytes - 1) 1 l)
 
-abbrev pub accountsBehind : List ℕ → List ℕ
+unfoldable pub accountsBehind : List ℕ → List ℕ
 accountsBehind bytes = accountsFrom bytes (freshLedger (openingPage bytes))
 
 -- the refusal of an opening, or of a bundle, and if it has none, one that is met later
@@ -36,7 +36,7 @@ bundleRefusalOr later (Sound m) = later
 abbrev pub soundRefusal : List ℕ → List ℕ → Option Refusal
 soundRefusal bytes before = openingRefusalOr (listRefusal before) (opened bytes)
 
-abbrev pub refusalBehind : List ℕ → List ℕ → Option Refusal
+unfoldable pub refusalBehind : List ℕ → List ℕ → Option Refusal
 refusalBehind bytes before = bundleRefusalOr (soundRefusal bytes before) (checkBundle bytes)
 
 -- the list behind a sound bundle

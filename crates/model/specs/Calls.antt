@@ -142,6 +142,6 @@ pub record ListsBy (q : Option Refusal) (accounts before : List ℕ) (r : ListRe
   pub reply : r ≡ listReply q accounts
   pub buffer : after ≡ listBuffer r accounts before
 
--- "of at least 32 bytes"
+-- "a lent buffer of at least 32 bytes": a shorter one meets 17
 abbrev pub Lists : List ℕ → List ℕ → ListReply → List ℕ → Type 0
 Lists accounts before r after = ListsBy (listRefusal before) accounts before r after

@@ -1,8 +1,9 @@
 -- The waiting list behind a bundle.
 use Prim.Native.Nat.{ℕ}
-use mathlib.Core.Path.{_≡_, ap}
+use mathlib.Core.Path.{_≡_, ap, subst}
 use mathlib.Core.List.{List}
 use mathlib.Core.Option.{some}
+use Rattle.model.specs.Types.{Ledger}
 use Rattle.model.specs.declared.Refusal.{Refusal}
 use Rattle.model.specs.declared.ListReply.{ListReply}
 use Rattle.model.specs.declared.ListReply.the-variants.{ListRefused}
@@ -14,7 +15,7 @@ use Rattle.model.specs.Replies.{valuesOfList}
 use Rattle.model.specs.Bundles.{checkBundle}
 use Rattle.layout.specs.Layout.{ledgerIn}
 use Rattle.opening.specs.Promises.{Opens}
-use Rattle.ledger.specs.Promises.{ListedBy}
+use Rattle.ledger.specs.Promises.{ListedBy, ListedAs}
 use Rattle.replay.specs.Text.{openingPage}
 use Rattle.replay.specs.Lists.{accountsFrom, accountsBehind, refusalBehind, SoundList, ListOf}
 use Rattle.replay.proofs.Sound.{fresh-words}
@@ -22,6 +23,10 @@ use Rattle.replay.proofs.Sound.{fresh-words}
 -- a list that meets a refusal tells it, and leaves the buffer
 refused-list : (q : Refusal) (accounts before : List ℕ) (r : ListReply) (after : List ℕ) → r ≡ ListRefused q → after ≡ before → ListedBy (some q) accounts before r after
 refused-list q accounts before r after told kept = record { lists = record { reply = told; buffer = rw told kept }; told = ap valuesOfList told }
+
+-- the list of the ledger that is held once the entries are played
+pub list-played : {before after : List ℕ} {r : ListReply} (l k : Ledger) → l ≡ k → ListedAs l before r after → ListedAs k before r after
+list-played {before = before} {after = after} {r = r} l k same h = subst (λ (x : Ledger). ListedAs x before r after) same h
 
 module _ (bytes : List ℕ) {before after : List ℕ} {r : ListReply} where
   -- the answer of the opening page decides what follows

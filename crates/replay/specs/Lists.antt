@@ -16,14 +16,14 @@ use Rattle.model.specs.Calls.{waitingAccounts}
 use Rattle.ledger.specs.Promises.{ListedBy}
 use Rattle.replay.specs.Text.{ledgerFrom, openingPage, opened}
 
--- the accounts that wait in the ledger that the bundle's entries leave, from this one on; and from the one that its page opens
+-- the accounts at which a slip waits once the bundle's entries are played on this ledger; and on the one that its page opens
 abbrev pub accountsFrom : List ℕ → Ledger → List ℕ
 accountsFrom bytes l = waitingAccounts (ledgerFrom bytes (entryCount bytes - 1) 1 l)
 
 unfoldable pub accountsBehind : List ℕ → List ℕ
 accountsBehind bytes = accountsFrom bytes (freshLedger (openingPage bytes))
 
--- the refusal of an opening, or of a bundle, and if it has none, one that is met later
+-- the refusal of an opening; and of a bundle; where there is none, one that is tried later
 abbrev pub openingRefusalOr : Option Refusal → OpenReply → Option Refusal
 openingRefusalOr later (OpenRefused r) = some r
 openingRefusalOr later Opened = later
@@ -32,7 +32,7 @@ abbrev pub bundleRefusalOr : Option Refusal → BundleReply → Option Refusal
 bundleRefusalOr later (BundleRefused r i) = some r
 bundleRefusalOr later (Sound m) = later
 
--- the refusal that the list behind a sound bundle meets; and behind any bundle
+-- the refusal that the list behind a sound bundle meets: its opening's, else 17; and behind any bundle: that of the bundle first
 abbrev pub soundRefusal : List ℕ → List ℕ → Option Refusal
 soundRefusal bytes before = openingRefusalOr (listRefusal before) (opened bytes)
 

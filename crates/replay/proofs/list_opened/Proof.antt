@@ -1,5 +1,6 @@
 -- The list of the book that the entries leave.
 use borrow.Author.Needs.{needs}
+use Rattle.replay.proofs.Listing.{list-played}
 use Rattle.replay.proofs.list_opened.Statement.{statement}
 use Rattle.replay.proofs.list_opened.Tie as tie
 
@@ -16,7 +17,7 @@ same-length : tie.Need-same-length
 same-length c = search needs
 
 returns : tie.Need-returns
-returns c = rw (← c .before .before .before .before .before .before .play .ensures .ledger) (c .before .before .list-waiting .ensures)
+returns c = list-played _ _ (c .before .before .before .before .before .before .play .ensures .ledger) (c .before .before .list-waiting .ensures)
 
 pub list-opened-spec : {M : Type 1} → statement M
 list-opened-spec =

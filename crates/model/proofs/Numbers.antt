@@ -1,13 +1,14 @@
--- Numbers of so many bytes: written and read back, and read and written out, each one law over the width.
+-- Numbers of so many bytes: written and read back, and read and written out, each one law over the width; and so for numbers of 4 bytes, one behind
+-- another. A sum is a number of 4 bytes.
 use Prim.Native.Nat.{ℕ, zero, suc, _+_, _*_, _/_, _%_, _≤_, _<_}
 use native.Mathlib.Numerals.{add-one}
 use native.Mathlib.Omega.{arith}
-use mathlib.Core.Path.{_≡_, refl, ap, _∙_}
+use mathlib.Core.Path.{_≡_, refl, ap, sym, _∙_}
 use mathlib.Core.List.{List, [], _∷_, _++_}
-use lib.ListN.{length, take, drop, length-drop}
-use lib.Seq.{getD-drop}
-use Rattle.model.specs.Bundles.{numberAt}
-use Rattle.model.specs.Writing.{numberBytes, Bytes}
+use lib.ListN.{length, getD, take, drop, length-drop}
+use lib.Seq.{getD-drop, drop-drop, take-add}
+use Rattle.model.specs.Bundles.{numberAt, number4, wordsFrom, sumFrom, bodySum}
+use Rattle.model.specs.Writing.{numberBytes, wordBytes, Bytes}
 
 -- how many numbers so many bytes can tell
 abbrev pub numberLimit : ℕ → ℕ
@@ -89,3 +90,62 @@ taken-bytes bytes zero small i = omega arith
 taken-bytes [] (suc n) small i = omega arith
 taken-bytes (b ∷ bytes) (suc n) small zero = small 0
 taken-bytes (b ∷ bytes) (suc n) small (suc i) = taken-bytes bytes n (λ k. small (suc k)) i
+
+-- the same parts make the same whole
+pub joined : {a b c d : List ℕ} → a ≡ c → b ≡ d → a ++ b ≡ c ++ d
+joined p q = cc
+
+-- Numbers of 4 bytes, one behind another: how many bytes, and that they are bytes;
+pub words-length : (xs : List ℕ) → length (wordBytes xs) ≡ 4 * length xs
+words-length [] = refl
+words-length (x ∷ xs) = omega (arith, words-length xs)
+
+pub word-bytes : (xs : List ℕ) → Bytes (wordBytes xs)
+word-bytes [] = no-bytes
+word-bytes (x ∷ xs) = more-bytes (numberBytes 4 x) (wordBytes xs) (number-bytes 4 x) (word-bytes xs)
+
+-- how many are read, and each of them;
+pub words-count : (left at : ℕ) (bytes : List ℕ) → length (wordsFrom left at bytes) ≡ left
+words-count zero at bytes = refl
+words-count (suc left) at bytes = ap suc (words-count left (at + 4) bytes)
+
+pub words-at : (left at i : ℕ) (bytes : List ℕ) → i < left → getD (wordsFrom left at bytes) i 0 ≡ number4 bytes (at + 4 * i)
+words-at zero at i bytes h = absurd (omega arith)
+words-at (suc left) at zero bytes h = let here : at ≡ at + 4 * 0 = omega arith in ap (number4 bytes) here
+words-at (suc left) at (suc i) bytes h =
+    let place : at + 4 + 4 * i ≡ at + 4 * suc i = omega arith in
+    words-at left (at + 4) i bytes (omega arith) ∙ ap (number4 bytes) place
+
+-- what is written is read, whatever stands behind it;
+pub words-read : (xs : List ℕ) (at : ℕ) (bytes rest : List ℕ) → ((i : ℕ) → getD xs i 0 < 4_294_967_296) → drop at bytes ≡ wordBytes xs ++ rest
+    → wordsFrom (length xs) at bytes ≡ xs
+words-read [] at bytes rest small e = refl
+words-read (x ∷ xs) at bytes rest small e =
+    let behind : drop (at + 4) bytes ≡ wordBytes xs ++ rest = sym (drop-drop 4 at bytes) ∙ ap (drop 4) e in
+    rw (
+      number-read 4 x at bytes (wordBytes xs ++ rest) (small 0) e,
+      words-read xs (at + 4) bytes rest (λ i. small (suc i)) behind,
+    )
+
+-- and what is read is written, and fits in 4 bytes.
+module _ (bytes : List ℕ) (small : Bytes bytes) where
+  pub words-back : (left at : ℕ) → at + 4 * left ≤ length bytes → wordBytes (wordsFrom left at bytes) ≡ take (4 * left) (drop at bytes)
+  words-back zero at h = refl
+  words-back (suc left) at h =
+      let first = number-written 4 bytes at small (omega arith) in
+      let others = words-back left (at + 4) (omega arith) ∙ ap (take (4 * left)) (sym (drop-drop 4 at bytes)) in
+      let size : 4 + 4 * left ≡ 4 * suc left = omega arith in
+      joined first others ∙ sym (take-add 4 (4 * left) (drop at bytes)) ∙ ap (λ (n : ℕ). take n (drop at bytes)) size
+
+  pub words-small : (left at i : ℕ) → getD (wordsFrom left at bytes) i 0 < 4_294_967_296
+  words-small zero at i = omega arith
+  words-small (suc left) at zero = number-small 4 bytes at small
+  words-small (suc left) at (suc i) = words-small left (at + 4) i
+
+-- the sum of a body is a number of four bytes
+sum-from : (s : ℕ) (body : List ℕ) → s < 4_294_967_296 → sumFrom s body < 4_294_967_296
+sum-from s [] h = h
+sum-from s (b ∷ body) h = sum-from ((31 * s + b) % 4_294_967_296) body (omega arith)
+
+pub sum-below : (body : List ℕ) → bodySum body < 4_294_967_296
+sum-below body = sum-from 0 body (omega arith)

@@ -22,6 +22,11 @@ number2 bytes at = numberAt 2 bytes at
 abbrev pub number4 : List ℕ → ℕ → ℕ
 number4 bytes at = numberAt 4 bytes at
 
+-- so many numbers of 4 bytes, one behind another, from a place on
+abbrev pub wordsFrom : ℕ → ℕ → List ℕ → List ℕ
+wordsFrom zero at bytes = []
+wordsFrom (suc left) at bytes = number4 bytes at ∷ wordsFrom left (at + 4) bytes
+
 -- "First m in two bytes"
 abbrev pub entryCount : List ℕ → ℕ
 entryCount bytes = number2 bytes 0
@@ -145,17 +150,13 @@ abbrev pub readNext : List ℕ → ℕ → Reading
 readNext bytes i = cond (ltb i (entryCount bytes)) (taken (pageAt bytes i) (i + 1)) (noMore i)
 
 -- "Kind 0 is the opening page: n, f, k (1 byte each), 32 balances (4 each)."
-abbrev pub balancesFrom : ℕ → ℕ → List ℕ → List ℕ
-balancesFrom zero at body = []
-balancesFrom (suc left) at body = number4 body at ∷ balancesFrom left (at + 4) body
-
 abbrev pub openingOf : List ℕ → Opening
 openingOf body =
     record {
       seats = getD body 0 0;
       faults = getD body 1 0;
       accounts = getD body 2 0;
-      balances = balancesFrom 32 3 body;
+      balances = wordsFrom 32 3 body;
     }
 
 -- "account (1), number (4), value (4), recipient (1)"

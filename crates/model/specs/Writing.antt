@@ -11,14 +11,15 @@ abbrev pub numberBytes : ℕ → ℕ → List ℕ
 numberBytes zero x = []
 numberBytes (suc width) x = x % 256 ∷ numberBytes width (x / 256)
 
--- "Kind 0 is the opening page: n, f, k (1 byte each), 32 balances (4 each)."
-abbrev pub balanceBytes : List ℕ → List ℕ
-balanceBytes [] = []
-balanceBytes (b ∷ bs) = numberBytes 4 b ++ balanceBytes bs
+-- numbers of 4 bytes, one behind another
+abbrev pub wordBytes : List ℕ → List ℕ
+wordBytes [] = []
+wordBytes (x ∷ xs) = numberBytes 4 x ++ wordBytes xs
 
+-- "Kind 0 is the opening page: n, f, k (1 byte each), 32 balances (4 each)."
 abbrev pub pageZero : Opening → Page
 pageZero o =
-    record { kind = 0; seat = 0; body = o .seats ∷ o .faults ∷ o .accounts ∷ balanceBytes (o .balances) }
+    record { kind = 0; seat = 0; body = o .seats ∷ o .faults ∷ o .accounts ∷ wordBytes (o .balances) }
 
 -- "account (1), number (4), value (4), recipient (1)"
 abbrev pub transferBytes : Transfer → List ℕ

@@ -9,7 +9,7 @@ use model::Opening;
 use model::Seat;
 use model::Transfer;
 ghost use mathlib.Core.Path.{_≡_};
-ghost use Rattle.model.specs.Bundles.{balancesFrom, openingOf, transferOf, pageOf, messageOf};
+ghost use Rattle.model.specs.Bundles.{wordsFrom, openingOf, transferOf, pageOf, messageOf};
 ghost use Rattle.pages.specs.Results.{asks};
 
 // The message of a page, if it holds one.
@@ -20,7 +20,7 @@ pub enum Asked {
 
 // The balances of an opening page, which stand behind n, f and k.
 fn balances_of(body: &[u8]) -> [u32; 32]
-    ensures { λ r. ⌜ r ≡ balancesFrom 32 3 (now (body .entry)) ⌝ }
+    ensures { λ r. ⌜ r ≡ wordsFrom 32 3 (now (body .entry)) ⌝ }
 {
     let mut balances: [u32; 32] = [0; 32];
     let mut i: u32 = 0;

@@ -1,21 +1,20 @@
 -- One page: what is written of it is read, how long its body is, that its entry is right wherever it stands, and that all of it is bytes.
-use Prim.Native.Nat.{ℕ, suc, _+_, _*_, _%_, _≤_, _<_}
+use Prim.Native.Nat.{ℕ, suc, _≤_, _<_}
 use native.Mathlib.Omega.{arith}
 use mathlib.Core.Path.{_≡_, refl, ap, sym, _∙_}
 use mathlib.Core.Bool.{false}
-use mathlib.Core.List.{List, [], _∷_, _++_}
+use mathlib.Core.List.{[], _∷_, _++_, append-nil}
 use mathlib.Core.Option.{some}
 use lib.Dec.{eqb·suc-zero}
-use lib.ListN.{length, getD, drop}
-use lib.Seq.{drop-drop}
+use lib.ListN.{length}
 use borrow.Author.Tests.{eq-eqb}
 use Rattle.model.specs.declared.Transfer.{Transfer}
 use Rattle.model.specs.declared.Opening.{Opening}
 use Rattle.model.specs.declared.Message.{Message}
 use Rattle.model.specs.declared.Message.the-variants.{Request, Circulated, Ack, Decision, Inquiry}
-use Rattle.model.specs.Bundles.{bodyLength, sumFrom, bodySum, Page, wrongEntry, balancesFrom, openingOf, transferOf, messageOf}
-use Rattle.model.specs.Writing.{numberBytes, Bytes, balanceBytes, pageZero, transferBytes, messagePage}
-use Rattle.model.proofs.Numbers.{number-read, number-bytes, no-bytes, one-byte, more-bytes}
+use Rattle.model.specs.Bundles.{bodyLength, Page, wrongEntry, wordsFrom, openingOf, transferOf, messageOf}
+use Rattle.model.specs.Writing.{numberBytes, Bytes, wordBytes, pageZero, transferBytes, messagePage}
+use Rattle.model.proofs.Numbers.{number-read, number-bytes, no-bytes, one-byte, more-bytes, words-length, words-read, word-bytes}
 use Rattle.writer.specs.RoundTrips.{TransferFits, MessageFits, OpeningFits}
 
 -- a transfer's ten bytes
@@ -35,27 +34,12 @@ message-read (Ack s t) fits = rw (transfer-read t (fits .1))
 message-read (Decision t) fits = rw (transfer-read t fits)
 message-read (Inquiry a) fits = refl
 
--- so many balances of four bytes
-balances-length : (bs : List ℕ) → length (balanceBytes bs) ≡ 4 * length bs
-balances-length [] = refl
-balances-length (b ∷ bs) = omega (arith, balances-length bs)
-
-balances-read : (bs : List ℕ) (at : ℕ) (bytes : List ℕ) → ((i : ℕ) → getD bs i 0 < 4_294_967_296) → drop at bytes ≡ balanceBytes bs
-    → balancesFrom (length bs) at bytes ≡ bs
-balances-read [] at bytes small e = refl
-balances-read (b ∷ bs) at bytes small e =
-    let behind : drop (at + 4) bytes ≡ balanceBytes bs = sym (drop-drop 4 at bytes) ∙ ap (drop 4) e in
-    rw (
-      number-read 4 b at bytes (balanceBytes bs) (small 0) e,
-      balances-read bs (at + 4) bytes (λ i. small (suc i)) behind,
-    )
-
 -- an opening page is read as it was written
 pub opening-read : (o : Opening) → OpeningFits o → openingOf (pageZero o .body) ≡ o
 opening-read o fits =
-    let balances : balancesFrom 32 3 (pageZero o .body) ≡ o .balances =
-    ap (λ n. balancesFrom n 3 (pageZero o .body)) (sym (fits .count))
-    ∙ balances-read (o .balances) 3 (pageZero o .body) (fits .balances) refl in
+    let balances : wordsFrom 32 3 (pageZero o .body) ≡ o .balances =
+    ap (λ n. wordsFrom n 3 (pageZero o .body)) (sym (fits .count))
+    ∙ words-read (o .balances) 3 (pageZero o .body) [] (fits .balances) (sym (append-nil (wordBytes (o .balances)))) in
     ap (λ bs. record { seats = o .seats; faults = o .faults; accounts = o .accounts; balances = bs }) balances
 
 -- What a page has wherever it stands in a bundle: a body of its kind's length, and an entry that is right with its start.
@@ -65,7 +49,7 @@ pub record Right (i : ℕ) (p : Page) : Type 0 where
 
 pub opening-right : (o : Opening) → length (o .balances) ≡ 32 → Right 0 (pageZero o)
 opening-right o count =
-    record { size = omega (arith, balances-length (o .balances)); entry = λ start sum. rw (eq-eqb start start refl) }
+    record { size = omega (arith, words-length (o .balances)); entry = λ start sum. rw (eq-eqb start start refl) }
 
 pub message-right : (m : Message) (i : ℕ) → Right (suc i) (messagePage m)
 message-right (Request t) i = record { size = refl; entry = λ start sum. rw (eqb·suc-zero i, eq-eqb start start refl) }
@@ -81,14 +65,6 @@ message-short (Circulated t) = omega arith
 message-short (Ack s t) = omega arith
 message-short (Decision t) = omega arith
 message-short (Inquiry a) = omega arith
-
--- the sum of a body is a number of four bytes
-sum-from : (s : ℕ) (body : List ℕ) → s < 4_294_967_296 → sumFrom s body < 4_294_967_296
-sum-from s [] h = h
-sum-from s (b ∷ body) h = sum-from ((31 * s + b) % 4_294_967_296) body (omega arith)
-
-pub sum-below : (body : List ℕ) → bodySum body < 4_294_967_296
-sum-below body = sum-from 0 body (omega arith)
 
 -- What of a page is written is bytes.
 pub record PageBytes (p : Page) : Type 0 where
@@ -113,18 +89,14 @@ message-bytes (Ack s t) fits = record { kind = omega arith; seat = fits .0; body
 message-bytes (Decision t) fits = record { kind = omega arith; seat = omega arith; body = transfer-bytes t fits }
 message-bytes (Inquiry a) fits = record { kind = omega arith; seat = omega arith; body = one-byte (a .0) fits [] no-bytes }
 
-balance-bytes : (bs : List ℕ) → Bytes (balanceBytes bs)
-balance-bytes [] = no-bytes
-balance-bytes (b ∷ bs) = more-bytes (numberBytes 4 b) (balanceBytes bs) (number-bytes 4 b) (balance-bytes bs)
-
 pub opening-bytes : (o : Opening) → OpeningFits o → PageBytes (pageZero o)
 opening-bytes o fits =
-    let balances = balanceBytes (o .balances) in
+    let balances = wordBytes (o .balances) in
     record {
       kind = omega arith;
       seat = omega arith;
       body =
           one-byte (o .seats) (fits .seats) (o .faults ∷ o .accounts ∷ balances)
           (one-byte (o .faults) (fits .faults) (o .accounts ∷ balances)
-          (one-byte (o .accounts) (fits .accounts) balances (balance-bytes (o .balances))));
+          (one-byte (o .accounts) (fits .accounts) balances (word-bytes (o .balances))));
     }

@@ -1,29 +1,25 @@
 -- A page of a bundle that is read and written out again is the same page, and what is read fits its types.
-use Prim.Native.Nat.{ℕ, zero, suc, _+_, _*_, _≤_, _<_}
+use Prim.Native.Nat.{ℕ, zero, suc, _≤_, _<_}
 use native.Mathlib.Omega.{arith}
 use mathlib.Core.Path.{_≡_, refl, ap, sym, _∙_}
 use mathlib.Core.Bool.{false, not, _&&_}
-use mathlib.Core.List.{List, [], _∷_, _++_}
+use mathlib.Core.List.{List, [], _∷_}
 use mathlib.Core.Option.{some}
 use lib.Dec.{eqb}
 use lib.ListN.{length, getD, take, drop, length-drop}
-use lib.Seq.{take-all, drop-cons, drop-drop, take-add}
+use lib.Seq.{take-all, drop-cons, take-add}
 use Rattle.model.specs.declared.Message.{Message}
 use Rattle.model.specs.declared.Message.the-variants.{Request, Circulated, Ack, Decision, Inquiry}
 use Rattle.model.specs.Records.{seatOf, accountOf}
-use Rattle.model.specs.Bundles.{Page, bodyLength, balancesFrom, openingOf, transferOf, messageOf}
-use Rattle.model.specs.Writing.{Bytes, balanceBytes, pageZero, transferBytes, messagePage}
-use Rattle.model.proofs.Numbers.{number-written, number-small}
+use Rattle.model.specs.Bundles.{Page, bodyLength, openingOf, transferOf, messageOf}
+use Rattle.model.specs.Writing.{Bytes, pageZero, transferBytes, messagePage}
+use Rattle.model.proofs.Numbers.{number-written, number-small, joined, words-back, words-small}
 use Rattle.bundle.proofs.Longest.{no-difference}
 use Rattle.writer.specs.RoundTrips.{TransferFits, MessageFits, OpeningFits}
 
 -- a byte at a place, by itself
 byte-there : (bytes : List ℕ) (at : ℕ) → at < length bytes → getD bytes at 0 ∷ [] ≡ take 1 (drop at bytes)
 byte-there bytes at h = rw (drop-cons bytes at 0 h)
-
--- the same parts make the same whole
-pub joined : {a b c d : List ℕ} → a ≡ c → b ≡ d → a ++ b ≡ c ++ d
-joined p q = cc
 
 -- a list by its first three and what is behind them
 three-first : (xs : List ℕ) {rest : List ℕ} → 3 ≤ length xs → rest ≡ drop 3 xs
@@ -48,30 +44,15 @@ module _ (body : List ℕ) (small : Bytes body) where
   transfer-fits =
       record { account = small 0; number = number-small 4 body 1 small; value = number-small 4 body 5 small; recipient = small 9 }
 
-  -- the balances of an opening page
-  balances-back : (left at : ℕ) → at + 4 * left ≤ length body
-      → balanceBytes (balancesFrom left at body) ≡ take (4 * left) (drop at body)
-  balances-back zero at h = refl
-  balances-back (suc left) at h =
-      let first = number-written 4 body at small (omega arith) in
-      let others = balances-back left (at + 4) (omega arith) ∙ ap (take (4 * left)) (sym (drop-drop 4 at body)) in
-      let size : 4 + 4 * left ≡ 4 * suc left = omega arith in
-      joined first others ∙ sym (take-add 4 (4 * left) (drop at body)) ∙ ap (λ (n : ℕ). take n (drop at body)) size
-
-  balances-small : (left at i : ℕ) → getD (balancesFrom left at body) i 0 < 4_294_967_296
-  balances-small zero at i = omega arith
-  balances-small (suc left) at zero = number-small 4 body at small
-  balances-small (suc left) at (suc i) = balances-small left (at + 4) i
-
   -- an opening page
   opening-back : length body ≡ 131 → pageZero (openingOf body) .body ≡ body
   opening-back size =
       let left = length-drop 3 body in
-      three-first body (omega arith) (balances-back 32 3 (omega arith) ∙ take-all 128 (drop 3 body) (omega arith))
+      three-first body (omega arith) (words-back body small 32 3 (omega arith) ∙ take-all 128 (drop 3 body) (omega arith))
 
   pub opening-fits : OpeningFits (openingOf body)
   opening-fits =
-      record { seats = small 0; faults = small 1; accounts = small 2; count = refl; balances = balances-small 32 3 }
+      record { seats = small 0; faults = small 1; accounts = small 2; count = refl; balances = words-small body small 32 3 }
 
   -- the account of a balance question
   account-back : length body ≡ 1 → getD body 0 0 ∷ [] ≡ body

@@ -1,10 +1,11 @@
 // The bodies of pages, written at a place of a lent buffer: of a message, and of the opening page.
 use crate::numbers::put_number4;
+use crate::numbers::put_words;
 use basics::output::put;
 use model::Message;
 use model::Opening;
 use model::Transfer;
-ghost use Rattle.model.specs.Writing.{balanceBytes, pageZero, transferBytes, messagePage};
+ghost use Rattle.model.specs.Writing.{pageZero, transferBytes, messagePage};
 ghost use Rattle.basics.specs.Outputs.{Writes};
 
 // A transfer's ten bytes: account (1), number (4), value (4), recipient (1).
@@ -32,19 +33,6 @@ pub fn put_message(out: &mut [u8], at: usize, m: Message) -> usize
     }
 }
 
-// The balances of an opening page.
-fn put_balances(out: &mut [u8], at: usize, balances: [u32; 32]) -> usize
-    ensures { λ r. ⌜ Writes (now (out .entry)) at (balanceBytes balances) 128 (now (out .exit)) r ⌝ }
-{
-    let mut place = at;
-    let mut i: usize = 0;
-    while i < 32 {
-        place = put_number4(out, place, balances[i]);
-        i += 1;
-    }
-    place
-}
-
 // The opening page's body: n, f, k, 32 balances.
 pub fn put_opening(out: &mut [u8], at: usize, page: Opening) -> usize
     ensures { λ r. ⌜ Writes (now (out .entry)) at (pageZero page .body) 131 (now (out .exit)) r ⌝ }
@@ -53,5 +41,5 @@ pub fn put_opening(out: &mut [u8], at: usize, page: Opening) -> usize
     let faults = put(out, at, page.seats);
     let accounts = put(out, faults, page.faults);
     let first = put(out, accounts, page.accounts);
-    put_balances(out, first, balances)
+    put_words(out, first, &balances)
 }

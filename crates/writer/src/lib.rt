@@ -22,7 +22,7 @@ ghost use Rattle.writer.specs.Promises.{WroteList, firstStart};
 
 mod bodies;
 mod contents;
-mod numbers;
+pub mod numbers;
 pub mod records;
 mod sums;
 

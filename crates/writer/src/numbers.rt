@@ -1,8 +1,10 @@
 // Numbers as bytes, little-endian: one function for each width, the inverse of the one in `pages::numbers` that reads it; and the bytes written at a place
 // of a lent buffer, where the place behind them is replied.
 use basics::output::put;
+ghost use Prim.Native.Nat.{_*_};
 ghost use mathlib.Core.Path.{_≡_};
-ghost use Rattle.model.specs.Writing.{numberBytes};
+ghost use lib.ListN.{length};
+ghost use Rattle.model.specs.Writing.{numberBytes, wordBytes};
 ghost use Rattle.basics.specs.Outputs.{Writes};
 
 // The bytes of a number of 2.
@@ -46,4 +48,17 @@ pub fn put_number4(out: &mut [u8], at: usize, x: u32) -> usize
     let at2 = put(out, at1, b[1]);
     let at3 = put(out, at2, b[2]);
     put(out, at3, b[3])
+}
+
+// Numbers of 4 bytes, one behind another, written.
+pub fn put_words(out: &mut [u8], at: usize, words: &[u32]) -> usize
+    ensures { λ r. ⌜ Writes (now (out .entry)) at (wordBytes (now (words .entry))) (4 * length (now (words .entry))) (now (out .exit)) r ⌝ }
+{
+    let mut place = at;
+    let mut i: usize = 0;
+    while i < words.len() {
+        place = put_number4(out, place, words[i]);
+        i += 1;
+    }
+    place
 }

@@ -6,7 +6,7 @@ use model::Opening;
 use model::Transfer;
 ghost use mathlib.Core.Path.{_≡_};
 ghost use Rattle.model.specs.Bundles.{sumFrom, bodySum};
-ghost use Rattle.model.specs.Writing.{numberBytes, balanceBytes, pageZero, transferBytes, messagePage};
+ghost use Rattle.model.specs.Writing.{numberBytes, wordBytes, pageZero, transferBytes, messagePage};
 
 // The sum with the four bytes of a number more.
 fn with_number4(s: u32, x: u32) -> u32
@@ -44,7 +44,7 @@ pub fn message_sum(m: Message) -> u32
 
 // The sum with the balances of an opening page more.
 fn with_balances(s: u32, balances: [u32; 32]) -> u32
-    ensures { λ r. ⌜ r ≡ sumFrom s (balanceBytes balances) ⌝ }
+    ensures { λ r. ⌜ r ≡ sumFrom s (wordBytes balances) ⌝ }
 {
     let mut sum = s;
     let mut i: usize = 0;

@@ -1,43 +1,22 @@
--- The loop's invariant: the balances that are read, followed by those that the bytes still hold, are all of them.
-use Prim.Native.Nat.{ℕ, suc, _+_, _*_, _-_, _≤_, _<_}
-use native.Mathlib.Numerals.{add-one}
+-- The loop's invariant: the balances before `i` are those that the bytes hold.
+use Prim.Native.Nat.{_-_}
 use native.Mathlib.Omega.{arith}
 use borrow.Author.Needs.{needs}
-use mathlib.Core.Path.{_≡_, refl, sym, _∙_}
-use mathlib.Core.List.{List, _++_, append-nil}
-use lib.ListN.{length, take, set, length-set}
-use lib.Seq.{take-all, take-suc-set, append-snoc}
-use Rattle.model.specs.Bundles.{number4, balancesFrom}
+use mathlib.Core.Path.{refl, sym, _∙_}
+use Rattle.model.specs.Bundles.{wordsFrom}
+use Rattle.model.proofs.Numbers.{words-count, words-at}
+use Rattle.basics.proofs.Filling.{Filled, filled-none, filled-more, filled-all}
 use Rattle.pages.proofs.messages.balances_of.Statement.{statement}
 use Rattle.pages.proofs.messages.balances_of.Tie as tie
 
--- the first i of these balances, then those that the bytes hold from the i-th on
-abbrev readSoFar : List ℕ → List ℕ → ℕ → List ℕ
-readSoFar bytes balances i = take i balances ++ balancesFrom (32 - i) (3 + 4 * i) bytes
-
 abbrev Inv-loop : tie.InvT-loop
-Inv-loop bytes balances₀ i₀ balances i = (length balances ≡ 32) × (readSoFar bytes balances i ≡ balancesFrom 32 3 bytes)
+Inv-loop bytes balances₀ i₀ balances i = Filled (wordsFrom 32 3 bytes) balances i
 
 abbrev μ-loop : tie.MeasureT-loop
 μ-loop bytes balances₀ i₀ balances i = 32 - i
 
-module _ (bytes balances : List ℕ) (i : ℕ) (size : length balances ≡ 32) where
-  read-more : (b : ℕ) → b ≡ number4 bytes (3 + 4 * i) → i < 32
-      → readSoFar bytes (set balances i b) (i + 1) ≡ readSoFar bytes balances i
-  read-more b e h =
-      let within : i < length balances = omega arith in
-      let left : 32 - i ≡ suc (32 - suc i) = omega arith in
-      let place : 3 + 4 * suc i ≡ 3 + 4 * i + 4 = omega arith in
-      rw (add-one i, left, place, take-suc-set balances i b within, e) (append-snoc (take i balances) _ _)
-
-  read-all : 32 ≤ i → readSoFar bytes balances i ≡ balances
-  read-all h =
-      let over : length balances ≤ i = omega arith in
-      let left : 32 - i ≡ 0 = omega arith in
-      rw (left, take-all i balances over) (append-nil balances)
-
 loop-holds : tie.Need-loop-holds Inv-loop μ-loop
-loop-holds c = (refl, refl)
+loop-holds c = filled-none refl
 
 mul-number4-at : tie.Need-mul-number4-at Inv-loop μ-loop
 mul-number4-at c = omega arith
@@ -55,7 +34,7 @@ mul-balances : tie.Need-mul-balances Inv-loop μ-loop
 mul-balances c = omega arith
 
 array-write-balances : tie.Need-array-write-balances Inv-loop μ-loop
-array-write-balances c = omega arith
+array-write-balances c = omega (arith, c .before .before .loop .inv .size)
 
 add-i : tie.Need-add-i Inv-loop μ-loop
 add-i c = omega arith
@@ -66,16 +45,12 @@ loop-less c = omega arith
 loop-again : tie.Need-loop-again Inv-loop μ-loop
 loop-again c =
     let bytes = c .before .before .before .before .args .body .now in
-    let loop = c .before .before .loop in (
-      rw length-set (loop .inv .0),
-      read-more bytes (loop .balances) (loop .i) (loop .inv .0) _ (c .number4-at .ensures) (omega arith) ∙ loop .inv .1,
-    )
+    let loop = c .before .before .loop in
+    let inside = words-count 32 3 bytes in
+    filled-more (loop .inv) _ 0 (omega arith) (c .number4-at .ensures ∙ sym (words-at 32 3 (loop .i) bytes (omega arith)))
 
 returns : tie.Need-returns Inv-loop μ-loop
-returns c =
-    let bytes = c .before .before .before .args .body .now in
-    let loop = c .before .loop in
-    sym (read-all bytes (loop .balances) (loop .i) (loop .inv .0) (omega arith)) ∙ loop .inv .1
+returns c = filled-all (c .before .loop .inv) (omega arith)
 
 pub balances-of-spec : {M : Type 1} → statement M
 balances-of-spec =

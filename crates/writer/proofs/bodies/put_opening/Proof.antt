@@ -1,5 +1,6 @@
 -- n, f, k, then the balances.
-use Rattle.basics.proofs.Writing.{then}
+use native.Mathlib.Omega.{arith}
+use Rattle.basics.proofs.Writing.{then, within}
 use borrow.Author.Needs.{needs}
 use Rattle.writer.proofs.bodies.put_opening.Statement.{statement}
 use Rattle.writer.proofs.bodies.put_opening.Tie as tie
@@ -13,8 +14,11 @@ put-requires-2 c κs = search needs
 put-requires-3 : tie.Need-put-requires-3
 put-requires-3 c κs = search needs
 
-put-balances-requires : tie.Need-put-balances-requires
-put-balances-requires c κs = search needs
+slice-aggregate-put-words : tie.Need-slice-aggregate-put-words
+slice-aggregate-put-words c = search needs
+
+put-words-requires : tie.Need-put-words-requires
+put-words-requires c κs = search needs
 
 same-length : tie.Need-same-length
 same-length c = search needs
@@ -22,12 +26,19 @@ same-length c = search needs
 returns : tie.Need-returns
 returns c =
     let balances = c .before .before in
-    let accounts = balances .before .before .before .before in
+    let accounts = balances .before .before .before .before .before in
     let faults = accounts .before .before .before .before in
     let seats = faults .before .before .before .before in
-    then (seats .put .ensures) (then (faults .put2 .ensures) (then (accounts .put3 .ensures) (balances .put-balances .ensures)))
+    within (omega (arith, slice-aggregate-put-words (balances .before))) (then (seats .put .ensures) (then (faults .put2 .ensures) (then (accounts .put3 .ensures) (balances .put-words .ensures))))
 
 pub put-opening-spec : {M : Type 1} → statement M
 put-opening-spec =
     tie.close
-    (tie.spec put-requires put-requires-2 put-requires-3 put-balances-requires same-length returns)
+    (tie.spec
+    put-requires
+    put-requires-2
+    put-requires-3
+    slice-aggregate-put-words
+    put-words-requires
+    same-length
+    returns)

@@ -5,14 +5,14 @@ use mathlib.Core.Path.{_≡_, refl, ap}
 use lib.ListN.{length, drop}
 use borrow.Author.Needs.{needs}
 use Rattle.model.specs.Bundles.{sumFrom}
-use Rattle.model.specs.Writing.{balanceBytes}
+use Rattle.model.specs.Writing.{wordBytes}
 use Rattle.basics.proofs.Arrays.{array-length}
 use Rattle.basics.proofs.Loops.{one-left, none-left}
 use Rattle.writer.proofs.sums.with_balances.Statement.{statement}
 use Rattle.writer.proofs.sums.with_balances.Tie as tie
 
 abbrev Inv-loop : tie.InvT-loop
-Inv-loop s balances sum₀ i₀ sum i = sumFrom sum (balanceBytes (drop i balances)) ≡ sumFrom s (balanceBytes balances)
+Inv-loop s balances sum₀ i₀ sum i = sumFrom sum (wordBytes (drop i balances)) ≡ sumFrom s (wordBytes balances)
 
 abbrev μ-loop : tie.MeasureT-loop
 μ-loop s balances sum₀ i₀ sum i = 32 - i
@@ -43,7 +43,7 @@ loop-again : tie.Need-loop-again Inv-loop μ-loop
 loop-again c =
     let start = c .before .before .before in
     let loop = c .before .before .loop in
-    let one = ap balanceBytes (one-left (start .args .t2) (loop .i) 0 (omega (arith, count start))) in
+    let one = ap wordBytes (one-left (start .args .t2) (loop .i) 0 (omega (arith, count start))) in
     rw (c .with-number4 .ensures) (rw one at (loop .inv))
 
 returns : tie.Need-returns Inv-loop μ-loop

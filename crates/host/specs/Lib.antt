@@ -1,5 +1,7 @@
 -- What the exported functions promise beside the model's definitions.
+pub mod Handing
 pub mod Messages
+pub mod Keeping
 pub mod Quorums
 pub mod Waiting
-pub mod BundleWriting
+pub mod Bundles

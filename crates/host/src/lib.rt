@@ -1,55 +1,79 @@
 // What a host in Rust or C calls: the exported functions of the static library. Each takes any numbers and any bytes, and its
-// contract fixes the result by the documents' definitions. In C a slice is a pointer and a length, an array the pointer alone.
+// contract fixes the result by the documents' definitions. In C a slice is a pointer and a length, an array the pointer alone;
+// include/saplull.h states each of them for C.
+use crate::handing::answer;
+use crate::handing::check_handed;
 use basics::codes::code_of;
 use basics::codes::letter_of;
 use basics::quorums::is_enough;
+use basics::results::Check;
+use bundle::check;
 use bundle::sums::body_sum;
 use layout::BOOK_WORDS;
 use layout::HELD_WORDS;
-use ledger::call;
 use ledger::list_waiting;
 use ledger::open;
 use ledger::switch;
+use model::BundleReply;
 use model::ListReply;
 use model::OpenReply;
+use model::Refusal;
 use model::Reply;
 use model::WriteReply;
 use pages::contents::BODY_LENGTHS;
-use pages::messages::Asked;
-use pages::messages::message_from;
 use pages::messages::opening_of;
 use replay::TEXT_SIZE;
 use replay::list_after;
 use replay::replay;
+use saving::LoadReply;
+use saving::SAVED_SIZE;
+use saving::load;
+use saving::save;
 use writer::records::write_records;
 ghost use mathlib.Core.Path.{_≡_};
 ghost use Rattle.model.specs.Acks.{enough};
 ghost use Rattle.model.specs.Refusals.{listRefusal};
-ghost use Rattle.model.specs.Bundles.{bodySum};
+ghost use Rattle.model.specs.Bundles.{bodySum, checkBundle};
 ghost use Rattle.model.specs.Calls.{waitingAccounts};
-ghost use Rattle.layout.specs.Layout.{ledgerIn};
+ghost use Rattle.layout.specs.Layout.{bookWords, ledgerIn};
 ghost use Rattle.ledger.specs.Promises.{SwitchedAs};
 ghost use Rattle.replay.specs.Lists.{accountsBehind, refusalBehind};
 ghost use Rattle.replay.specs.Text.{textOf};
 ghost use Rattle.replay.specs.Promises.{Replayed};
+ghost use Rattle.saving.specs.Saved.{savedSize, saved};
 ghost use Rattle.host.specs.Messages.{replyWords, ToldOpening, ToldCall};
+ghost use Rattle.host.specs.Keeping.{numberOfLoad, ToldLoad};
 ghost use Rattle.host.specs.Quorums.{Fewest};
 ghost use Rattle.host.specs.Waiting.{numberOf, ToldList};
-ghost use Rattle.host.specs.BundleWriting.{numberOfWrite, ToldWriting};
+ghost use Rattle.host.specs.Bundles.{numberOfFault, numberOfCheck, numberOfWrite, ToldWriting};
+
+mod handing;
 
 // How many words a reply has: its letter, and the four values of the longest.
 pub const REPLY_WORDS: usize = 5;
 
 // A book is 1,380 words that the host lends and keeps: `ledger_open` opens it, `ledger_call` plays a message on it, `ledger_waiting` lists what
-// waits in it. Words that are all 0 are a book that refuses every message. A book held from before request 5 of document 02 is 1,252 words:
-// `ledger_switch` takes it over.
+// waits in it, `ledger_save` and `ledger_load` are for its disk. Words that are all 0 are a book that refuses every message. A book held from before
+// request 5 of document 02 is 1,252 words: `ledger_switch` takes it over.
 
-// Opens the book from a page, a bundle's body of kind 0: n, f, k, 32 balances (a byte that is missing reads as 0). Returns 0, and the book is
-// the page's, whatever it was; or the code that the page is refused by, and each word is as it was.
+// How many words a book has.
+#[no_mangle]
+pub extern "C" fn ledger_words() -> u32
+    ensures { λ r. ⌜ r ≡ bookWords ⌝ }
+{
+    BOOK_WORDS as u32
+}
+
+// Opens the book from a page, a bundle's body of kind 0: n, f, k, 32 balances. Returns 0, and the book is the page's, whatever it was; or the code that
+// the page is refused by, 15 where it is not 131 bytes long, and each word is as it was.
 #[no_mangle]
 pub extern "C" fn ledger_open(words: &mut [u32; BOOK_WORDS], page: &[u8]) -> u8
     ensures { λ r. ⌜ ToldOpening (now (words .entry)) (now (page .entry)) r (now (words .exit)) ⌝ }
 {
+    let handed = check_handed(0, 0, 0, page);
+    if let Check::Failed(r) = handed {
+        return code_of(r);
+    }
     let reply = open(words, opening_of(page));
     match reply {
         OpenReply::Opened => 0,
@@ -88,9 +112,9 @@ fn reply_words(r: Reply) -> [u32; REPLY_WORDS]
     }
 }
 
-// Plays one message on the book: kind, seat and body as a bundle has them (the seat is an ack's alone; a byte that is missing reads as 0).
-// Writes the reply: the letter in ASCII, what it carries (K the count, P account, number, value and recipient, B the balance, R the code), and
-// zeros. What is no message, kind 0 or above 5, gets five zeros and leaves the book as it was.
+// Plays one message on the book: kind, seat and body as a bundle has them. Writes the reply: the letter in ASCII, what it carries (K the count, P
+// account, number, value and recipient, B the balance, R the code), and zeros. R 14 where the kind is no message's, 0 or above 5, or where the seat is
+// not 0 and the kind has none; then R 15 where the body is not as long as its kind's. With every R each word of the book is as it was.
 #[no_mangle]
 pub extern "C" fn ledger_call(
     words: &mut [u32; BOOK_WORDS],
@@ -99,13 +123,9 @@ pub extern "C" fn ledger_call(
     body: &[u8],
     reply: &mut [u32; REPLY_WORDS],
 )
-    ensures { λ _. ⌜ ToldCall (now (words .entry)) kind seat (now (body .entry)) (now (words .exit)) (now (reply .exit)) ⌝ }
+    ensures { λ _. ⌜ ToldCall (now (words .entry)) (record { kind = kind; seat = seat; body = now (body .entry) }) (now (words .exit)) (now (reply .exit)) ⌝ }
 {
-    let asked = message_from(kind, seat, body);
-    match asked {
-        Asked::Nothing => *reply = [0; REPLY_WORDS],
-        Asked::Asks(m) => *reply = reply_words(call(words, m)),
-    }
+    *reply = reply_words(answer(words, kind, seat, body));
 }
 
 // A list's reply as one number: how many accounts were written, or 256 times the code.
@@ -125,6 +145,44 @@ pub extern "C" fn ledger_waiting(words: &[u32; BOOK_WORDS], list: &mut [u8]) -> 
     ensures { λ r. ⌜ ToldList (listRefusal (now (list .entry))) (waitingAccounts (ledgerIn (now (words .entry)))) (now (list .entry)) r (now (list .exit)) ⌝ }
 {
     number_of(list_waiting(words, list))
+}
+
+// How many bytes a saved book has.
+#[no_mangle]
+pub extern "C" fn ledger_saved_size() -> u32
+    ensures { λ r. ⌜ r ≡ savedSize ⌝ }
+{
+    SAVED_SIZE as u32
+}
+
+// Saves the book: its 5,532 bytes to keep, whatever the buffer held. The book stays as it was.
+#[no_mangle]
+pub extern "C" fn ledger_save(words: &[u32; BOOK_WORDS], bytes: &mut [u8; SAVED_SIZE])
+    ensures { λ _. ⌜ now (bytes .exit) ≡ saved (now (words .entry)) ⌝ }
+{
+    save(words, bytes);
+}
+
+// A load's reply as one number.
+fn number_of_load(reply: LoadReply) -> u8
+    ensures { λ r. ⌜ r ≡ numberOfLoad reply ⌝ }
+{
+    match reply {
+        LoadReply::Loaded => 0,
+        LoadReply::WrongMark => 101,
+        LoadReply::UnknownFormat => 102,
+        LoadReply::WrongLength => 103,
+        LoadReply::WrongSum => 104,
+    }
+}
+
+// Loads a saved book. Returns 0, and the words are those that were saved, whatever they were; or, tried in this order, 101 for a wrong mark, 102 for a
+// format that is not known, 103 for a length that is not that format's, 104 for a wrong sum, and each word is as it was.
+#[no_mangle]
+pub extern "C" fn ledger_load(words: &mut [u32; BOOK_WORDS], bytes: &[u8]) -> u8
+    ensures { λ r. ⌜ ToldLoad (now (words .entry)) (now (bytes .entry)) r (now (words .exit)) ⌝ }
+{
+    number_of_load(load(words, bytes))
 }
 
 // How many equal acks accept a transfer: the fewest of which twice as many exceed n + 3f.
@@ -160,6 +218,31 @@ pub extern "C" fn daybook_waiting(bytes: &[u8], list: &mut [u8]) -> u32
     number_of(list_after(bytes, list))
 }
 
+// A refusal and its entry as one number: 65,536 times the code, and the entry.
+fn number_of_fault(code: Refusal, entry: u16) -> u32
+    ensures { λ r. ⌜ r ≡ numberOfFault code entry ⌝ }
+{
+    65_536 * (code_of(code) as u32) + (entry as u32)
+}
+
+// A check's reply as one number.
+fn number_of_check(reply: BundleReply) -> u32
+    ensures { λ r. ⌜ r ≡ numberOfCheck reply ⌝ }
+{
+    match reply {
+        BundleReply::Sound(count) => count as u32,
+        BundleReply::BundleRefused(code, entry) => number_of_fault(code, entry),
+    }
+}
+
+// The check of a bundle. Returns how many entries it has, 1 to 1,000; or 65,536 times the code, 13 to 16, and the entry.
+#[no_mangle]
+pub extern "C" fn bundle_check(bytes: &[u8]) -> u32
+    ensures { λ r. ⌜ r ≡ numberOfCheck (checkBundle (now (bytes .entry))) ⌝ }
+{
+    number_of_check(check(bytes))
+}
+
 // The sum of a body, as a bundle's contents entry has it.
 #[no_mangle]
 pub extern "C" fn bundle_sum(body: &[u8]) -> u32
@@ -177,7 +260,7 @@ fn number_of_write(reply: WriteReply) -> u32
 {
     match reply {
         WriteReply::Written(size) => size,
-        WriteReply::WriteRefused(code, entry) => 65_536 * (code_of(code) as u32) + (entry as u32),
+        WriteReply::WriteRefused(code, entry) => number_of_fault(code, entry),
     }
 }
 

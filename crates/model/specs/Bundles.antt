@@ -92,6 +92,11 @@ wrongEntry i start c =
     ltb 5 (c .kind) || misplaced i (c .kind) || (not (eqb (c .kind) 3) && not (eqb (c .seat) 0))
     || not (eqb (c .start) start)
 
+-- 14, of a page by itself: as entry i its entry would be wrong, wherever its body starts. So kind 0 behind entry 0, another kind there, a kind above 5,
+-- or a seat where the kind has none.
+abbrev pub wrongPage : ℕ → Page → Bool
+wrongPage i p = wrongEntry i 0 (record { kind = p .kind; seat = p .seat; start = 0; sum = 0 })
+
 abbrev pub firstBadEntry : List ℕ → Option ℕ
 firstBadEntry bytes = firstWhere (λ i. wrongEntry i (startAt bytes i) (contentsAt bytes i)) (entryCount bytes) 0
 

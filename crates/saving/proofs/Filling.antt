@@ -2,15 +2,13 @@
 use Prim.Native.Nat.{ℕ, _-_}
 use native.Mathlib.Omega.{arith}
 use mathlib.Core.Path.{_≡_, refl, ap, sym, _∙_}
-use mathlib.Core.Logic.{_≢_, inl, inr}
-use mathlib.Core.Bool.{Bool, true, false, not}
+use mathlib.Core.Logic.{inl, inr}
+use mathlib.Core.Bool.{Bool}
 use mathlib.Core.List.{List, [], _∷_, _++_, append-nil}
-use lib.Dec.{eqb}
 use lib.ListN.{length, take, drop, length-append, drop-of-length-le}
 use lib.Seq.{take-append-seam}
 use types.Run.{OneOf}
 use denote.Enum.Declared.{tagOf}
-use borrow.Author.Tests.{eq-eqb, ne-eqb}
 use Rattle.model.specs.Bundles.{bodySum}
 use Rattle.model.specs.Writing.{numberBytes}
 use Rattle.basics.specs.Outputs.{Writes}
@@ -52,12 +50,6 @@ pub by-tests : (bytes : List ℕ) {m f l s : Bool} → wrongMark bytes ≡ m →
     → loadReply bytes ≡ replyBy m f l s
 unfolding loadReply
 by-tests bytes mark format size sum = rw (mark, format, size, sum)
-
-pub differs : {x y : ℕ} (a b : ℕ) → x ≡ a → y ≡ b → x ≢ y → not (eqb a b) ≡ true
-differs a b x-is y-is other = rw (ne-eqb a b (λ e. other (x-is ∙ e ∙ sym y-is)))
-
-pub agrees : {x y : ℕ} (a b : ℕ) → x ≡ a → y ≡ b → x ≡ y → not (eqb a b) ≡ false
-agrees a b x-is y-is same = rw (eq-eqb a b (sym x-is ∙ same ∙ y-is))
 
 -- an answer that is not `Loaded`, the first variant, leaves the words
 not-loaded : (r : LoadReply) (bytes before : List ℕ) → OneOf (1 ∷ 2 ∷ 3 ∷ 4 ∷ []) (tagOf the-type r) → wordsAfter r bytes before ≡ before

@@ -10,7 +10,7 @@ use Rattle.model.specs.declared.Message.the-variants.{Inquiry}
 use Rattle.model.specs.declared.Refusal.the-variants.{BadContents, BadEnd}
 use Rattle.model.specs.Basics.{firstWhere}
 use Rattle.model.specs.Records.{accountOf}
-use Rattle.model.specs.Bundles.{Page, wrongEntry, Fault, ofWhole, messageOf}
+use Rattle.model.specs.Bundles.{Page, wrongPage, Fault, ofWhole, messageOf}
 use Rattle.model.specs.Writing.{tooMany, noRoom}
 
 -- how many whole records there are
@@ -25,11 +25,9 @@ recordPage records i =
       body = take 10 (drop (12 * i + 2) records);
     }
 
--- 14, of a record: its entry in the contents would be wrong behind entry 0, wherever its body starts. So kind 0, a kind above 5, or a seat where the
--- kind has none.
+-- 14, of a record: its entry in the contents would be wrong behind entry 0
 abbrev pub wrongRecord : List ℕ → ℕ → Bool
-wrongRecord records i =
-    wrongEntry 1 0 (record { kind = recordPage records i .kind; seat = recordPage records i .seat; start = 0; sum = 0 })
+wrongRecord records i = wrongPage 1 (recordPage records i)
 
 -- record i has entry i + 1, behind the opening page's
 abbrev pub behindPage : Option ℕ → Option ℕ

@@ -53,7 +53,7 @@ fn first_wrong(records: &[u8], count: usize) -> Search
 }
 
 // A record's message, or a question where it is none.
-fn message_or(asked: Asked) -> Message
+pub fn message_or(asked: Asked) -> Message
     ensures { λ r. ⌜ r ≡ messageOr (asks asked) ⌝ }
 {
     match asked {

@@ -4,9 +4,9 @@ use mathlib.Core.Path.{_≡_, refl, sym}
 use mathlib.Core.Bool.{false}
 use mathlib.Core.List.{List}
 use borrow.Author.Needs.{needs}
-use Rattle.model.specs.Bundles.{number4}
+use Rattle.basics.proofs.Comparing.{differs, agrees}
 use Rattle.saving.specs.Saved.{wrongMark, unknownFormat, wrongLength}
-use Rattle.saving.proofs.Filling.{by-tests, differs, agrees}
+use Rattle.saving.proofs.Filling.{by-tests}
 use Rattle.saving.proofs.check.Statement.{statement}
 use Rattle.saving.proofs.check.Tie as tie
 

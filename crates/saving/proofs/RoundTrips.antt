@@ -2,23 +2,21 @@
 use Prim.Native.Nat.{ℕ, _+_, _*_, _<_}
 use native.Mathlib.Omega.{arith}
 use mathlib.Core.Path.{_≡_, refl, ap, sym, _∙_}
-use mathlib.Core.Logic.{_≢_}
 use mathlib.Core.Bool.{Bool, true, false, cond}
-use mathlib.Core.List.{List, [], _∷_, _++_, append-nil}
-use lib.Dec.{eqb}
-use lib.ListN.{length, getD, take, drop, replicate, length-append}
+use mathlib.Core.List.{List, [], _++_, append-nil}
+use lib.ListN.{length, getD, take, drop, length-append}
 use lib.Seq.{take-all, drop-drop, drop-append-seam, take-append-seam, take-add}
 use borrow.Author.Tests.{eq-eqb, ne-eqb}
 use Rattle.model.specs.Bundles.{number4, wordsFrom, bodySum}
 use Rattle.model.specs.Writing.{numberBytes, wordBytes, Bytes}
-use Rattle.model.proofs.Numbers.{number-read, number-written, number-bytes, no-bytes, one-byte, more-bytes, joined, words-length, word-bytes, words-count, words-at, words-read, words-back, words-small, sum-below}
+use Rattle.model.proofs.Numbers.{number-read, number-written, number-bytes, more-bytes, joined, words-length, word-bytes, words-count, words-at, words-read, words-back, words-small, sum-below}
 use Rattle.model.proofs.Sums.{impossible}
 use Rattle.bundle.proofs.Longest.{no-difference}
 use Rattle.layout.specs.Layout.{bookWords}
 use Rattle.saving.specs.declared.LoadReply.{LoadReply}
 use Rattle.saving.specs.declared.LoadReply.the-variants.{Loaded, WrongMark, UnknownFormat, WrongLength, WrongSum}
-use Rattle.saving.specs.Saved.{mark, format, sumAt, savedSize, summed, saved, wrongMark, unknownFormat, wrongLength, wrongSum, loadReply, wordsSaved, wordsAfter}
-use Rattle.saving.specs.RoundTrips.{BookWords, LoadsBack, SaveThenLoad, SavesBack, LoadThenSave, OtherSum}
+use Rattle.saving.specs.Saved.{mark, format, sumAt, savedSize, summed, saved, wrongMark, unknownFormat, wrongLength, wrongSum, loadReply, wordsSaved}
+use Rattle.saving.specs.RoundTrips.{SaveThenLoad, SavesBack, LoadThenSave, OtherSum}
 
 -- the answer by its four tests
 abbrev pub replyBy : Bool → Bool → Bool → Bool → LoadReply

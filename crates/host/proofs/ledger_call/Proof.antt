@@ -1,5 +1,5 @@
 -- The answer to what is handed over, told in words.
-use mathlib.Core.Path.{sym, ap, _∙_}
+use mathlib.Core.Path.{ap, _∙_}
 use borrow.Author.Needs.{needs}
 use Rattle.host.specs.Messages.{replyWords}
 use Rattle.host.proofs.ledger_call.Statement.{statement}

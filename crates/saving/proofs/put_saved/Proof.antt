@@ -1,10 +1,8 @@
 -- Mark, format and words, one behind another, and then the sum of them.
 use native.Mathlib.Omega.{arith}
-use mathlib.Core.Path.{_≡_}
 use borrow.Author.Needs.{needs}
 use Rattle.basics.proofs.Writing.{then}
 use Rattle.basics.proofs.Writing as Writing
-use Rattle.saving.specs.Saved.{sumAt}
 use Rattle.saving.proofs.Filling.{at-sum, all-saved}
 use Rattle.saving.proofs.put_saved.Statement.{statement}
 use Rattle.saving.proofs.put_saved.Tie as tie

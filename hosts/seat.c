@@ -1,7 +1,7 @@
 /* The host of one seat, in C; hosts/seat.rs is the same in Rust. One process at a time runs it on a file.
  *
  *     seat open FILE     opens a book, plays seven messages on it, and keeps it in FILE
- *     seat go-on FILE    goes on with that book: plays four more
+ *     seat go-on FILE    goes on with that book: plays five more
  *
  * For each message the order is: call, save durably, then send. A seat that sends first and loses its power before it
  * has saved forgets that it has acked a slip, and may ack another one with the same number. A reply that is saved and
@@ -30,7 +30,7 @@ static const struct message MESSAGES[] = {
     {SAPLULL_KIND_ACK, 2, 0, 1, 4, 1},      {SAPLULL_KIND_ACK, 3, 0, 1, 4, 1},  {SAPLULL_KIND_ACK, 4, 0, 1, 4, 1},
     {SAPLULL_KIND_QUESTION, 0, 1, 0, 0, 0}, /* here the first run ends */
     {SAPLULL_KIND_QUESTION, 0, 1, 0, 0, 0}, {SAPLULL_KIND_SLIP, 0, 0, 1, 4, 1}, {SAPLULL_KIND_SLIP, 0, 0, 2, 6, 1},
-    {SAPLULL_KIND_SLIP, 0, 0, 2, 6, 1},
+    {SAPLULL_KIND_SLIP, 0, 0, 2, 6, 1},     {SAPLULL_KIND_ACK, 0, 0, 2, 6, 1},
 };
 enum { FIRST_RUN = 7, ALL = sizeof MESSAGES / sizeof MESSAGES[0] };
 

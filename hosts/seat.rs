@@ -1,7 +1,7 @@
 //! The host of one seat, in Rust; hosts/seat.c is the same in C. One process at a time runs it on a file.
 //!
 //!     seat open FILE     opens a book, plays seven messages on it, and keeps it in FILE
-//!     seat go-on FILE    goes on with that book: plays four more
+//!     seat go-on FILE    goes on with that book: plays five more
 //!
 //! For each message the order is: call, save durably, then send. A seat that sends first and loses its power before it
 //! has saved forgets that it has acked a slip, and may ack another one with the same number. A reply that is saved and
@@ -35,15 +35,16 @@ fn transfer(number: u32, value: u32) -> Transfer {
 /// What comes in. A host gets these from its network, and checks their signatures first.
 fn messages() -> Vec<Message> {
     let (first, next) = (transfer(1, 4), transfer(2, 6));
-    let acks = (0..5).map(|seat| Message::Ack {
+    let ack = |seat, transfer| Message::Ack {
         seat: Seat(seat),
-        transfer: first,
-    });
+        transfer,
+    };
     let mut messages = vec![Message::Slip(first)];
-    messages.extend(acks);
+    messages.extend((0..5).map(|seat| ack(seat, first)));
     messages.push(Message::Question(Account(1))); // here the first run ends
     messages.push(Message::Question(Account(1)));
     messages.extend([first, next, next].map(Message::Slip));
+    messages.push(ack(0, next));
     messages
 }
 

@@ -27,24 +27,24 @@ extern "C" {
 
 /* Sizes. A host asks ledger_words() and ledger_saved_size() once, at its start: where they differ from the sizes here,
  * header and library are of different versions. */
-#define SAPLULL_BOOK_WORDS 1380     /* words of a book */
-#define SAPLULL_HELD_WORDS 1252     /* words of a book held from before request 5 of document 02 */
-#define SAPLULL_REPLY_WORDS 5       /* words of a reply */
-#define SAPLULL_SAVED_SIZE 5532     /* bytes of a saved book */
-#define SAPLULL_PAGE_SIZE 131       /* bytes of an opening page: n, f, k (1 each), 32 balances (4 each) */
-#define SAPLULL_TRANSFER_SIZE 10    /* bytes of the body of kinds 1 to 4: account (1), number (4), value (4), recipient (1) */
-#define SAPLULL_QUESTION_SIZE 1     /* bytes of the body of kind 5: account */
-#define SAPLULL_RECORD_SIZE 12      /* bytes of a message for bundle_write: kind (1), seat (1), ten bytes of a body */
-#define SAPLULL_LIST_SIZE 32        /* bytes that every waiting list fits */
-#define SAPLULL_TEXT_SIZE 36828     /* bytes that every text of daybook fits */
-#define SAPLULL_LONGEST_BUNDLE 18123 /* bytes that every bundle fits */
+#define SAPLULL_BOOK_WORDS 1380       /* words of a book */
+#define SAPLULL_HELD_WORDS 1252       /* words of a book held from before request 5 of document 02 */
+#define SAPLULL_REPLY_WORDS 5         /* words of a reply */
+#define SAPLULL_SAVED_SIZE 5532       /* bytes of a saved book */
+#define SAPLULL_PAGE_SIZE 131         /* bytes of an opening page: n, f, k (1 each), 32 balances (4 each) */
+#define SAPLULL_TRANSFER_SIZE 10      /* bytes of a body of kinds 1 to 4: account (1), number, value (4 each), recipient (1) */
+#define SAPLULL_QUESTION_SIZE 1       /* bytes of a body of kind 5: account */
+#define SAPLULL_RECORD_SIZE 12        /* bytes of a message for bundle_write: kind (1), seat (1), ten bytes of a body */
+#define SAPLULL_LIST_SIZE 32          /* bytes that every waiting list fits */
+#define SAPLULL_TEXT_SIZE 36828       /* bytes that every text of daybook fits */
+#define SAPLULL_LONGEST_BUNDLE 18123  /* bytes that every bundle fits */
 
 /* Kinds of messages. */
-#define SAPLULL_KIND_REQUEST 1      /* a home's new slip */
-#define SAPLULL_KIND_SLIP 2         /* a circulated slip */
-#define SAPLULL_KIND_ACK 3          /* a seat's ack of a slip; the one kind that has a seat */
-#define SAPLULL_KIND_RULING 4       /* the council's slip */
-#define SAPLULL_KIND_QUESTION 5     /* an account, whose balance is asked */
+#define SAPLULL_KIND_REQUEST 1        /* a home's new slip */
+#define SAPLULL_KIND_SLIP 2           /* a circulated slip */
+#define SAPLULL_KIND_ACK 3            /* a seat's ack of a slip; the one kind that has a seat */
+#define SAPLULL_KIND_RULING 4         /* the council's slip */
+#define SAPLULL_KIND_QUESTION 5       /* an account, whose balance is asked */
 
 /* Codes of refusals, as documents 01 and 02 number them. */
 #define SAPLULL_CODE_BAD_GROUP 1 /* n outside 1 to 16, or 5 * f >= n */

@@ -12,9 +12,9 @@ pub const LIST_SIZE: usize = 32;
 pub const TEXT_SIZE: usize = 36_828;
 pub const LONGEST_BUNDLE: usize = 18_123;
 
-// Each function takes all numbers and all bytes, keeps no pointer, and writes only into what is lent as *mut, within the
-// length that is stated or handed over. So a call is safe where each pointer comes from a reference to so many words or
-// bytes that lives through the call.
+// Each function takes all numbers and all bytes, keeps no pointer, and writes only into what is lent as *mut, within
+// the length that is stated or handed over. So a call is safe where each pointer comes from a reference to so many
+// words or bytes that lives through the call.
 extern "C" {
     pub fn ledger_words() -> u32;
     pub fn ledger_saved_size() -> u32;
@@ -46,8 +46,8 @@ extern "C" {
     ) -> u32;
 }
 
-/// Panics unless the library's books have the sizes that this package lends. So does each call that is lent a buffer without its
-/// length; a book that is there has been through it.
+/// Panics unless the library's books have the sizes that are lent here. It comes before each call that is lent a buffer
+/// without its length; of a book that is there it has been asked.
 pub fn check_sizes() {
     // Safe: they are lent nothing.
     let (words, saved) = unsafe { (ledger_words(), ledger_saved_size()) };

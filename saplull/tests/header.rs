@@ -1,9 +1,9 @@
-//! `include/saplull.h` states the codes and sentences of this package, and no others.
+//! `include/saplull.h` states the kinds, codes and sentences of this package, and no others.
 
 mod common;
 
-use common::file;
-use saplull::{LoadError, Refusal};
+use common::{ack, file, transfer};
+use saplull::{Account, LoadError, Message, Refusal};
 
 /// The header with one space between any two words.
 fn header() -> String {
@@ -14,7 +14,7 @@ fn header() -> String {
 /// BadGroup as BAD_GROUP
 fn in_capitals(name: &str) -> String {
     let parts = (0..).zip(name.chars()).flat_map(|(place, letter)| {
-        let gap = (place > 0 && letter.is_uppercase()).then(|| '_');
+        let gap = (place > 0 && letter.is_uppercase()).then_some('_');
         gap.into_iter().chain(letter.to_uppercase())
     });
     parts.collect()
@@ -44,4 +44,21 @@ fn loads() {
         stated("SAPLULL_LOAD_", format!("{error:?}"), error.code(), error.sentence());
     }
     assert_eq!(header().matches("#define SAPLULL_LOAD_").count(), LoadError::ALL.len());
+}
+
+#[test]
+fn kinds() {
+    let slip = transfer(0, 1, 4, 1);
+    let all = [
+        ("REQUEST", Message::Request(slip)),
+        ("SLIP", Message::Slip(slip)),
+        ("ACK", ack(0, slip)),
+        ("RULING", Message::Ruling(slip)),
+        ("QUESTION", Message::Question(Account(1))),
+    ];
+    for (name, message) in all {
+        let line = format!("#define SAPLULL_KIND_{name} {} ", message.record()[0]);
+        assert!(header().contains(&line), "include/saplull.h lacks: {line}");
+    }
+    assert_eq!(header().matches("#define SAPLULL_KIND_").count(), all.len());
 }

@@ -85,6 +85,11 @@ fn a_page_of_the_wrong_length_gets_15_and_leaves_each_word() {
     }
 }
 
+fn load(words: &mut [u32; BOOK_WORDS], saved: &[u8]) -> u8 {
+    // Safe: the words are as many as stated, and the length is that of the bytes.
+    unsafe { ledger_load(words, saved.as_ptr(), saved.len()) }
+}
+
 #[test]
 fn a_load_writes_all_words_or_none() {
     let words = opened();
@@ -92,10 +97,16 @@ fn a_load_writes_all_words_or_none() {
     // Safe: the words and the bytes are as many as stated.
     unsafe { ledger_save(&words, &mut saved) };
     let mut loaded = [7; BOOK_WORDS];
-    // Safe: the words are as many as stated, and the lengths are those of the bytes.
-    assert_eq!(unsafe { ledger_load(&mut loaded, saved.as_ptr(), SAVED_SIZE - 1) }, 103);
+    for (code, place) in [(101, 0), (102, 4), (104, 8), (104, SAVED_SIZE - 1)] {
+        let mut damaged = saved;
+        damaged[place] ^= 2;
+        assert_eq!(load(&mut loaded, &damaged), code, "byte {place}");
+        assert_eq!(loaded, [7; BOOK_WORDS], "byte {place}");
+    }
+    assert_eq!(load(&mut loaded, &saved[1..]), 101);
+    assert_eq!(load(&mut loaded, &saved[..SAVED_SIZE - 1]), 103);
     assert_eq!(loaded, [7; BOOK_WORDS]);
-    assert_eq!(unsafe { ledger_load(&mut loaded, saved.as_ptr(), SAVED_SIZE) }, 0);
+    assert_eq!(load(&mut loaded, &saved), 0);
     assert_eq!(loaded, words);
 }
 

@@ -37,13 +37,13 @@ enum { FIRST_RUN = 7, ALL = sizeof MESSAGES / sizeof MESSAGES[0] };
 static const char BRING_BACK[] = "bring back the last book that this seat saved, never an earlier or a new one";
 
 _Noreturn static void fail(const char *file, const char *what, const char *to_do) {
-    fprintf(stderr, "%s: %s; %s\n", file, what, to_do);
+    (void)fprintf(stderr, "%s: %s; %s\n", file, what, to_do); /* nobody is left to tell if this fails */
     exit(EXIT_FAILURE);
 }
 
 _Noreturn static void refuse(const char *file, uint8_t code, const char *sentence, const char *to_do) {
     char what[128];
-    snprintf(what, sizeof what, "refused with code %u: %s", code, sentence);
+    (void)snprintf(what, sizeof what, "refused with code %u: %s", code, sentence);
     fail(file, what, to_do);
 }
 
@@ -67,7 +67,7 @@ static void sync_folder(const char *file) {
     char folder[PATH_MAX];
     const char *end = strrchr(file, '/');
     int length = end == NULL ? 0 : (int)(end - file);
-    snprintf(folder, sizeof folder, "%.*s%s", length, file, end == NULL ? "." : "/");
+    (void)snprintf(folder, sizeof folder, "%.*s%s", length, file, end == NULL ? "." : "/"); /* shorter than FILE.new */
     int opened = open(folder, O_RDONLY | O_DIRECTORY);
     if (opened < 0 || fsync(opened) != 0 || close(opened) != 0) {
         fail(folder, strerror(errno), "the reply is not sent; see to the folder, then go on");
@@ -162,7 +162,7 @@ int main(int count, char **arguments) {
         load_book(book, arguments[2]);
         play(book, arguments[2], FIRST_RUN, ALL);
     } else {
-        fprintf(stderr, "usage: seat open FILE\n       seat go-on FILE\n");
+        (void)fprintf(stderr, "usage: seat open FILE\n       seat go-on FILE\n");
         return 2;
     }
     return EXIT_SUCCESS;

@@ -113,21 +113,18 @@ fn go_on(file: &Path) -> Result<(), String> {
     play(book, file, FIRST_RUN..messages().len())
 }
 
+/// Nobody is left to tell if this fails.
+fn complain(status: u8, what: &str) -> ExitCode {
+    let _ = writeln!(io::stderr(), "{what}");
+    ExitCode::from(status)
+}
+
 fn main() -> ExitCode {
     let arguments: Vec<OsString> = std::env::args_os().skip(1).collect();
     let outcome = match &arguments[..] {
         [word, file] if word == "open" => open(Path::new(file)),
         [word, file] if word == "go-on" => go_on(Path::new(file)),
-        _ => {
-            eprintln!("{USAGE}");
-            return ExitCode::from(2);
-        }
+        _ => return complain(2, USAGE),
     };
-    match outcome {
-        Ok(()) => ExitCode::SUCCESS,
-        Err(what) => {
-            eprintln!("{what}");
-            ExitCode::FAILURE
-        }
-    }
+    outcome.map_or_else(|what| complain(1, &what), |()| ExitCode::SUCCESS)
 }

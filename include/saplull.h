@@ -32,14 +32,14 @@ extern "C" {
 #define SAPLULL_REPLY_WORDS 5         /* words of a reply */
 #define SAPLULL_SAVED_SIZE 5532       /* bytes of a saved book */
 #define SAPLULL_PAGE_SIZE 131         /* bytes of an opening page: n, f, k (1 each), 32 balances (4 each) */
-#define SAPLULL_TRANSFER_SIZE 10      /* bytes of a body of kinds 1 to 4: account (1), number, value (4 each), recipient (1) */
-#define SAPLULL_QUESTION_SIZE 1       /* bytes of a body of kind 5: account */
+#define SAPLULL_TRANSFER_SIZE 10      /* bytes of a slip: account (1), number, value (4 each), recipient (1) */
+#define SAPLULL_QUESTION_SIZE 1       /* bytes of a question: account */
 #define SAPLULL_RECORD_SIZE 12        /* bytes of a message for bundle_write: kind (1), seat (1), ten bytes of a body */
 #define SAPLULL_LIST_SIZE 32          /* bytes that every waiting list fits */
 #define SAPLULL_TEXT_SIZE 36828       /* bytes that every text of daybook fits */
 #define SAPLULL_LONGEST_BUNDLE 18123  /* bytes that every bundle fits */
 
-/* Kinds of messages. */
+/* Kinds of messages. The body of kinds 1 to 4 is a slip, that of kind 5 a question. */
 #define SAPLULL_KIND_REQUEST 1        /* a home's new slip */
 #define SAPLULL_KIND_SLIP 2           /* a circulated slip */
 #define SAPLULL_KIND_ACK 3            /* a seat's ack of a slip; the one kind that has a seat */

@@ -5,6 +5,7 @@ use crate::{Account, Refusal, Transfer};
 use std::fmt;
 
 /// What a book replies to a message. It is shown as the program `daybook` shows it.
+#[must_use = "a reply that is not sent is lost"]
 #[non_exhaustive]
 #[derive(Clone, Copy, Debug, PartialEq, Eq, Hash)]
 pub enum Reply {

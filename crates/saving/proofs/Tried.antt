@@ -7,7 +7,7 @@ use lib.ListN.{take, drop, getD, replicate}
 use Rattle.model.specs.Writing.{numberBytes}
 use Rattle.layout.specs.Layout.{bookWords}
 use Rattle.saving.specs.declared.LoadReply.the-variants.{WrongMark, UnknownFormat, WrongLength, WrongSum}
-use Rattle.saving.specs.Saved.{mark, format, saved, loadReply}
+use Rattle.saving.specs.Saved.{mark, format, saved, loadReply, wordsSaved}
 use Rattle.saving.specs.RoundTrips.{BookWords}
 
 -- words that are all 0 are those of a book: what is said of every book's words is said of some
@@ -35,3 +35,8 @@ pub the-form : (take 12 (saved (258 ∷ replicate 1_379 0)) ≡ 83 ∷ 65 ∷ 80
     × (drop 5_528 (saved (258 ∷ replicate 1_379 0)) ≡ 40 ∷ 236 ∷ 137 ∷ 99 ∷ [])
 unfolding saved
 the-form = (refl, refl)
+
+-- the words stand behind mark and format
+pub the-words : take 2 (wordsSaved (mark ++ numberBytes 4 format ++ numberBytes 4 258 ++ numberBytes 4 7)) ≡ 258 ∷ 7 ∷ []
+unfolding wordsSaved
+the-words = refl

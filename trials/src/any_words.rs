@@ -1,11 +1,12 @@
 //! Words of any content, most of which no opening can make: openings over them, and messages to the book that they are.
 
 use crate::checks::Checks;
-use crate::daybook::UNTOUCHED;
+use crate::daybook::{PAGE, UNTOUCHED};
 use crate::dice::Dice;
+use crate::handed;
 use crate::held::same_words;
 use crate::ledgers::with_slip;
-use crate::lent::{told, HeldWords, Lent, Sent, BLOCK, GROUP, NOTHING, REPLY, WORDS};
+use crate::lent::{told, HeldWords, Lent, Sent, BLOCK, GROUP, REPLY, WORDS};
 use crate::seen::Seen;
 use crate::ties::{self, Ack};
 use crate::trial::caught;
@@ -16,6 +17,8 @@ use reference::bundle::read_opening;
 /// So many contents, each of which gets so many messages.
 const CONTENTS: u64 = 8_000;
 const MESSAGES: usize = 12;
+/// One in so many messages is first handed over wrongly.
+const WRONG_EACH: u64 = 20;
 
 const MAX: u32 = u32::MAX;
 
@@ -37,8 +40,10 @@ fn opened(before: &Lent, page: &[u8]) -> Result<u8, String> {
     if code > 0 {
         return same_words(before, &lent).map(|()| code);
     }
-    // bytes that are missing count as 0
-    let page = read_opening(&[page, &[0; 131]].concat());
+    if page.len() != PAGE {
+        return Err(format!("opened, where the page has {} bytes", page.len()));
+    }
+    let page = read_opening(page);
     let book = Book::open(&page).map_err(|code| format!("opened, where {code} is due"))?;
     lent.holds(&page, &book).map(|()| code)
 }
@@ -61,6 +66,7 @@ pub fn try_messages(checks: &mut Checks, seed: u64) {
     let letters = ["C", "A", "K", "N", "B"].iter().chain(&ties::SIZES).chain(&LATE);
     let codes = (4..=12).chain([20]).map(|code| format!("R {code}"));
     seen.table(checks, letters.map(|row| row.to_string()).chain(codes));
+    seen.table(checks, handed::ROWS);
 }
 
 /// Words of before request 5, of many contents, are taken over, and get messages.
@@ -104,10 +110,12 @@ fn taken_over(held: &HeldWords, lent: &Lent) -> Result<(), String> {
     Ok(())
 }
 
-/// Words that are all 0 are a book with no seats and no accounts: every message is refused, an ack by its seat.
+/// Words that are all 0 are a book with no seats and no accounts: every message is refused, an ack by its seat; and before
+/// that what is handed over wrongly.
 fn refused_by_none(dice: &mut Dice) -> Result<(), String> {
     let mut lent = Lent::default();
     let message = message(dice, &lent);
+    handed::refused(dice, &mut lent, &message)?;
     let reply = lent.call(&Sent::of(&message));
     let code = if let Message::Ack { .. } = message { 4 } else { 5 };
     if reply != told(&Reply::Refused(code)) {
@@ -116,17 +124,13 @@ fn refused_by_none(dice: &mut Dice) -> Result<(), String> {
     same_words(&Lent::default(), &lent)
 }
 
-/// One message, or what is no message, and the waiting list after it.
+/// One message, which is perhaps handed over wrongly before, and the waiting list after it.
 fn meet(dice: &mut Dice, lent: &mut Lent, seen: &mut Seen) -> Result<(), String> {
     let before = lent.clone();
-    if dice.once_in(20) {
-        let sent = Sent::nothing(dice);
-        if lent.call(&sent) != NOTHING {
-            return Err(format!("{sent:?} is no message, and was answered"));
-        }
-        return same_words(&before, lent);
-    }
     let message = message(dice, lent);
+    if dice.once_in(WRONG_EACH) {
+        seen.add(handed::refused(dice, lent, &message)?);
+    }
     let reply = lent.call(&Sent::of(&message));
     judge(&before, &message, reply, lent).map_err(|what| format!("{message:?}: {reply:?}: {what}"))?;
     seen.add(&row(&before, &message, reply, lent));

@@ -3,12 +3,13 @@
 
 use crate::checks::Checks;
 use crate::dice::Dice;
+use crate::handed;
 use crate::known;
 use crate::ledgers;
-use crate::lent::{told, Lent, Sent, NOTHING};
+use crate::lent::{told, Lent, Sent};
 use crate::openings;
 use crate::rows::Before;
-use crate::tallies::{Tallies, NO_MESSAGE, SETTLED_LATER};
+use crate::tallies::{Tallies, SETTLED_LATER};
 use crate::trial::caught;
 use crate::waiting;
 use reference::book::{Book, Message, OpeningPage, Reply};
@@ -22,9 +23,8 @@ const SHORTER: usize = 20_000;
 /// So many lives of any group, with so many messages each.
 const GROUPS: u64 = 60;
 const SHORT: usize = 500;
-/// One in so many messages comes in another form, and before one in so many comes what is no message.
-const VARIED_EACH: u64 = 4;
-const NOTHING_EACH: u64 = 50;
+/// One in so many messages is first handed over wrongly.
+const WRONG_EACH: u64 = 50;
 
 /// The long life, a shorter one of a small group, and short ones of any group, each until all accounts wait; each
 /// message is a check.
@@ -90,17 +90,12 @@ impl Held {
         })
     }
 
-    /// One message, and perhaps before it what is no message; then the whole book and the waiting list.
+    /// One message, which is perhaps handed over wrongly before; then the whole book and the waiting list.
     fn meet(&mut self, dice: &mut Dice, message: &Message, tallies: &mut Tallies, column: usize) -> Result<(), String> {
-        if dice.once_in(NOTHING_EACH) {
-            self.meet_nothing(&Sent::nothing(dice))?;
-            tallies.add(column, NO_MESSAGE);
+        if dice.once_in(WRONG_EACH) {
+            tallies.add(column, handed::refused(dice, &mut self.lent, message)?);
         }
-        let mut sent = Sent::of(message);
-        let kind = sent.kind;
-        if dice.once_in(VARIED_EACH) {
-            sent.vary(dice);
-        }
+        let sent = Sent::of(message);
         let before = self.lent.clone();
         let reply = self.lent.call(&sent);
         let due = self.book.call(message);
@@ -113,7 +108,7 @@ impl Held {
         self.lent.holds(&self.page, &self.book)?;
         let words = due.to_string();
         let words: Vec<&str> = words.split(' ').collect();
-        tallies.reply(column, kind, &words, &self.before.rows(message, &words));
+        tallies.reply(column, sent.kind, &words, &self.before.rows(message, &words));
         if let Reply::Accepted { booked: 1.. } = due {
             let waiting = self.lent.that_wait();
             if before.that_wait().iter().any(|account| !waiting.contains(account)) {
@@ -125,15 +120,6 @@ impl Held {
         self.most_waiting = self.most_waiting.max(answer.unwrap_or(0));
         tallies.waiting(column, answer);
         Ok(())
-    }
-
-    fn meet_nothing(&mut self, sent: &Sent) -> Result<(), String> {
-        let before = self.lent.clone();
-        let reply = self.lent.call(sent);
-        if reply != NOTHING {
-            return Err(format!("{sent:?} is no message, and the reply is {reply:?}"));
-        }
-        same_words(&before, &self.lent)
     }
 
     /// What became of the book, for people.

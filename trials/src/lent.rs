@@ -1,6 +1,5 @@
 //! A book in words that a host lends, through the functions that the static library exports; and a reader of the words.
 
-use crate::dice::Dice;
 use reference::book::{Account, Book, Message, OpeningPage, Reply, Retained, Slip};
 use reference::bundle::{ACK, QUESTION, REQUEST, RULING, SLIP};
 
@@ -34,9 +33,6 @@ pub type HeldWords = [u32; HELD_WORDS];
 pub const HELD_WORDS: usize = 1_252;
 const HELD_BLOCK: usize = 39;
 
-/// The reply to what is no message.
-pub const NOTHING: [u32; REPLY] = [0; REPLY];
-
 #[derive(Clone, PartialEq, Eq)]
 pub struct Lent {
     pub words: Box<[u32; WORDS]>,
@@ -52,12 +48,12 @@ impl Default for Lent {
 }
 
 impl Lent {
-    /// Opens the book from a page's bytes: the code by which it is refused, or 0. Bytes that are missing count as 0.
+    /// Opens the book from a page's bytes: the code by which it is refused, or 0.
     pub fn open(&mut self, page: &[u8]) -> u8 {
         unsafe { ledger_open(&mut *self.words, page.as_ptr(), page.len()) }
     }
 
-    /// One message as a bundle has it, and its reply.
+    /// One message as it is handed over, and its reply.
     pub fn call(&mut self, sent: &Sent) -> [u32; REPLY] {
         // what the buffer held is to be replaced
         let mut reply = [u32::MAX; REPLY];
@@ -226,32 +222,6 @@ impl Sent {
         body.extend(slip.number.to_le_bytes());
         body.extend(slip.value.to_le_bytes());
         body.push(slip.recipient);
-        Sent { kind, seat, body }
-    }
-
-    /// The same message in another form: a seat that is not read; a body without the zeros at its end, since what is
-    /// missing counts as 0; or one with bytes behind its end.
-    pub fn vary(&mut self, dice: &mut Dice) {
-        if self.kind != ACK {
-            self.seat = dice.byte();
-        }
-        if dice.once_in(2) {
-            let more = dice.place(9);
-            self.body.extend(dice.bytes(more));
-            return;
-        }
-        while self.body.last() == Some(&0) && !dice.once_in(4) {
-            self.body.pop();
-        }
-    }
-
-    /// What is no message: kind 0, or one above 5.
-    pub fn nothing(dice: &mut Dice) -> Sent {
-        let any = dice.within(6, 255) as u8;
-        let kind = *dice.pick(&[0, 6, 255, any]);
-        let length = dice.place(140);
-        let body = dice.bytes(length);
-        let seat = dice.below(17) as u8;
         Sent { kind, seat, body }
     }
 }

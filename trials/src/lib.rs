@@ -7,6 +7,7 @@ pub mod daybook;
 pub mod dice;
 pub mod edges;
 pub mod groups;
+pub mod handed;
 pub mod held;
 pub mod history;
 pub mod known;

@@ -2,6 +2,7 @@
 //! printed.
 
 use crate::checks::Checks;
+use crate::handed;
 use crate::late;
 use crate::rows::Before;
 use crate::self_payments;
@@ -56,7 +57,6 @@ const BUNDLE_ROWS: [&str; 13] = [
 pub const WRITTEN_AGAIN: &str = "written out again";
 
 /// The rows of held books alone.
-pub const NO_MESSAGE: &str = "no message";
 pub const SETTLED_LATER: &str = "settled by another's";
 
 /// The rows of the writer of bundles: the opening pages, how many messages and their kinds, its replies, the causes of
@@ -96,7 +96,8 @@ impl Tallies {
 
     /// Of books that are held: each row has to be met in the first column.
     pub fn of_lives(columns: &'static [&'static str]) -> Tallies {
-        Tallies::new(columns, 1, &[NO_MESSAGE, SETTLED_LATER])
+        let more = [&[SETTLED_LATER][..], &handed::ROWS].concat();
+        Tallies::new(columns, 1, &more)
     }
 
     /// Of the writer: each row has to be met.

@@ -4,8 +4,8 @@
 //!
 //! with the folder of examples. The last line is `N passed, M failed`, and the status is 1 if one failed.
 
-use reference::book::{Book, Message, OpeningPage, Slip};
-use reference::bundle::write;
+use reference::book::{Book, Message, OpeningPage, Reply, Slip};
+use reference::bundle::{read_message, write};
 use reference::rules::Rules;
 use std::process::ExitCode;
 use trials::any_words::try_opening;
@@ -14,10 +14,10 @@ use trials::daybook::{acks_needed, is_enough, text_of, waiting};
 use trials::dice::Dice;
 use trials::edges::{wait_of, waits};
 use trials::known::{self, page};
-use trials::lent::{Lent, Sent};
+use trials::lent::{told, Lent, Sent};
 use trials::records::page_bytes;
 use trials::waiting::{compared, written};
-use trials::{taken_over, writing};
+use trials::{handed, taken_over, writing};
 
 /// The two functions on acks against each other and against document 01: twice the count exceeds n + 3f.
 fn acks(checks: &mut Checks) {
@@ -39,7 +39,7 @@ fn openings(checks: &mut Checks, dice: &mut Dice) {
     last[31] = 1 << 24;
     let good = page(6, 1, 3, &[100, 200, 300]);
     let refused = page(17, 0, 1, &[100]);
-    let longer = |page: &[u8]| [page, &[255; 40]].concat();
+    let longer = |page: &[u8], more| [page, &vec![0; more][..]].concat();
 
     code(0, "a good page", &good);
     code(0, "32 accounts", &page(16, 3, 32, &[1; 32]));
@@ -53,11 +53,54 @@ fn openings(checks: &mut Checks, dice: &mut Dice) {
     code(0, "the last within k", &page(6, 1, 32, &last));
     code(3, "a sum of 4,294,967,296", &page(6, 1, 2, &[max, 1]));
     code(0, "a sum of 4,294,967,295", &page(6, 1, 2, &[max - 1, 1]));
-    code(1, "no bytes", &[]);
-    code(2, "n and f alone", &[6, 1]);
-    code(0, "n, f and k alone", &[6, 1, 3]);
-    code(0, "bytes behind a good page", &longer(&good));
-    code(1, "bytes behind a refused page", &longer(&refused));
+    // 15 before 1, 2 and 3: a missing byte is not read as 0, and what is behind is not left unread
+    code(15, "no bytes", &[]);
+    code(15, "n and f alone", &[6, 1]);
+    code(15, "n, f and k alone", &[6, 1, 3]);
+    code(15, "a good page without its last byte", &good[..130]);
+    code(15, "a good page with a byte behind it", &longer(&good, 1));
+    code(15, "a good page with 256 bytes behind it", &longer(&good, 256));
+    code(15, "a good page with 65,536 bytes behind it", &longer(&good, 65_536));
+    code(15, "a refused page without its last byte", &refused[..130]);
+    code(15, "a refused page with a byte behind it", &longer(&refused, 1));
+}
+
+/// Every kind with some seats and bodies of many lengths, each to a book just opened that answers what is handed over rightly.
+fn handed_over(checks: &mut Checks) {
+    let page = OpeningPage::of(16, 3, &[10, 5]);
+    let book = Book::open(&page).expect("a good page");
+    let lent = Lent::of(&page, &book);
+    let lengths = || (0..=30).chain([131, 257, 266, 65_537, 65_546]);
+    let with_seats = |kind| [0, 1, 15, 255].map(|seat| (kind, seat));
+    let mut answered = 0;
+    for (kind, seat) in (0..=255).flat_map(with_seats) {
+        for length in lengths() {
+            // account 0, number 1, value 1, recipient 1
+            let mut body = vec![0, 1, 0, 0, 0, 1, 0, 0, 0, 1];
+            body.resize(length, 0);
+            let is_answered = hand_over(checks, &lent, &book, &Sent { kind, seat, body });
+            answered += u32::from(is_answered);
+        }
+    }
+    // request, slip, ruling and question; the acks of seats 0, 1 and 15
+    checks.same("how many are not refused", answered, 7);
+}
+
+/// The reply to what is handed over, and the words where it is refused. Says whether it is not.
+fn hand_over(checks: &mut Checks, lent: &Lent, book: &Book, sent: &Sent) -> bool {
+    let due = match handed::refusal(sent) {
+        Some(code) => Reply::Refused(code),
+        None => book.clone().call(&read_message(sent.kind, sent.seat, &sent.body)),
+    };
+    let mut after = lent.clone();
+    let (kind, seat, length) = (sent.kind, sent.seat, sent.body.len());
+    let what = format!("kind {kind}, seat {seat}, a body of {length} bytes");
+    checks.same(&what, after.call(sent), told(&due));
+    let is_refused = matches!(due, Reply::Refused(_));
+    if is_refused {
+        checks.that(&format!("{what}: words changed by a refusal"), after == *lent);
+    }
+    !is_refused
 }
 
 fn example(folder: &str, name: &str) -> Vec<u8> {
@@ -229,6 +272,8 @@ fn main() -> ExitCode {
     checks.part("host: acks, openings");
     acks(&mut checks);
     openings(&mut checks, &mut dice);
+    checks.part("host: messages handed over rightly and wrongly");
+    handed_over(&mut checks);
     checks.part("host: a book held from before");
     held_book(&mut checks);
     taken_over::example(&mut checks, &folder);

@@ -12,8 +12,9 @@ use std::process::ExitCode;
 use trials::checks::Checks;
 use trials::dice::{self, Dice};
 use trials::records::written_again;
+use trials::seen::Seen;
 use trials::tallies::{Tallies, CLASSES, WRITTEN_AGAIN};
-use trials::{any_words, damage, daybook, edges, held, known, ledgers, openings};
+use trials::{any_words, damage, daybook, edges, handed, held, known, ledgers, openings};
 use trials::{taken_over, trial, waiting, wild, writing, wrong_lists};
 
 const USAGE: &str = "trials --examples DIR --program PATH [--seed N] [--bundles N] [--only INDEX]";
@@ -162,9 +163,11 @@ fn try_every_byte(checks: &mut Checks) {
     }
 }
 
-/// Sums of random bytes and openings from random pages, through the functions that the static library exports.
+/// Sums of random bytes and openings from random pages, whole ones and others, through the functions that the static
+/// library exports.
 fn try_functions(checks: &mut Checks, seed: u64) {
     let mut dice = Dice::new(seed);
+    let mut seen = Seen::default();
     for _ in 0..2_000 {
         let length = dice.place(201);
         let bytes = dice.bytes(length);
@@ -177,7 +180,12 @@ fn try_functions(checks: &mut Checks, seed: u64) {
         let body = known::page(page.n, page.f, page.k, &page.balances);
         let code = Book::open(&page).err().unwrap_or(0);
         any_words::try_opening(checks, &mut dice, &format!("{page:?}"), &body, code);
+        let wrong = handed::spoilt_page(&mut dice, &body);
+        let what = format!("{page:?} in {} bytes", wrong.len());
+        any_words::try_opening(checks, &mut dice, &what, &wrong, 15);
+        seen.add(&handed::page_row(wrong.len(), code));
     }
+    seen.table(checks, handed::page_rows());
 }
 
 /// Makes one random bundle again and shows it.

@@ -7,6 +7,7 @@ use crate::handed;
 use crate::held::same_words;
 use crate::ledgers::with_slip;
 use crate::lent::{told, HeldWords, Lent, Sent, BLOCK, GROUP, REPLY, WORDS};
+use crate::saved;
 use crate::seen::Seen;
 use crate::ties::{self, Ack};
 use crate::trial::caught;
@@ -48,7 +49,7 @@ fn opened(before: &Lent, page: &[u8]) -> Result<u8, String> {
     lent.holds(&page, &book).map(|()| code)
 }
 
-/// Messages to words that are 0, and to many contents.
+/// Messages to words that are 0, and to many contents, each of which is saved and loaded before.
 pub fn try_messages(checks: &mut Checks, seed: u64) {
     let mut dice = Dice::of(seed, 0);
     for _ in 0..1_000 {
@@ -60,6 +61,7 @@ pub fn try_messages(checks: &mut Checks, seed: u64) {
         let mut dice = Dice::of(seed, index);
         let mut lent = content(&mut dice);
         let what = format!("content {index} of seed {seed}");
+        checks.same(&what, saved::restored(&mut dice, &lent).map(drop), Ok(()));
         meet_some(checks, &mut dice, &mut lent, &mut seen, &what);
     }
     each_length(checks, &seen);

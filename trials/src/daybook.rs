@@ -7,6 +7,7 @@ extern "C" {
     // A byte slice is passed as its pointer, then its length; a reference to an array as its pointer alone.
     fn daybook_text(bytes: *const u8, length: usize, text: *mut [u8; TEXT_SIZE]) -> usize;
     fn daybook_waiting(bytes: *const u8, length: usize, list: *mut u8, list_length: usize) -> u32;
+    fn bundle_check(bytes: *const u8, length: usize) -> u32;
     fn bundle_sum(bytes: *const u8, length: usize) -> u32;
     fn bundle_write(page: *const [u8; PAGE], records: *const u8, length: usize, out: *mut u8, out_length: usize)
         -> u32;
@@ -20,8 +21,10 @@ pub const TEXT_SIZE: usize = 36_828;
 /// The length of an opening page, as a bundle's body of kind 0 has it.
 pub const PAGE: usize = 131;
 
-/// What the writer replies: the bundle's length, or the code and the entry of a refusal.
-pub type Written = Result<u32, (u32, u32)>;
+/// The code and the entry of a bundle's refusal.
+pub type Refusal = (u32, u32);
+/// What the writer replies: the bundle's length, or its refusal.
+pub type Written = Result<u32, Refusal>;
 
 /// What a lent buffer holds before a call, to see that what stands behind the answer is left as it was.
 pub const UNTOUCHED: u8 = 170;
@@ -74,9 +77,18 @@ pub fn sum(bytes: &[u8]) -> u32 {
 
 /// Writes the bundle with this opening page and these records into the front of `out`.
 pub fn write(page: &[u8; PAGE], records: &[u8], out: &mut [u8]) -> Written {
-    let reply = unsafe { bundle_write(page, records.as_ptr(), records.len(), out.as_mut_ptr(), out.len()) };
+    number_or_refusal(unsafe { bundle_write(page, records.as_ptr(), records.len(), out.as_mut_ptr(), out.len()) })
+}
+
+/// How many entries a sound bundle has, or its refusal.
+pub fn check(bytes: &[u8]) -> Result<u32, Refusal> {
+    number_or_refusal(unsafe { bundle_check(bytes.as_ptr(), bytes.len()) })
+}
+
+/// A reply below 65,536 is a number; a refusal is 65,536 times the code, and the entry.
+fn number_or_refusal(reply: u32) -> Result<u32, Refusal> {
     match (reply / 65_536, reply % 65_536) {
-        (0, length) => Ok(length),
+        (0, number) => Ok(number),
         refusal => Err(refusal),
     }
 }

@@ -9,7 +9,8 @@ use crate::ledgers;
 use crate::lent::{told, Lent, Sent};
 use crate::openings;
 use crate::rows::Before;
-use crate::tallies::{Tallies, SETTLED_LATER};
+use crate::saved;
+use crate::tallies::{Tallies, SAVED_AND_LOADED, SETTLED_LATER};
 use crate::trial::caught;
 use crate::waiting;
 use reference::book::{Book, Message, OpeningPage, Reply};
@@ -25,6 +26,8 @@ const GROUPS: u64 = 60;
 const SHORT: usize = 500;
 /// One in so many messages is first handed over wrongly.
 const WRONG_EACH: u64 = 50;
+/// Behind one in so many messages the book is saved, and the life goes on with what is loaded.
+const SAVED_EACH: u64 = 250;
 
 /// The long life, a shorter one of a small group, and short ones of any group, each until all accounts wait; each
 /// message is a check.
@@ -90,7 +93,8 @@ impl Held {
         })
     }
 
-    /// One message, which is perhaps handed over wrongly before; then the whole book and the waiting list.
+    /// One message, which is perhaps handed over wrongly before; then the whole book and the waiting list. Then perhaps the
+    /// book is saved and loaded.
     fn meet(&mut self, dice: &mut Dice, message: &Message, tallies: &mut Tallies, column: usize) -> Result<(), String> {
         if dice.once_in(WRONG_EACH) {
             tallies.add(column, handed::refused(dice, &mut self.lent, message)?);
@@ -119,6 +123,10 @@ impl Held {
         let answer = waiting::compared(waiting::buffer(dice), ask, |list| self.book.waiting_list(list))?;
         self.most_waiting = self.most_waiting.max(answer.unwrap_or(0));
         tallies.waiting(column, answer);
+        if dice.once_in(SAVED_EACH) {
+            self.lent = saved::restored(dice, &self.lent)?;
+            tallies.add(column, SAVED_AND_LOADED);
+        }
         Ok(())
     }
 

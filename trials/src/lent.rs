@@ -15,12 +15,17 @@ extern "C" {
         reply: *mut [u32; REPLY],
     );
     fn ledger_waiting(words: *const [u32; WORDS], list: *mut u8, length: usize) -> u32;
+    fn ledger_save(words: *const [u32; WORDS], saved: *mut [u8; SAVED]);
+    fn ledger_load(words: *mut [u32; WORDS], saved: *const u8, length: usize) -> u8;
+    fn ledger_words() -> u32;
+    fn ledger_saved_size() -> u32;
     fn ledger_switch(held: *const HeldWords, words: *mut [u32; WORDS]);
 }
 
-/// How many words a book has, and how many a reply.
+/// How many words a book has, and how many a reply; and how many bytes a saved book.
 pub const WORDS: usize = 1_380;
 pub const REPLY: usize = 5;
+pub const SAVED: usize = 5_532;
 /// How many words an account has: balance, current number, two marks, value, number and recipient of the slip that waits,
 /// for each seat the value and then for each seat the recipient of its ack; and value, number, recipient and mark of the
 /// retained slip.
@@ -74,6 +79,16 @@ impl Lent {
     /// The waiting list, into the front of `list`: how many accounts are written, or 256 times the code.
     pub fn waiting(&self, list: &mut [u8]) -> u32 {
         unsafe { ledger_waiting(&*self.words, list.as_mut_ptr(), list.len()) }
+    }
+
+    /// The book in its saved form, over whatever the buffer held.
+    pub fn save(&self, saved: &mut [u8; SAVED]) {
+        unsafe { ledger_save(&*self.words, saved) }
+    }
+
+    /// Goes on with a saved book: 0, or the code by which the bytes are refused.
+    pub fn load(&mut self, saved: &[u8]) -> u8 {
+        unsafe { ledger_load(&mut *self.words, saved.as_ptr(), saved.len()) }
     }
 
     /// The book that goes on with words of before request 5. What the new words held is to be replaced.
@@ -182,6 +197,11 @@ impl Lent {
         }
         Ok(())
     }
+}
+
+/// How many words a book has and how many bytes a saved one, as the library says it.
+pub fn sizes() -> (u32, u32) {
+    unsafe { (ledger_words(), ledger_saved_size()) }
 }
 
 /// Value, number and recipient.

@@ -17,6 +17,7 @@ pub mod lent;
 pub mod openings;
 pub mod records;
 pub mod rows;
+pub mod saved;
 pub mod seen;
 pub mod self_payments;
 pub mod taken_over;

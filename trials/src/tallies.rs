@@ -58,6 +58,7 @@ pub const WRITTEN_AGAIN: &str = "written out again";
 
 /// The rows of held books alone.
 pub const SETTLED_LATER: &str = "settled by another's";
+pub const SAVED_AND_LOADED: &str = "saved and loaded";
 
 /// The rows of the writer of bundles: the opening pages, how many messages and their kinds, its replies, the causes of
 /// 14, and each two refusals that one call meets, of which the first is due.
@@ -96,7 +97,7 @@ impl Tallies {
 
     /// Of books that are held: each row has to be met in the first column.
     pub fn of_lives(columns: &'static [&'static str]) -> Tallies {
-        let more = [&[SETTLED_LATER][..], &handed::ROWS].concat();
+        let more = [&[SETTLED_LATER, SAVED_AND_LOADED][..], &handed::ROWS].concat();
         Tallies::new(columns, 1, &more)
     }
 

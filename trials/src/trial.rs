@@ -1,7 +1,8 @@
-//! One bundle tried: `daybook` held to the second program, and what is kept and printed of a difference.
+//! One bundle tried: `daybook` and the check held to the second program, and what is kept and printed of a difference.
 
 use crate::checks::Checks;
 use crate::daybook;
+use reference::bundle;
 use reference::daybook::compare;
 use reference::written::shown;
 use std::panic::{catch_unwind, AssertUnwindSafe};
@@ -9,16 +10,27 @@ use std::panic::{catch_unwind, AssertUnwindSafe};
 /// Where the bundles go on which the two differ.
 const FOLDER: &str = "target/trials";
 
-/// The text of these bytes through the static library, and what is wrong with it, if anything. Where a program is
-/// named, it has to print the same.
+/// The text of these bytes through the static library, and what is wrong with it or with the check of the bytes, if
+/// anything. Where a program is named, it has to print the same.
 pub fn text_tried(bytes: &[u8], program: Option<&str>) -> (Vec<u8>, Result<(), String>) {
     let text = match caught(|| daybook::text_of(bytes)) {
         Ok(text) => text,
         Err(what) => return (Vec::new(), Err(what)),
     };
     let outcome = caught(|| compare(bytes, &text)).and_then(|compared| compared);
+    let outcome = outcome.and_then(|()| caught(|| same_check(bytes)).and_then(|same| same));
     let outcome = outcome.and_then(|()| program.map_or(Ok(()), |program| same_by_program(program, bytes, &text)));
     (text, outcome)
+}
+
+/// Whether the check is the second program's: how many entries there are, or the code and the entry of the refusal.
+fn same_check(bytes: &[u8]) -> Result<(), String> {
+    let due = bundle::check(bytes).map(|entries| entries as u32);
+    let due = due.map_err(|fault| (fault.code.into(), fault.entry as u32));
+    match daybook::check(bytes) {
+        reply if reply == due => Ok(()),
+        reply => Err(format!("the check gives {reply:?} and not {due:?}")),
+    }
 }
 
 fn same_by_program(program: &str, bytes: &[u8], text: &[u8]) -> Result<(), String> {

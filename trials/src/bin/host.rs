@@ -10,14 +10,14 @@ use reference::rules::Rules;
 use std::process::ExitCode;
 use trials::any_words::try_opening;
 use trials::checks::Checks;
-use trials::daybook::{acks_needed, is_enough, text_of, waiting};
+use trials::daybook::{acks_needed, check, is_enough, text_of, waiting};
 use trials::dice::Dice;
 use trials::edges::{wait_of, waits};
 use trials::known::{self, page};
 use trials::lent::{told, Lent, Sent};
 use trials::records::page_bytes;
 use trials::waiting::{compared, written};
-use trials::{handed, taken_over, writing};
+use trials::{handed, saved, taken_over, writing};
 
 /// The two functions on acks against each other and against document 01: twice the count exceeds n + 3f.
 fn acks(checks: &mut Checks) {
@@ -126,6 +126,44 @@ fn long_inputs(checks: &mut Checks, folder: &str) {
             wanted.as_bytes().to_vec(),
         );
     }
+}
+
+/// The check of the examples, by hand: how many entries, or the code and the entry.
+fn bundle_checks(checks: &mut Checks, folder: &str) {
+    let answers = [
+        ("whole_output", Ok(8)),
+        ("council", Ok(16)),
+        ("chain", Ok(33)),
+        ("longest", Ok(1_000)),
+        // the opening is none of its matters
+        ("refused_opening_5_1", Ok(1)),
+        ("empty", Err((13, 0))),
+        ("no_entries", Err((13, 0))),
+        ("wrong_kind", Err((14, 1))),
+        ("wrong_seat", Err((14, 1))),
+        ("wrong_start", Err((14, 1))),
+        ("byte_missing", Err((15, 0))),
+        ("one_byte_too_long", Err((15, 0))),
+        ("wrong_sum", Err((16, 1))),
+    ];
+    for (name, due) in answers {
+        checks.same(&format!("the check of {name}"), check(&example(folder, name)), due);
+    }
+    // a wrong sum in the last of 1,000 entries
+    let mut longest = example(folder, "longest");
+    *longest.last_mut().expect("a byte") ^= 1;
+    checks.same(
+        "the check of longest, its last byte changed",
+        check(&longest),
+        Err((16, 999)),
+    );
+    let twice = [&longest[..], &longest[..]].concat();
+    checks.same("the check of 36,246 bytes", check(&twice), Err((15, 0)));
+    checks.same(
+        "the check of a million bytes of 255",
+        check(&vec![255; 1_000_000]),
+        Err((13, 0)),
+    );
 }
 
 /// A bundle with one byte changed is refused: m and each start by the bodies' lengths, the bodies by their sums. Only
@@ -277,9 +315,13 @@ fn main() -> ExitCode {
     checks.part("host: a book held from before");
     held_book(&mut checks);
     taken_over::example(&mut checks, &folder);
+    checks.part("host: saved books");
+    saved::known(&mut checks, &mut dice);
     checks.part("host: inputs that are too long or damaged");
     long_inputs(&mut checks, &folder);
     damaged(&mut checks, &folder);
+    checks.part("host: the check of bundles");
+    bundle_checks(&mut checks, &folder);
     checks.part("host: waiting lists");
     waiting_lists(&mut checks, &mut dice, &folder);
     lowest_first(&mut checks, &mut dice);

@@ -15,7 +15,7 @@ use trials::records::written_again;
 use trials::seen::Seen;
 use trials::tallies::{Tallies, CLASSES, WRITTEN_AGAIN};
 use trials::{any_words, damage, daybook, edges, handed, held, known, ledgers, openings};
-use trials::{taken_over, trial, waiting, wild, writing, wrong_lists};
+use trials::{saved, taken_over, trial, waiting, wild, writing, wrong_lists};
 
 const USAGE: &str = "trials --examples DIR --program PATH [--seed N] [--bundles N] [--only INDEX]";
 
@@ -211,6 +211,8 @@ fn run(checks: &mut Checks, options: &Options) {
     checks.part("books taken over from before request 5");
     any_words::try_switches(checks, options.seed);
     taken_over::random(checks, options.seed);
+    checks.part("saved books, damaged");
+    saved::try_damage(checks, options.seed);
     checks.part("books held for long");
     held::lives(checks, options.seed);
     checks.part("bundles written");

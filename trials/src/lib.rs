@@ -2,6 +2,7 @@
 
 pub mod any_words;
 pub mod checks;
+pub mod crashes;
 pub mod damage;
 pub mod daybook;
 pub mod dice;

@@ -140,7 +140,7 @@ impl<'a, 'b> Life<'a, 'b> {
         while passed.len() < Place::ALL.len() {
             let told = self.network.told().map_err(fault(Claim::Runs))?;
             passed.push(told.place);
-            if told.place == Place::Saved {
+            if told.place == self.network.habit.saved_at() {
                 self.saved = self.book.clone();
             }
             if let Some(reply) = told.reply {
@@ -159,7 +159,8 @@ impl<'a, 'b> Life<'a, 'b> {
         self.kills += 1;
         self.seen.add(passed.last().map_or("", |place| place.row()));
         if let (Message::Slip(slip), Reply::Ack, false) = (message, due, passed.contains(&Place::Sent)) {
-            self.unsent.insert(key(slip), (*slip, passed.contains(&Place::Saved)));
+            let is_saved = passed.contains(&self.network.habit.saved_at());
+            self.unsent.insert(key(slip), (*slip, is_saved));
         }
         Ok(())
     }

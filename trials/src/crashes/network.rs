@@ -11,7 +11,7 @@ use std::process::{Child, ChildStdin, ChildStdout, Command, Stdio};
 pub struct Network<'a> {
     program: &'a str,
     file: PathBuf,
-    habit: Habit,
+    pub habit: Habit,
     seat: Option<Process>,
 }
 

@@ -66,6 +66,14 @@ impl Habit {
         }
     }
 
+    /// The place from which on the file has the new book.
+    pub fn saved_at(self) -> Place {
+        match self {
+            Habit::WriteOver => Place::Written,
+            _ => Place::Saved,
+        }
+    }
+
     pub fn of(name: &str) -> Option<Habit> {
         Habit::ALL.into_iter().find(|habit| habit.name() == name)
     }

@@ -5,10 +5,15 @@ use std::fs::File;
 use std::io::{self, Read, Write};
 use std::process::ExitCode;
 
+/// The file that is named; none where standard input is to be read, which `-` says too.
+fn named(file: Option<&OsStr>) -> Option<&OsStr> {
+    file.filter(|name| *name != "-")
+}
+
 /// The bytes of the file, or of standard input if none is named; no more than `most` of them are read.
 pub fn input(file: Option<&OsStr>, most: usize) -> io::Result<Vec<u8>> {
     let mut bytes = Vec::new();
-    match file {
+    match named(file) {
         Some(name) => File::open(name)?.take(most as u64).read_to_end(&mut bytes)?,
         None => io::stdin().lock().take(most as u64).read_to_end(&mut bytes)?,
     };
@@ -17,7 +22,7 @@ pub fn input(file: Option<&OsStr>, most: usize) -> io::Result<Vec<u8>> {
 
 /// What messages call the file.
 pub fn name(file: Option<&OsStr>) -> String {
-    file.map_or("<stdin>".to_string(), |name| name.to_string_lossy().into_owned())
+    named(file).map_or("<stdin>".to_string(), |name| name.to_string_lossy().into_owned())
 }
 
 /// Writes all of it to standard output. A reader that went away wants no message.

@@ -58,6 +58,25 @@ fn pack_unpack_show_and_print() {
     assert_eq!(printed.stdout, due.as_bytes());
 }
 
+/// `-` in the place of a file is standard input, as no file is.
+#[test]
+fn a_dash_is_standard_input() {
+    let packed = run(BUNDLE, &["pack", "-"], TEXT.as_bytes());
+    assert_eq!((status(&packed), errors(&packed)), (0, String::new()));
+    assert_eq!(packed.stdout, run(BUNDLE, &["pack"], TEXT.as_bytes()).stdout);
+    for (program, without, with) in [
+        (BUNDLE, &["unpack"][..], &["unpack", "-"][..]),
+        (BUNDLE, &["show"], &["show", "-"]),
+        (REFERENCE, &[], &["-"]),
+    ] {
+        let due = run(program, without, &packed.stdout);
+        let output = run(program, with, &packed.stdout);
+        assert_eq!((status(&output), errors(&output)), (0, String::new()), "{with:?}");
+        assert!(output.stdout.len() > 40, "{with:?}");
+        assert_eq!(output.stdout, due.stdout, "{with:?}");
+    }
+}
+
 /// A program, its arguments, its input, the status it ends with, and a part of the message.
 type Failing = (&'static str, &'static [&'static str], &'static [u8], i32, &'static str);
 
@@ -79,6 +98,21 @@ const FAILING: &[Failing] = &[
         1,
         "<stdin>:2: not a text",
     ),
+    (
+        BUNDLE,
+        &["pack", "-"],
+        b"open n 1, f 0, k 1\nslop",
+        1,
+        "<stdin>:2: unknown word `slop`",
+    ),
+    (BUNDLE, &["unpack", "-"], b"", 1, "<stdin>: refused with 13 at entry 0"),
+    (
+        BUNDLE,
+        &[],
+        b"",
+        2,
+        "Standard input is read if no file is named, or `-`.",
+    ),
     (BUNDLE, &["pack", "no/such.page"], b"", 1, "no/such.page: "),
     (
         BUNDLE,
@@ -89,7 +123,13 @@ const FAILING: &[Failing] = &[
     ),
     (BUNDLE, &["unpack", "no/such.bundle"], b"", 1, "no/such.bundle: "),
     (BUNDLE, &["show", "."], b"", 1, ".: "),
-    (REFERENCE, &["a", "b"], b"", 2, "usage: reference [FILE]"),
+    (
+        REFERENCE,
+        &["a", "b"],
+        b"",
+        2,
+        "usage: reference [FILE]; standard input is read if no file is named, or `-`",
+    ),
     (REFERENCE, &["no/such.bundle"], b"", 1, "no/such.bundle: "),
     (REFERENCE, &["."], b"", 1, ".: "),
 ];

@@ -10,7 +10,7 @@ use std::process::ExitCode;
 const USAGE: &str = "usage: bundle pack [FILE]     the text form to a bundle's bytes
        bundle unpack [FILE]   a bundle's bytes to the text form
        bundle show [FILE]     any bytes, entry by entry, with the replies or the place of the fault
-Standard input is read if no file is named.";
+Standard input is read if no file is named, or `-`.";
 
 /// No text or bundle is anywhere near this long; it keeps endless input out.
 const MOST_BYTES: usize = 1 << 24;

@@ -1,6 +1,6 @@
 //! Prints what `daybook` must print for a bundle.
 //!
-//! Usage: `reference [FILE]`; standard input is read if no file is named.
+//! Usage: `reference [FILE]`; standard input is read if no file is named, or `-`.
 
 #![forbid(unsafe_code)]
 
@@ -10,7 +10,10 @@ use std::process::ExitCode;
 fn main() -> ExitCode {
     let arguments: Vec<_> = std::env::args_os().skip(1).collect();
     if arguments.len() > 1 {
-        return streams::complain(2, "usage: reference [FILE]");
+        return streams::complain(
+            2,
+            "usage: reference [FILE]; standard input is read if no file is named, or `-`",
+        );
     }
     let file = arguments.first().map(|name| name.as_os_str());
     // a byte more than the longest bundle has is refused just as all the bytes behind it would be

@@ -1,6 +1,7 @@
 #!/usr/bin/env bash
-# Builds all that the benchmark needs, and runs it: `daybook` against the second program, in instructions and in time per message, and
-# the writer of bundles, in time. It fails where `daybook` takes more than 0.8 times the instructions.
+# Builds all that the benchmark needs, and runs it: `daybook` against the second program, in instructions and in time per message,
+# the writer of bundles, in time, one call on a held book through the library, in both, and a book saved and loaded. It fails where
+# `daybook` takes more than 0.8 times the instructions.
 set -eu
 cd "$(dirname "${BASH_SOURCE[0]}")"
 for tool in cargo valgrind; do

@@ -1,11 +1,12 @@
 //! What is handed over wrongly: a kind, a seat or a length that no entry of a bundle has with its body, and the code that is
 //! due before all else.
 
+use crate::checks::Checks;
 use crate::dice::Dice;
 use crate::held::same_words;
 use crate::lent::{self, Lent, Sent};
-use reference::book::{Message, Reply};
-use reference::bundle::ACK;
+use reference::book::{Book, Message, OpeningPage, Reply};
+use reference::bundle::{read_message, ACK};
 
 /// What can be wrong, by the code that is due; and two faults at once, of which the first is due.
 pub const ROWS: [&str; 7] = [KIND_0, KIND_ABOVE_5, SEAT, EMPTY, SHORT, LONG, BOTH];
@@ -32,7 +33,7 @@ fn has_odd_seat(sent: &Sent) -> bool {
 }
 
 /// The code by which what is handed over is refused: 14 for its kind or its seat, then 15 for the length of its body.
-pub fn refusal(sent: &Sent) -> Option<u8> {
+fn refusal(sent: &Sent) -> Option<u8> {
     match length(sent.kind) {
         None => Some(14),
         Some(_) if has_odd_seat(sent) => Some(14),
@@ -107,6 +108,46 @@ fn spoil_body(dice: &mut Dice, body: &mut Vec<u8>) {
             body.extend(dice.bytes(more));
         }
     }
+}
+
+// What is the same in every run.
+
+/// Every kind with some seats and bodies of many lengths, each to a book just opened that answers what is handed over rightly.
+pub fn known(checks: &mut Checks) {
+    let page = OpeningPage::of(16, 3, &[10, 5]);
+    let book = Book::open(&page).expect("a good page");
+    let opened = Lent::of(&page, &book);
+    let lengths = || (0..=30).chain([131, 257, 266, 65_537, 65_546]);
+    let with_seats = |kind| [0, 1, 15, 255].map(|seat| (kind, seat));
+    let mut answered = 0;
+    for (kind, seat) in (0..=255).flat_map(with_seats) {
+        for length in lengths() {
+            // account 0, number 1, value 1, recipient 1
+            let mut body = vec![0, 1, 0, 0, 0, 1, 0, 0, 0, 1];
+            body.resize(length, 0);
+            let is_answered = hand_over(checks, &opened, &book, &Sent { kind, seat, body });
+            answered += u32::from(is_answered);
+        }
+    }
+    // request, slip, ruling and question; the acks of seats 0, 1 and 15
+    checks.same("how many are not refused", answered, 7);
+}
+
+/// The reply to what is handed over, and the words where it is refused. Says whether it is not.
+fn hand_over(checks: &mut Checks, opened: &Lent, book: &Book, sent: &Sent) -> bool {
+    let due = match refusal(sent) {
+        Some(code) => Reply::Refused(code),
+        None => book.clone().call(&read_message(sent.kind, sent.seat, &sent.body)),
+    };
+    let mut after = opened.clone();
+    let (kind, seat, length) = (sent.kind, sent.seat, sent.body.len());
+    let what = format!("kind {kind}, seat {seat}, a body of {length} bytes");
+    checks.same(&what, after.call(sent), lent::told(&due));
+    let is_refused = matches!(due, Reply::Refused(_));
+    if is_refused {
+        checks.that(&format!("{what}: words changed by a refusal"), after == *opened);
+    }
+    !is_refused
 }
 
 // Pages.

@@ -52,6 +52,9 @@ impl Default for Lent {
     }
 }
 
+// The exported functions ask nothing of what they are lent: each buffer is as long as is said, lent for the call alone, and
+// no two overlap. So each wrapper is safe for every value.
+
 impl Lent {
     /// Opens the book from a page's bytes: the code by which it is refused, or 0.
     pub fn open(&mut self, page: &[u8]) -> u8 {

@@ -1,6 +1,7 @@
 //! What the trials share: the compiled `daybook`, dice, the counting of checks, and the bundles that are tried.
 
 pub mod any_words;
+pub mod around;
 pub mod bench;
 pub mod checks;
 pub mod crashes;

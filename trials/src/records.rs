@@ -1,5 +1,6 @@
 //! The records in which the writer of bundles takes its messages, and what is due of a call of it.
 
+use crate::around;
 use crate::daybook::{self, Written, PAGE};
 use crate::dice::Dice;
 use crate::known;
@@ -11,9 +12,6 @@ use reference::bundle::{self, read_message, write_into, ACK, QUESTION, REQUEST};
 
 /// The length of a record: kind, seat, and the ten bytes of a body.
 pub const RECORD: usize = 12;
-
-/// So many bytes on each side of a lent buffer are looked at too.
-const AROUND: usize = 16;
 
 /// The record of a message. Of a question's body only the first byte is read.
 pub fn record(message: &Message) -> [u8; RECORD] {
@@ -105,19 +103,15 @@ pub fn tried(dice: &mut Dice, page: &OpeningPage, records: &[u8], room: usize) -
 }
 
 fn call(dice: &mut Dice, page: &OpeningPage, records: &[u8], room: usize) -> Result<(Written, Vec<u8>), String> {
-    let mut bytes = dice.bytes(AROUND + room + AROUND);
+    let mut bytes = around::any(dice, room);
     let mut wanted = bytes.clone();
-    let lent = AROUND..AROUND + room;
+    let lent = around::lent(room);
     let reply_due = due(page, records, &mut wanted[lent.clone()])?;
     let reply = daybook::write(&page_bytes(page), records, &mut bytes[lent.clone()]);
     if reply != reply_due {
         return Err(format!("the reply is {reply:?} and not {reply_due:?}"));
     }
-    if let Some(place) = (0..bytes.len()).find(|place| bytes[*place] != wanted[*place]) {
-        let (is, due) = (bytes[place], wanted[place]);
-        let place = place as i64 - AROUND as i64;
-        return Err(format!("after the reply {reply:?} byte {place} is {is} and not {due}"));
-    }
+    around::same(&bytes, &wanted).map_err(|what| format!("after the reply {reply:?} {what}"))?;
     Ok((reply, bytes[lent].to_vec()))
 }
 

@@ -1,5 +1,6 @@
 //! The saved form of a book, written a second time; what is due of bytes that are loaded, and what is tried of both.
 
+use crate::around;
 use crate::checks::Checks;
 use crate::dice::Dice;
 use crate::held::same_words;
@@ -13,8 +14,6 @@ const FORMAT: u32 = 1;
 /// Where the sum stands, which is over all bytes before it.
 const SUM_AT: usize = 5_528;
 
-/// So many bytes on each side of a lent buffer are looked at too.
-const AROUND: usize = 16;
 /// So many saved books get random faults.
 const BOOKS: u64 = 4_000;
 
@@ -66,24 +65,16 @@ fn faults(bytes: &[u8]) -> Vec<u8> {
 /// Saves the book into a buffer of any content and loads it over words of any content: the book that comes of it. The book
 /// itself, each byte of the buffer and around it, and each word loaded have to be right.
 pub fn restored(dice: &mut Dice, lent: &Lent) -> Result<Lent, String> {
-    let mut bytes = dice.bytes(AROUND + SAVED + AROUND);
-    let lent_bytes = AROUND..AROUND + SAVED;
-    let mut due = bytes.clone();
-    due[lent_bytes.clone()].copy_from_slice(&form(&lent.words));
+    let mut bytes = around::any(dice, SAVED);
+    let (mut due, buffer) = (bytes.clone(), around::lent(SAVED));
+    due[buffer.clone()].copy_from_slice(&form(&lent.words));
     let held = lent.clone();
-    held.save(
-        (&mut bytes[lent_bytes.clone()])
-            .try_into()
-            .expect("a buffer of that size"),
-    );
+    let lent_bytes = &mut bytes[buffer.clone()];
+    held.save(lent_bytes.try_into().expect("a buffer of that size"));
     same_words(lent, &held).map_err(|what| format!("saving changed the book: {what}"))?;
-    if let Some(place) = (0..bytes.len()).find(|place| bytes[*place] != due[*place]) {
-        let (is, due) = (bytes[place], due[place]);
-        let place = place as i64 - AROUND as i64;
-        return Err(format!("byte {place} of the saved form is {is} and not {due}"));
-    }
+    around::same(&bytes, &due).map_err(|what| format!("of the saved form {what}"))?;
     let mut loaded = any(dice);
-    match loaded.load(&bytes[lent_bytes]) {
+    match loaded.load(&bytes[buffer]) {
         0 => same_words(lent, &loaded).map(|()| loaded),
         code => Err(format!("what was saved is not loaded: {code}")),
     }
@@ -132,27 +123,31 @@ pub fn known(checks: &mut Checks, dice: &mut Dice) {
         checks.same("mark and format", &saved[..8], &[83, 65, 80, 76, 1, 0, 0, 0]);
         checks.same("the last word", &saved[5_524..5_528], &lent.words[1_379].to_le_bytes());
         checks.same("the sum", &saved[5_528..], &u32::to_le_bytes(sum));
-        let mut code = |code, what, bytes: &[u8]| {
-            let before = any(dice);
-            let mut loaded = before.clone();
-            let kept = |loaded: &Lent| *loaded == if code == 0 { lent.clone() } else { before.clone() };
-            checks.same(what, (loaded.load(bytes), kept(&loaded)), (code, true));
-        };
-        code(0, "all of it", &saved);
-        code(101, "no bytes", &[]);
-        code(101, "a part of the mark", &saved[..3]);
-        code(102, "the mark alone", &saved[..4]);
-        code(103, "mark and format alone", &saved[..8]);
-        // the format's other bytes count as 0
-        code(103, "the format's first byte", &saved[..5]);
-        code(103, "all but its last byte", &saved[..SAVED - 1]);
-        code(103, "a byte behind it", &[&saved[..], &[0]].concat());
-        code(
-            104,
-            "another sum",
-            &[&saved[..SAVED - 1], &[!saved[SAVED - 1]]].concat(),
-        );
+        known_loads(checks, dice, &lent, &saved);
     }
+}
+
+/// The codes of parts of this saved book and of bytes near it; words of any content are left, or replaced by its words.
+fn known_loads(checks: &mut Checks, dice: &mut Dice, lent: &Lent, saved: &[u8]) {
+    let mut code = |code, what, bytes: &[u8]| {
+        let mut loaded = any(dice);
+        let due = if code == 0 { lent.clone() } else { loaded.clone() };
+        checks.same(what, (loaded.load(bytes), loaded == due), (code, true));
+    };
+    code(0, "all of it", saved);
+    code(101, "no bytes", &[]);
+    code(101, "a part of the mark", &saved[..3]);
+    code(102, "the mark alone", &saved[..4]);
+    // the other bytes of the format count as 0
+    code(103, "the mark and the format's first byte", &saved[..5]);
+    code(103, "mark and format alone", &saved[..8]);
+    code(103, "all but its last byte", &saved[..SAVED - 1]);
+    code(103, "a byte behind it", &[saved, &[0]].concat());
+    code(
+        104,
+        "another sum",
+        &[&saved[..SAVED - 1], &[!saved[SAVED - 1]]].concat(),
+    );
 }
 
 /// Books of any words saved and loaded; one of them damaged at each byte, and cut and lengthened; and random faults, of

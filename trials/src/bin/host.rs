@@ -4,8 +4,8 @@
 //!
 //! with the folder of examples. The last line is `N passed, M failed`, and the status is 1 if one failed.
 
-use reference::book::{Book, Message, OpeningPage, Reply, Slip};
-use reference::bundle::{read_message, write};
+use reference::book::{Book, Message, OpeningPage, Slip};
+use reference::bundle::write;
 use reference::rules::Rules;
 use std::process::ExitCode;
 use trials::any_words::try_opening;
@@ -14,7 +14,7 @@ use trials::daybook::{acks_needed, check, is_enough, text_of, waiting};
 use trials::dice::Dice;
 use trials::edges::{wait_of, waits};
 use trials::known::{self, page};
-use trials::lent::{told, Lent, Sent};
+use trials::lent::{Lent, Sent};
 use trials::records::page_bytes;
 use trials::waiting::{compared, written};
 use trials::{handed, saved, taken_over, writing};
@@ -63,44 +63,6 @@ fn openings(checks: &mut Checks, dice: &mut Dice) {
     code(15, "a good page with 65,536 bytes behind it", &longer(&good, 65_536));
     code(15, "a refused page without its last byte", &refused[..130]);
     code(15, "a refused page with a byte behind it", &longer(&refused, 1));
-}
-
-/// Every kind with some seats and bodies of many lengths, each to a book just opened that answers what is handed over rightly.
-fn handed_over(checks: &mut Checks) {
-    let page = OpeningPage::of(16, 3, &[10, 5]);
-    let book = Book::open(&page).expect("a good page");
-    let lent = Lent::of(&page, &book);
-    let lengths = || (0..=30).chain([131, 257, 266, 65_537, 65_546]);
-    let with_seats = |kind| [0, 1, 15, 255].map(|seat| (kind, seat));
-    let mut answered = 0;
-    for (kind, seat) in (0..=255).flat_map(with_seats) {
-        for length in lengths() {
-            // account 0, number 1, value 1, recipient 1
-            let mut body = vec![0, 1, 0, 0, 0, 1, 0, 0, 0, 1];
-            body.resize(length, 0);
-            let is_answered = hand_over(checks, &lent, &book, &Sent { kind, seat, body });
-            answered += u32::from(is_answered);
-        }
-    }
-    // request, slip, ruling and question; the acks of seats 0, 1 and 15
-    checks.same("how many are not refused", answered, 7);
-}
-
-/// The reply to what is handed over, and the words where it is refused. Says whether it is not.
-fn hand_over(checks: &mut Checks, lent: &Lent, book: &Book, sent: &Sent) -> bool {
-    let due = match handed::refusal(sent) {
-        Some(code) => Reply::Refused(code),
-        None => book.clone().call(&read_message(sent.kind, sent.seat, &sent.body)),
-    };
-    let mut after = lent.clone();
-    let (kind, seat, length) = (sent.kind, sent.seat, sent.body.len());
-    let what = format!("kind {kind}, seat {seat}, a body of {length} bytes");
-    checks.same(&what, after.call(sent), told(&due));
-    let is_refused = matches!(due, Reply::Refused(_));
-    if is_refused {
-        checks.that(&format!("{what}: words changed by a refusal"), after == *lent);
-    }
-    !is_refused
 }
 
 fn example(folder: &str, name: &str) -> Vec<u8> {
@@ -293,6 +255,43 @@ fn held_book(checks: &mut Checks) {
     }
 }
 
+/// All that is known of books.
+fn of_books(checks: &mut Checks, dice: &mut Dice, folder: &str) {
+    checks.part("host: known pages");
+    known::facts(checks, dice);
+    known::examples(checks, folder, None);
+    checks.part("host: acks, openings");
+    acks(checks);
+    openings(checks, dice);
+    checks.part("host: messages handed over rightly and wrongly");
+    handed::known(checks);
+    checks.part("host: a book held from before");
+    held_book(checks);
+    taken_over::example(checks, folder);
+    checks.part("host: saved books");
+    saved::known(checks, dice);
+}
+
+/// All that is known of bundles.
+fn of_bundles(checks: &mut Checks, dice: &mut Dice, folder: &str) {
+    checks.part("host: inputs that are too long or damaged");
+    long_inputs(checks, folder);
+    damaged(checks, folder);
+    checks.part("host: the check of bundles");
+    bundle_checks(checks, folder);
+    checks.part("host: waiting lists");
+    waiting_lists(checks, dice, folder);
+    lowest_first(checks, dice);
+    checks.part("host: the writer of bundles");
+    writing::examples(checks, dice, folder);
+    writing::known_replies(checks, dice);
+    writing::counts(checks, dice);
+    checks.part("host: records that are malformed");
+    writing::single_records(checks, dice);
+    writing::lowest_wrong(checks, dice);
+    writing::last_pieces(checks, dice);
+}
+
 fn main() -> ExitCode {
     let folder = match std::env::args().nth(1) {
         Some(folder) => folder,
@@ -304,34 +303,7 @@ fn main() -> ExitCode {
     let mut checks = Checks::default();
     // the same in every run
     let mut dice = Dice::new(0);
-    checks.part("host: known pages");
-    known::facts(&mut checks, &mut dice);
-    known::examples(&mut checks, &folder, None);
-    checks.part("host: acks, openings");
-    acks(&mut checks);
-    openings(&mut checks, &mut dice);
-    checks.part("host: messages handed over rightly and wrongly");
-    handed_over(&mut checks);
-    checks.part("host: a book held from before");
-    held_book(&mut checks);
-    taken_over::example(&mut checks, &folder);
-    checks.part("host: saved books");
-    saved::known(&mut checks, &mut dice);
-    checks.part("host: inputs that are too long or damaged");
-    long_inputs(&mut checks, &folder);
-    damaged(&mut checks, &folder);
-    checks.part("host: the check of bundles");
-    bundle_checks(&mut checks, &folder);
-    checks.part("host: waiting lists");
-    waiting_lists(&mut checks, &mut dice, &folder);
-    lowest_first(&mut checks, &mut dice);
-    checks.part("host: the writer of bundles");
-    writing::examples(&mut checks, &mut dice, &folder);
-    writing::known_replies(&mut checks, &mut dice);
-    writing::counts(&mut checks, &mut dice);
-    checks.part("host: records that are malformed");
-    writing::single_records(&mut checks, &mut dice);
-    writing::lowest_wrong(&mut checks, &mut dice);
-    writing::last_pieces(&mut checks, &mut dice);
+    of_books(&mut checks, &mut dice, &folder);
+    of_bundles(&mut checks, &mut dice, &folder);
     checks.finish()
 }

@@ -11,18 +11,18 @@ use trials::crashes::steps::Habit;
 
 fn main() -> ExitCode {
     let arguments: Vec<String> = std::env::args().skip(1).collect();
-    let (file, habit) = match &arguments[..] {
-        [file, habit] => (file, Habit::of(habit)),
-        _ => (&String::new(), None),
+    let known = match &arguments[..] {
+        [file, habit] => Habit::of(habit).map(|habit| (Path::new(file), habit)),
+        _ => None,
     };
-    let habit = match habit {
-        Some(habit) => habit,
+    let (file, habit) = match known {
+        Some(known) => known,
         None => {
             eprintln!("usage: seat FILE save-then-send|send-then-save|write-over");
             return ExitCode::from(2);
         }
     };
-    match seat::run(Path::new(file), habit) {
+    match seat::run(file, habit) {
         Ok(()) => ExitCode::SUCCESS,
         Err(what) => {
             eprintln!("seat: {what}");

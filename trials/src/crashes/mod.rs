@@ -17,7 +17,7 @@ use std::path::PathBuf;
 use steps::{Habit, Place};
 
 /// So many lives of a seat that saves before it sends, and of each that does not work as it has to.
-const LIVES: u64 = 240;
+const LIVES: u64 = 200;
 const WRONG_LIVES: u64 = 24;
 
 /// The lives of seats that work as they have to, and of those that do not: what is claimed must fail of these.

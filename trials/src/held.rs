@@ -1,5 +1,5 @@
 //! Books that are held for long, in lent words: each reply, the whole book after it and the waiting list, held to the
-//! second program, and the words themselves where nothing may be stored.
+//! second program, and the words themselves where nothing may be stored. The Rust package goes along.
 
 use crate::checks::Checks;
 use crate::dice::Dice;
@@ -8,6 +8,7 @@ use crate::known;
 use crate::ledgers;
 use crate::lent::{told, Lent, Sent};
 use crate::openings;
+use crate::packaged::Packaged;
 use crate::rows::Before;
 use crate::saved;
 use crate::tallies::{Tallies, SAVED_AND_LOADED, SETTLED_LATER};
@@ -67,10 +68,11 @@ fn live(checks: &mut Checks, tallies: &mut Tallies, column: usize, dice: &mut Di
     }
 }
 
-/// A book in lent words beside the second program's.
+/// A book in lent words, and one of the Rust package, beside the second program's.
 struct Held {
     page: OpeningPage,
     lent: Lent,
+    packaged: Packaged,
     book: Book,
     before: Before,
     most_waiting: usize,
@@ -87,6 +89,7 @@ impl Held {
         Ok(Held {
             page: page.clone(),
             lent,
+            packaged: Packaged::open(page)?,
             book,
             before: Before::open(page).ok_or("the page is refused")?,
             most_waiting: 0,
@@ -111,6 +114,7 @@ impl Held {
         }
         self.lent.holds(&self.page, &self.book)?;
         let words = due.to_string();
+        self.packaged.meet(message, &words)?;
         let words: Vec<&str> = words.split(' ').collect();
         tallies.reply(column, sent.kind, &words, &self.before.rows(message, &words));
         if let Reply::Accepted { booked: 1.. } = due {
@@ -124,10 +128,17 @@ impl Held {
         self.most_waiting = self.most_waiting.max(answer.unwrap_or(0));
         tallies.waiting(column, answer);
         if dice.once_in(SAVED_EACH) {
-            self.lent = saved::restored(dice, &self.lent)?;
+            self.restart(dice)?;
             tallies.add(column, SAVED_AND_LOADED);
         }
         Ok(())
+    }
+
+    /// Both books are saved, and both lives go on with what is loaded.
+    fn restart(&mut self, dice: &mut Dice) -> Result<(), String> {
+        self.lent = saved::restored(dice, &self.lent)?;
+        let saved = saved::form(&self.lent.words);
+        self.packaged.restart(&self.lent.that_wait(), &saved)
     }
 
     /// What became of the book, for people.

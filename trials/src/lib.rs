@@ -18,6 +18,7 @@ pub mod late;
 pub mod ledgers;
 pub mod lent;
 pub mod openings;
+pub mod packaged;
 pub mod records;
 pub mod rows;
 pub mod saved;

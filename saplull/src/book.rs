@@ -2,7 +2,7 @@
 
 use crate::foreign::{check_sizes, ledger_call, ledger_open, ledger_switch, ledger_waiting};
 use crate::foreign::{BOOK_WORDS, HELD_WORDS, LIST_SIZE, REPLY_WORDS};
-use crate::{Message, Page, Refusal, Reply};
+use crate::{Account, Message, Page, Refusal, Reply};
 use std::fmt;
 
 /// A seat's book. Only the library writes its words, and it is not cloned: of two books of one seat, each could ack
@@ -40,7 +40,7 @@ impl Book {
     }
 
     /// The accounts with a slip that is accepted and waits, lowest first.
-    pub fn waiting(&self) -> Vec<u8> {
+    pub fn waiting(&self) -> Vec<Account> {
         let mut list = [0; LIST_SIZE];
         // Safe: the words are as many as stated, and the length is that of the list.
         let count = unsafe { ledger_waiting(&*self.words, list.as_mut_ptr(), list.len()) };
@@ -61,9 +61,9 @@ impl Book {
 }
 
 /// The accounts at the front of a list, from the number that is returned for it.
-pub(crate) fn listed(list: [u8; LIST_SIZE], returned: u32) -> Result<Vec<u8>, Refusal> {
+pub(crate) fn listed(list: [u8; LIST_SIZE], returned: u32) -> Result<Vec<Account>, Refusal> {
     match (returned / 256, returned % 256) {
-        (0, count) => Ok(list[..count as usize].to_vec()),
+        (0, count) => Ok(list[..count as usize].iter().copied().map(Account).collect()),
         (code, _) => Err(Refusal::answered(code)),
     }
 }

@@ -3,7 +3,7 @@
 use crate::book::listed;
 use crate::foreign::{bundle_check, bundle_sum, bundle_write, check_sizes, daybook_text, daybook_waiting};
 use crate::foreign::{LIST_SIZE, LONGEST_BUNDLE, TEXT_SIZE};
-use crate::{Message, Page, Refusal};
+use crate::{Account, Message, Page, Refusal};
 use std::error::Error;
 use std::fmt;
 
@@ -70,7 +70,7 @@ pub fn text(bytes: &[u8]) -> String {
 }
 
 /// The accounts that wait behind the bundle's last message, lowest first.
-pub fn waiting_behind(bytes: &[u8]) -> Result<Vec<u8>, Refusal> {
+pub fn waiting_behind(bytes: &[u8]) -> Result<Vec<Account>, Refusal> {
     let mut list = [0; LIST_SIZE];
     // Safe: the lengths are those of the bytes and of the list.
     let returned = unsafe { daybook_waiting(bytes.as_ptr(), bytes.len(), list.as_mut_ptr(), list.len()) };

@@ -79,7 +79,7 @@ fn settled_twice() {
         book.call(&Message::Ruling(transfer(0, 1, 5, 1))),
         Reply::Accepted { booked: 0 }
     );
-    assert_eq!(book.waiting(), [0]);
+    assert_eq!(book.waiting(), [Account(0)]);
     assert_eq!(
         book.call(&Message::Ruling(transfer(1, 1, 5, 0))),
         Reply::Accepted { booked: 2 }
@@ -94,7 +94,7 @@ fn waiting_lowest_first() {
     let mut book = opened(6, 1, &[1, 0, 0, 0, 0]);
     let waits = [4, 2, 3].map(|account| Message::Ruling(transfer(account, 1, 1, 0)));
     assert_eq!(replies(&mut book, &waits), "K 0, K 0, K 0");
-    assert_eq!(book.waiting(), [2, 3, 4]);
+    assert_eq!(book.waiting(), [2, 3, 4].map(Account));
 }
 
 #[test]

@@ -95,7 +95,7 @@ fn waiting_behind_a_bundle() {
     let page = page(6, 1, &[1, 0, 0]);
     let waits = [2, 1].map(|account| Message::Ruling(transfer(account, 1, 1, 0)));
     let bytes = bundle::write(&page, &waits).expect("two messages");
-    assert_eq!(bundle::waiting_behind(&bytes), Ok(vec![1, 2]));
+    assert_eq!(bundle::waiting_behind(&bytes), Ok(vec![Account(1), Account(2)]));
     assert_eq!(bundle::waiting_behind(&bytes[1..]), Err(Refusal::BadHeader));
     let refused = file("examples/refused_opening_5_1.bundle");
     assert_eq!(

@@ -3,7 +3,7 @@
 mod common;
 
 use common::{ack, file, opened, replies, transfer, whole_output};
-use saplull::{bundle, Book, LoadError, Message, HELD_WORDS};
+use saplull::{bundle, Account, Book, LoadError, Message, HELD_WORDS};
 
 const SIZE: usize = 5532;
 
@@ -132,7 +132,7 @@ fn a_held_book_is_taken_over() {
         .map(|word| word.parse().expect("a number"));
     let held: [u32; HELD_WORDS] = words.collect::<Vec<u32>>().try_into().expect("1,252 words");
     let mut book = Book::taken_over(&held);
-    assert_eq!(book.waiting(), [0, 1]);
+    assert_eq!(book.waiting(), [Account(0), Account(1)]);
     let slip = Message::Slip(transfer(4, 1, 2, 0));
     let (behind, late) = (ack(0, transfer(0, 1, 5, 1)), ack(5, transfer(1, 1, 9, 0)));
     assert_eq!(

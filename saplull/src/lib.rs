@@ -3,9 +3,7 @@
 //! ```
 //! use saplull::{Account, Book, Message, Page, Reply, Transfer};
 //!
-//! let mut balances = [0; 32];
-//! balances[..2].copy_from_slice(&[10, 3]);
-//! let mut book = Book::open(&Page { seats: 6, faults: 1, accounts: 2, balances })?;
+//! let mut book = Book::open(&Page::new(6, 1, &[10, 3]))?;
 //! let slip = Transfer { account: Account(0), number: 1, value: 4, recipient: Account(1) };
 //! assert_eq!(book.call(&Message::Slip(slip)), Reply::Acknowledge);
 //! assert_eq!(book.waiting(), []);

@@ -16,6 +16,20 @@ pub struct Page {
 }
 
 impl Page {
+    /// The page of a group whose accounts have these balances. Of more than 32 balances it opens no book: refused with 2.
+    pub fn new(seats: u8, faults: u8, balances: &[u32]) -> Page {
+        let mut all = [0; 32];
+        for (place, balance) in all.iter_mut().zip(balances) {
+            *place = *balance;
+        }
+        Page {
+            seats,
+            faults,
+            accounts: u8::try_from(balances.len()).unwrap_or(u8::MAX),
+            balances: all,
+        }
+    }
+
     /// The page's bytes, as a bundle's body of kind 0 has them.
     pub fn to_bytes(&self) -> [u8; PAGE_SIZE] {
         let mut bytes = [0; PAGE_SIZE];

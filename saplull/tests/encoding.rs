@@ -2,8 +2,8 @@
 
 mod common;
 
-use common::{ack, page, transfer};
-use saplull::{Account, Message};
+use common::{ack, transfer};
+use saplull::{Account, Message, Page};
 
 const NUMBER: u32 = 0x0403_0201;
 const VALUE: u32 = 0x0807_0605;
@@ -13,10 +13,13 @@ fn a_page() {
     let mut balances = [0; 32];
     balances[0] = NUMBER;
     balances[31] = VALUE;
-    let bytes = page(16, 3, &balances).to_bytes();
+    let bytes = Page::new(16, 3, &balances).to_bytes();
     assert_eq!(bytes[..7], [16, 3, 32, 1, 2, 3, 4]);
     assert_eq!(bytes[7..127], [0; 120]);
     assert_eq!(bytes[127..], [5, 6, 7, 8]);
+    let bytes = Page::new(6, 1, &[10, 3]).to_bytes();
+    assert_eq!(bytes[..11], [6, 1, 2, 10, 0, 0, 0, 3, 0, 0, 0]);
+    assert_eq!(bytes[11..], [0; 120]);
 }
 
 #[test]

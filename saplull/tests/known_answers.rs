@@ -2,8 +2,8 @@
 
 mod common;
 
-use common::{ack, file, opened, page, replies, transfer, whole_output};
-use saplull::{bundle, quorum, Account, Book, Message, Refusal, Reply};
+use common::{ack, file, opened, replies, transfer, whole_output};
+use saplull::{bundle, quorum, Account, Book, Message, Page, Refusal, Reply};
 
 #[test]
 fn acks_needed() {
@@ -27,16 +27,20 @@ fn acks_needed() {
 fn openings_that_are_refused() {
     for (n, f) in [(5, 1), (17, 0)] {
         assert_eq!(
-            Book::open(&page(n, f, &[1])).unwrap_err(),
+            Book::open(&Page::new(n, f, &[1])).unwrap_err(),
             Refusal::BadGroup,
             "n {n}, f {f}"
         );
     }
-    let mut behind = page(6, 1, &[1, 2]);
+    let mut behind = Page::new(6, 1, &[1, 2]);
     behind.accounts = 1;
     assert_eq!(Book::open(&behind).unwrap_err(), Refusal::BadAccounts);
+    for accounts in [0, 33, 256 + 2] {
+        let page = Page::new(6, 1, &vec![0; accounts]);
+        assert_eq!(Book::open(&page).unwrap_err(), Refusal::BadAccounts, "k {accounts}");
+    }
     assert_eq!(
-        Book::open(&page(6, 1, &[u32::MAX, 1])).unwrap_err(),
+        Book::open(&Page::new(6, 1, &[u32::MAX, 1])).unwrap_err(),
         Refusal::SumTooLarge
     );
 }
@@ -107,7 +111,7 @@ fn sums() {
 fn whole_output_of_daybook() {
     let mut book = opened(6, 1, &[10, 3]);
     assert_eq!(replies(&mut book, &whole_output()), "A, N, N, N, N, K 1, B 7");
-    let bytes = bundle::write(&page(6, 1, &[10, 3]), &whole_output()).expect("seven messages");
+    let bytes = bundle::write(&Page::new(6, 1, &[10, 3]), &whole_output()).expect("seven messages");
     assert_eq!(bytes, file("examples/whole_output.bundle"));
     assert_eq!(bundle::text(&bytes).into_bytes(), file("examples/whole_output.txt"));
 }

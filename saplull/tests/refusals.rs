@@ -2,8 +2,8 @@
 
 mod common;
 
-use common::{ack, file, opened, page, replies, transfer};
-use saplull::{bundle, Account, Book, LoadError, Message, Refusal, Transfer};
+use common::{ack, file, opened, replies, transfer};
+use saplull::{bundle, Account, Book, LoadError, Message, Page, Refusal, Transfer};
 use std::error::Error;
 
 #[test]
@@ -83,7 +83,7 @@ fn bundles() {
 
 #[test]
 fn too_many_messages() {
-    let page = page(6, 1, &[10, 3]);
+    let page = Page::new(6, 1, &[10, 3]);
     let most = bundle::write(&page, &[Message::Request(transfer(0, 1, 4, 1)); 999]).expect("999 messages");
     assert_eq!((most.len(), bundle::check(&most)), (18_123, Ok(1000)));
     let more = bundle::write(&page, &[Message::Question(Account(0)); 1000]);
@@ -92,7 +92,7 @@ fn too_many_messages() {
 
 #[test]
 fn waiting_behind_a_bundle() {
-    let page = page(6, 1, &[1, 0, 0]);
+    let page = Page::new(6, 1, &[1, 0, 0]);
     let waits = [2, 1].map(|account| Message::Ruling(transfer(account, 1, 1, 0)));
     let bytes = bundle::write(&page, &waits).expect("two messages");
     assert_eq!(bundle::waiting_behind(&bytes), Ok(vec![Account(1), Account(2)]));

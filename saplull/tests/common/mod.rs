@@ -4,18 +4,6 @@
 
 use saplull::{Account, Book, Message, Page, Seat, Transfer};
 
-/// The page with these opening balances, one for each account.
-pub fn page(seats: u8, faults: u8, balances: &[u32]) -> Page {
-    let mut all = [0; 32];
-    all[..balances.len()].copy_from_slice(balances);
-    Page {
-        seats,
-        faults,
-        accounts: balances.len() as u8,
-        balances: all,
-    }
-}
-
 pub fn transfer(account: u8, number: u32, value: u32, recipient: u8) -> Transfer {
     Transfer {
         account: Account(account),
@@ -33,7 +21,7 @@ pub fn ack(seat: u8, transfer: Transfer) -> Message {
 }
 
 pub fn opened(seats: u8, faults: u8, balances: &[u32]) -> Book {
-    Book::open(&page(seats, faults, balances)).expect("a page that opens")
+    Book::open(&Page::new(seats, faults, balances)).expect("a page that opens")
 }
 
 /// The replies to these messages, as `daybook` shows them, one after the other with a comma between them. Where one is

@@ -1,8 +1,8 @@
 /* The functions of the static library libhost.a, for hosts in C11 and C++. `rt staticlib host` writes the library.
  *
  * A book is SAPLULL_BOOK_WORDS words that the host owns and lends for the time of a call. The library keeps nothing
- * between calls: calls on different books may run at the same time, calls on one book may not. Only these functions
- * write the words.
+ * between calls: calls on different books may run at the same time, and so may calls that take one book as const; a
+ * call that writes a book is the only one on it. Only these functions write the words.
  *
  * A seat calls, then saves durably, and only then sends the reply. A seat that sends first and loses its power forgets
  * that it has acked a slip, and may ack another one with the same number. For the same reason it goes on with the last

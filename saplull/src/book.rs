@@ -1,12 +1,12 @@
 //! A seat's book.
 
-use crate::foreign::{check_sizes, ledger_call, ledger_open, ledger_switch, ledger_waiting};
+use crate::foreign::{check_sizes, ledger_call, ledger_open, ledger_switch, ledger_waiting, other_version};
 use crate::foreign::{BOOK_WORDS, HELD_WORDS, LIST_SIZE, REPLY_WORDS};
 use crate::{Account, Message, Page, Refusal, Reply};
 use std::fmt;
 
 /// A seat's book. Only the library writes its words, and it is not cloned: of two books of one seat, each could ack
-/// another slip with the same number.
+/// another slip with the same number. It may go from thread to thread, and several may read it at the same time.
 pub struct Book {
     words: Box<[u32; BOOK_WORDS]>,
 }
@@ -62,8 +62,9 @@ impl Book {
 
 /// The accounts at the front of a list, from the number that is returned for it.
 pub(crate) fn listed(list: [u8; LIST_SIZE], returned: u32) -> Result<Vec<Account>, Refusal> {
-    match (returned / 256, returned % 256) {
-        (0, count) => Ok(list[..count as usize].iter().copied().map(Account).collect()),
+    match (returned / 256, list.get(..(returned % 256) as usize)) {
+        (0, Some(front)) => Ok(front.iter().copied().map(Account).collect()),
+        (0, None) => other_version("the length of a waiting list", returned),
         (code, _) => Err(Refusal::answered(code)),
     }
 }
@@ -71,5 +72,25 @@ pub(crate) fn listed(list: [u8; LIST_SIZE], returned: u32) -> Result<Vec<Account
 impl fmt::Debug for Book {
     fn fmt(&self, f: &mut fmt::Formatter<'_>) -> fmt::Result {
         f.debug_struct("Book").finish_non_exhaustive()
+    }
+}
+
+#[cfg(test)]
+mod tests {
+    use super::{listed, LIST_SIZE};
+    use crate::{Account, Refusal};
+
+    #[test]
+    fn a_list_is_as_long_as_is_returned() {
+        let list = [7; LIST_SIZE];
+        assert_eq!(listed(list, 0), Ok(vec![]));
+        assert_eq!(listed(list, 32), Ok(vec![Account(7); 32]));
+        assert_eq!(listed(list, 17 * 256), Err(Refusal::ShortBuffer));
+    }
+
+    #[test]
+    #[should_panic(expected = "the length of a waiting list: 33, which the package saplull does not know")]
+    fn a_longer_list_is_told() {
+        let _ = listed([7; LIST_SIZE], 33);
     }
 }

@@ -4,6 +4,8 @@ mod common;
 
 use common::{ack, file, opened, replies, transfer, whole_output};
 use saplull::{bundle, Account, Book, LoadError, Message, HELD_WORDS};
+use std::collections::BTreeSet;
+use std::thread;
 
 const SIZE: usize = 5532;
 
@@ -139,4 +141,50 @@ fn a_held_book_is_taken_over() {
         replies(&mut book, &[slip, behind, late, late]),
         "R 12, R 8, P 1 1 6 4, R 8"
     );
+}
+
+/// A saved book with other bytes and a right sum: of 4,096 bytes, so many are others.
+fn with_other_bytes(many: u32, random: &mut u32) -> Vec<u8> {
+    let mut saved = lived().to_bytes();
+    for byte in &mut saved[8..SIZE - 4] {
+        *random = random.wrapping_mul(1_664_525).wrapping_add(1_013_904_223);
+        if *random >> 20 < many {
+            *byte = (*random >> 12) as u8;
+        }
+    }
+    let sum = bundle::sum(&saved[..SIZE - 4]);
+    saved[SIZE - 4..].copy_from_slice(&sum.to_le_bytes());
+    saved
+}
+
+/// Bytes that no book saved may have a right sum. Whatever their words are, every message gets a reply.
+#[test]
+fn any_words_are_a_book() {
+    let slips = [transfer(0, 2, 4, 1), transfer(1, 1, 3, 0), transfer(31, 1, 1, 0)];
+    let mut messages = vec![Message::Question(Account(0)), Message::Ruling(slips[1])];
+    messages.extend(slips.map(Message::Slip));
+    messages.extend((0..16).flat_map(|seat| slips.map(|slip| ack(seat, slip))));
+    let (mut random, mut letters) = (1, BTreeSet::new());
+    for round in 0..300 {
+        let saved = with_other_bytes(1 << (round % 13), &mut random);
+        let mut book = Book::from_bytes(&saved).expect("a right sum");
+        assert_eq!(book.to_bytes(), saved);
+        assert!(book.waiting().len() <= 32);
+        let shown = replies(&mut book, &messages);
+        letters.extend(shown.chars().filter(char::is_ascii_uppercase));
+    }
+    assert_eq!(letters.into_iter().collect::<String>(), "ABKNPR");
+}
+
+#[test]
+fn several_threads_read_a_book_and_one_takes_it() {
+    let mut book = lived();
+    let saved = book.to_bytes();
+    thread::scope(|scope| {
+        for _ in 0..4 {
+            scope.spawn(|| assert_eq!((book.to_bytes(), book.waiting()), (saved.clone(), vec![])));
+        }
+    });
+    let taken = thread::spawn(move || replies(&mut book, &[Message::Slip(transfer(0, 2, 6, 1))]));
+    assert_eq!(taken.join().expect("a reply"), "A");
 }

@@ -1,22 +1,29 @@
 //! Bundles: an opening page and messages as bytes, to be sent to others.
 
 use crate::book::listed;
-use crate::foreign::{bundle_check, bundle_sum, bundle_write, check_sizes, daybook_text, daybook_waiting};
+use crate::foreign::{
+    bundle_check, bundle_sum, bundle_write, check_sizes, daybook_text, daybook_waiting, other_version,
+};
 use crate::foreign::{LIST_SIZE, LONGEST_BUNDLE, TEXT_SIZE};
 use crate::{Account, Message, Page, Refusal};
 use std::error::Error;
 use std::fmt;
 
-/// Why a bundle is refused, and at which entry: 0 where the code is 13 or 15.
+/// Why a bundle is refused, and at which entry.
 #[derive(Clone, Copy, Debug, PartialEq, Eq)]
 pub struct BundleFault {
+    /// why, 13 to 16
     pub code: Refusal,
+    /// the lowest entry that is wrong; 0 where the code is 13 or 15, which are of the whole bundle
     pub entry: u16,
 }
 
 impl fmt::Display for BundleFault {
     fn fmt(&self, f: &mut fmt::Formatter<'_>) -> fmt::Result {
-        write!(f, "entry {}: {}", self.entry, self.code)
+        match self.code {
+            Refusal::BadHeader | Refusal::BadEnd => write!(f, "{}", self.code),
+            code => write!(f, "entry {}: {code}", self.entry),
+        }
     }
 }
 
@@ -66,7 +73,9 @@ pub fn text(bytes: &[u8]) -> String {
     let mut text = Box::new([0; TEXT_SIZE]);
     // Safe: the length is that of the bytes, and the buffer has as many bytes as stated.
     let length = unsafe { daybook_text(bytes.as_ptr(), bytes.len(), &mut *text) };
-    String::from_utf8(text[..length].to_vec()).expect("daybook writes letters, digits and signs of ASCII")
+    let front = text.get(..length);
+    let front = front.unwrap_or_else(|| other_version("the length of a text", length));
+    String::from_utf8(front.to_vec()).expect("daybook writes letters, digits and signs of ASCII")
 }
 
 /// The accounts that wait behind the bundle's last message, lowest first.

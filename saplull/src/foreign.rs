@@ -4,6 +4,7 @@
 use std::fmt::Display;
 
 pub const BOOK_WORDS: usize = 1380;
+/// How many words a book has that is held from before request 5 of document 02.
 pub const HELD_WORDS: usize = 1252;
 pub const REPLY_WORDS: usize = 5;
 pub const SAVED_SIZE: usize = 5532;

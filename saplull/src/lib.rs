@@ -17,7 +17,9 @@
 //! that it has acked a slip, and may ack another one with the same number.
 //!
 //! The functions are those of `include/saplull.h`. Where the static library is of another version than this package,
-//! a call panics and says so.
+//! a call panics and says so. Where it is of the same version no call panics, whatever the numbers and bytes are.
+
+#![warn(missing_docs)]
 
 mod book;
 pub mod bundle;

@@ -15,7 +15,9 @@ pub struct Transfer {
     pub account: Account,
     /// the payer's number of it, from 1
     pub number: u32,
+    /// how many portions
     pub value: u32,
+    /// who is paid
     pub recipient: Account,
 }
 
@@ -28,7 +30,12 @@ pub enum Message {
     /// a circulated slip
     Slip(Transfer),
     /// the ack of a seat, also of this one
-    Ack { seat: Seat, transfer: Transfer },
+    Ack {
+        /// who acks
+        seat: Seat,
+        /// what is acked
+        transfer: Transfer,
+    },
     /// the council's slip
     Ruling(Transfer),
     /// an account, whose balance is asked

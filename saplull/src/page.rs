@@ -16,7 +16,7 @@ pub struct Page {
 }
 
 impl Page {
-    /// The page of a group whose accounts have these balances. Of more than 32 balances it opens no book: refused with 2.
+    /// The page of a group whose accounts have these balances. Where they are more than 32 it opens no book: code 2.
     pub fn new(seats: u8, faults: u8, balances: &[u32]) -> Page {
         let mut all = [0; 32];
         for (place, balance) in all.iter_mut().zip(balances) {

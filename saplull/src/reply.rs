@@ -13,8 +13,11 @@ pub enum Reply {
     Circulate,
     /// A: ack the slip
     Acknowledge,
-    /// K: the slip is accepted, and so many were booked by this call
-    Accepted { booked: u32 },
+    /// K: the slip is accepted
+    Accepted {
+        /// how many slips this call booked, of this payer and of others; also none
+        booked: u32,
+    },
     /// P: put this forward to the council
     PutForward(Transfer),
     /// N: the ack is noted

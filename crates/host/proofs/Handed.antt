@@ -17,7 +17,7 @@ use Rattle.model.specs.Types.{Ledger, Outcome}
 use Rattle.model.specs.Records.{freshLedger}
 use Rattle.model.specs.Refusals.{firstRefusal}
 use Rattle.model.specs.Replies.{codeOf, valuesOfOpen}
-use Rattle.model.specs.Bundles.{Page, wrongPage, openingOf, messageOf}
+use Rattle.model.specs.Bundles.{Page, wrongPage, openingOf, messageOf, messageOr}
 use Rattle.model.specs.Openings.{openRules, openLedgerBy, openLedger}
 use Rattle.model.specs.Calls.{step}
 use Rattle.model.proofs.Sums.{impossible}
@@ -27,7 +27,6 @@ use Rattle.basics.specs.Results.{checkOf}
 use Rattle.basics.proofs.ReadBack.{failed, passed}
 use Rattle.layout.specs.Layout.{ledgerIn}
 use Rattle.ledger.specs.Promises.{codeIfAny, OpenedAs, Answered}
-use Rattle.writer.specs.RecordLists.{messageOr}
 use Rattle.host.specs.Handing.{wrongBody, handedRules, handedRefusal, answerBy, answer, openingRules}
 use Rattle.host.specs.Messages.{ToldOpening, AnsweredAs}
 

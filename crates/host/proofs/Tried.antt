@@ -33,7 +33,7 @@ pub wrong-bodies : (handed 1 0 9 ≡ some BadEnd)
     × (handed 2 0 11 ≡ some BadEnd)
     × (handed 4 0 0 ≡ some BadEnd)
     × (handed 5 0 0 ≡ some BadEnd)
-    × (handed 5 0 2 ≡ some BadEnd)
+    × (handed 5 0 10 ≡ some BadEnd)
 wrong-bodies = (refl, refl, refl, refl, refl)
 
 -- what a bundle's pages have; an ack's seat may be any

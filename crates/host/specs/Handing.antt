@@ -1,5 +1,5 @@
 -- What a host hands over, a kind, a seat and a body, is met as a page of a bundle is. This is the one place that says what a wrong one gets: 14 for a kind that
--- is no message (of an opening it is 0) and for a seat other than 0 where the kind has none, and then 15 for a body that is not as long as its kind's.
+-- cannot stand there (as a message 0 or above 5) and for a seat other than 0 where the kind has none, and then 15 for a body that is not as long as its kind's.
 use Prim.Native.Nat.{ℕ}
 use mathlib.Core.Bool.{Bool, not}
 use mathlib.Core.List.{List, [], _∷_, _++_}
@@ -12,10 +12,9 @@ use Rattle.model.specs.declared.Refusal.the-variants.{BadContents, BadEnd}
 use Rattle.model.specs.declared.Reply.the-variants.{Refuse}
 use Rattle.model.specs.Types.{Ledger, Outcome}
 use Rattle.model.specs.Refusals.{Rule, firstRefusal}
-use Rattle.model.specs.Bundles.{Page, bodyLength, wrongPage, openingOf, messageOf}
+use Rattle.model.specs.Bundles.{Page, bodyLength, wrongPage, openingOf, messageOf, messageOr}
 use Rattle.model.specs.Openings.{openRules}
 use Rattle.model.specs.Calls.{step}
-use Rattle.writer.specs.RecordLists.{messageOr}
 
 -- 15, of a page by itself: its body does not end where its kind's does
 abbrev pub wrongBody : Page → Bool

@@ -4,4 +4,4 @@ pub mod Messages
 pub mod Keeping
 pub mod Quorums
 pub mod Waiting
-pub mod Bundles
+pub mod BundleNumbers

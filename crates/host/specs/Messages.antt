@@ -32,8 +32,7 @@ pub record AnsweredAs (before : List ℕ) (p : Page) (r : Reply) (after : List �
   pub ledger : ledgerIn after ≡ answer (ledgerIn before) p .next
   pub kept : (code : Refusal) → r ≡ Refuse code → after ≡ before
 
--- One message, of a kind, a seat and a body as a bundle has them: the words after it, and those of the reply.
+-- One message, of a kind, a seat and a body as a bundle has them: the words of the reply, and those of the book after it.
 pub record ToldCall (before : List ℕ) (p : Page) (after replied : List ℕ) : Type 0 where
-  pub reply : replied ≡ replyWords (answer (ledgerIn before) p .reply)
-  pub ledger : ledgerIn after ≡ answer (ledgerIn before) p .next
-  pub kept : (code : Refusal) → answer (ledgerIn before) p .reply ≡ Refuse code → after ≡ before
+  pub told : replied ≡ replyWords (answer (ledgerIn before) p .reply)
+  pub answered : AnsweredAs before p (answer (ledgerIn before) p .reply) after

@@ -45,7 +45,7 @@ ghost use Rattle.host.specs.Messages.{replyWords, ToldOpening, ToldCall}
 ghost use Rattle.host.specs.Keeping.{numberOfLoad, ToldLoad};
 ghost use Rattle.host.specs.Quorums.{Fewest};
 ghost use Rattle.host.specs.Waiting.{numberOf, ToldList};
-ghost use Rattle.host.specs.Bundles.{numberOfFault, numberOfCheck, numberOfWrite, ToldWriting};
+ghost use Rattle.host.specs.BundleNumbers.{numberOfFault, numberOfCheck, numberOfWrite, ToldWriting};
 
 mod handing;
 

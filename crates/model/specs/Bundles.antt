@@ -182,3 +182,8 @@ messageOf p =
     (cond (eqb (p .kind) 3) (some (Ack (seatOf (p .seat)) (transferOf (p .body))))
     (cond (eqb (p .kind) 4) (some (Decision (transferOf (p .body))))
     (cond (eqb (p .kind) 5) (some (Inquiry (accountOf (getD (p .body) 0 0)))) none))))
+
+-- a page's message; what stands for one that is none never shows where 14 is tried first
+abbrev pub messageOr : Option Message → Message
+messageOr none = Inquiry (accountOf 0)
+messageOr (some m) = m

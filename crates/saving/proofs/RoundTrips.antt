@@ -15,7 +15,7 @@ use Rattle.bundle.proofs.Longest.{no-difference}
 use Rattle.layout.specs.Layout.{bookWords}
 use Rattle.saving.specs.declared.LoadReply.{LoadReply}
 use Rattle.saving.specs.declared.LoadReply.the-variants.{Loaded, WrongMark, UnknownFormat, WrongLength, WrongSum}
-use Rattle.saving.specs.Saved.{mark, format, sumAt, savedSize, summed, saved, wrongMark, unknownFormat, wrongLength, wrongSum, loadReply, wordsSaved}
+use Rattle.saving.specs.Saved.{mark, format, wordsAt, sumAt, savedSize, summed, saved, wrongMark, unknownFormat, wrongLength, wrongSum, loadReply, wordsSaved}
 use Rattle.saving.specs.RoundTrips.{SaveThenLoad, SavesBack, LoadThenSave, OtherSum}
 
 -- the answer by its four tests
@@ -64,7 +64,7 @@ save-then-load words book =
       size = bytes-length words (book .size) _ small;
       bytes = more-bytes (summed words) (numberBytes 4 (bodySum (summed words))) (summed-bytes words) (number-bytes 4 (bodySum (summed words)));
       loads = loads;
-      same = λ before. rw loads (ap (λ (n : ℕ). wordsFrom n 8 (saved words)) (sym (book .size)) ∙ words-read words 8 (saved words) _ (book .small) refl);
+      same = λ before. rw loads (ap (λ (n : ℕ). wordsFrom n wordsAt (saved words)) (sym (book .size)) ∙ words-read words wordsAt (saved words) _ (book .small) refl);
     }
 
 pub other-sum : OtherSum
@@ -75,11 +75,11 @@ other-sum words book s small differs =
 -- the words that bytes hold: so many, and each of them
 pub saved-count : (bytes : List ℕ) → length (wordsSaved bytes) ≡ bookWords
 unfolding wordsSaved
-saved-count bytes = words-count bookWords 8 bytes
+saved-count bytes = words-count bookWords wordsAt bytes
 
-pub saved-at : (bytes : List ℕ) (i : ℕ) → i < bookWords → getD (wordsSaved bytes) i 0 ≡ number4 bytes (8 + 4 * i)
+pub saved-at : (bytes : List ℕ) (i : ℕ) → i < bookWords → getD (wordsSaved bytes) i 0 ≡ number4 bytes (wordsAt + 4 * i)
 unfolding wordsSaved
-saved-at bytes i h = words-at bookWords 8 i bytes h
+saved-at bytes i h = words-at bookWords wordsAt i bytes h
 
 -- a load that is not refused met no test
 all-passed : (m f l s : Bool) → replyBy m f l s ≡ Loaded → (m ≡ false) × (f ≡ false) × (l ≡ false) × (s ≡ false)
@@ -95,7 +95,7 @@ module _ (loaded : List ℕ) (bytes-small : Bytes loaded) where
 
   saved-small : (i : ℕ) → getD words i 0 < 4_294_967_296
   unfolding wordsSaved
-  saved-small = words-small loaded bytes-small bookWords 8
+  saved-small = words-small loaded bytes-small bookWords wordsAt
 
   module _ (is-mark : number4 loaded 0 ≡ number4 mark 0) (is-format : number4 loaded 4 ≡ format) (size : length loaded ≡ savedSize) where
     front-back : summed words ≡ take sumAt loaded
@@ -103,7 +103,7 @@ module _ (loaded : List ℕ) (bytes-small : Bytes loaded) where
     front-back =
         let first = ap (numberBytes 4) (sym is-mark) ∙ number-written 4 loaded 0 bytes-small (omega arith) in
         let second = ap (numberBytes 4) (sym is-format) ∙ number-written 4 loaded 4 bytes-small (omega arith) in
-        let others = words-back loaded bytes-small bookWords 8 (omega arith) ∙ ap (take (4 * bookWords)) (sym (drop-drop 4 4 loaded)) in
+        let others = words-back loaded bytes-small bookWords wordsAt (omega arith) ∙ ap (take (4 * bookWords)) (sym (drop-drop 4 4 loaded)) in
         joined first (joined second others ∙ sym (take-add 4 (4 * bookWords) (drop 4 loaded))) ∙ sym (take-add 4 (4 + 4 * bookWords) loaded)
 
     saves-back : number4 loaded sumAt ≡ bodySum (take sumAt loaded) → SavesBack loaded words

@@ -20,15 +20,19 @@ pub zeros-book : BookWords (replicate bookWords 0)
 zeros-book = record { size = refl; small = small-zeros bookWords }
 
 -- "in this order": the bytes of each row have every fault from its own on
-pub in-order : (loadReply [] ≡ WrongMark)
-    × (loadReply (0 ∷ 65 ∷ 80 ∷ 76 ∷ 1 ∷ []) ≡ WrongMark)
+pub in-order : (loadReply (1 ∷ []) ≡ WrongMark)
     × (loadReply mark ≡ UnknownFormat)
     × (loadReply (mark ++ numberBytes 4 2) ≡ UnknownFormat)
     × (loadReply (mark ++ numberBytes 4 format) ≡ WrongLength)
     × (loadReply (mark ++ numberBytes 4 format ++ replicate 5_525 0) ≡ WrongLength)
     × (loadReply (mark ++ numberBytes 4 format ++ replicate 5_524 0) ≡ WrongSum)
 unfolding loadReply
-in-order = (refl, refl, refl, refl, refl, refl, refl)
+in-order = (refl, refl, refl, refl, refl, refl)
+
+-- a byte that is missing is no byte of the mark
+pub no-mark : (loadReply [] ≡ WrongMark) × (loadReply (83 ∷ 65 ∷ 80 ∷ []) ≡ WrongMark)
+unfolding loadReply
+no-mark = (refl, refl)
 
 -- the form: mark, format, words lowest byte first, and the sum behind them
 pub the-form : (take 12 (saved (258 ∷ replicate 1_379 0)) ≡ 83 ∷ 65 ∷ 80 ∷ 76 ∷ 1 ∷ 0 ∷ 0 ∷ 0 ∷ 2 ∷ 1 ∷ 0 ∷ 0 ∷ [])

@@ -19,9 +19,12 @@ mark = 83 ∷ 65 ∷ 80 ∷ 76 ∷ []
 abbrev pub format : ℕ
 format = 1
 
--- where the sum stands, and how many bytes there are
+-- where the words and the sum stand, and how many bytes there are
+abbrev pub wordsAt : ℕ
+wordsAt = 8
+
 abbrev pub sumAt : ℕ
-sumAt = 8 + 4 * bookWords
+sumAt = wordsAt + 4 * bookWords
 
 abbrev pub savedSize : ℕ
 savedSize = sumAt + 4
@@ -58,7 +61,7 @@ loadReply bytes =
 
 -- the words that the bytes hold
 unfoldable pub wordsSaved : List ℕ → List ℕ
-wordsSaved bytes = wordsFrom bookWords 8 bytes
+wordsSaved bytes = wordsFrom bookWords wordsAt bytes
 
 -- the words after a load: those that the bytes hold; "a refusal leaves the store as it was"
 abbrev pub wordsAfter : LoadReply → List ℕ → List ℕ → List ℕ

@@ -19,7 +19,7 @@ const FORMAT_AT: u32 = 4;
 
 const WORDS_AT: u32 = 8;
 
-const SUM_AT: usize = 8 + 4 * BOOK_WORDS;
+const SUM_AT: usize = (WORDS_AT as usize) + 4 * BOOK_WORDS;
 
 pub const SAVED_SIZE: usize = SUM_AT + 4;
 

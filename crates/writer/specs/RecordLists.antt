@@ -6,11 +6,9 @@ use mathlib.Core.Option.{Option, none, some}
 use lib.Dec.{eqb}
 use lib.ListN.{length, getD, take, drop}
 use Rattle.model.specs.declared.Message.{Message}
-use Rattle.model.specs.declared.Message.the-variants.{Inquiry}
 use Rattle.model.specs.declared.Refusal.the-variants.{BadContents, BadEnd}
 use Rattle.model.specs.Basics.{firstWhere}
-use Rattle.model.specs.Records.{accountOf}
-use Rattle.model.specs.Bundles.{Page, wrongPage, Fault, ofWhole, messageOf}
+use Rattle.model.specs.Bundles.{Page, wrongPage, Fault, ofWhole, messageOf, messageOr}
 use Rattle.model.specs.Writing.{tooMany, noRoom}
 
 -- how many whole records there are
@@ -41,11 +39,6 @@ firstWrong records = firstWhere (wrongRecord records) (recordCount records) 0
 -- 15, of records: the last one is not whole
 abbrev pub badLast : List ℕ → Bool
 badLast records = not (eqb (length records % 12) 0)
-
--- a record's message; what stands for one that is none never shows, since 14 is tried first
-abbrev pub messageOr : Option Message → Message
-messageOr none = Inquiry (accountOf 0)
-messageOr (some m) = m
 
 abbrev pub messageIn : List ℕ → ℕ → Message
 messageIn records i = messageOr (messageOf (recordPage records i))

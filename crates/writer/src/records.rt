@@ -14,10 +14,11 @@ use pages::messages::message_from;
 ghost use Prim.Native.Nat.{_+_, _*_, _≤_};
 ghost use mathlib.Core.Path.{_≡_};
 ghost use lib.ListN.{length, take};
+ghost use Rattle.model.specs.Bundles.{messageOr};
 ghost use Rattle.basics.specs.Results.{searchOf};
 ghost use Rattle.pages.specs.Results.{asks};
 ghost use Rattle.writer.specs.Promises.{WroteRecords};
-ghost use Rattle.writer.specs.RecordLists.{recordCount, wrongRecord, firstWrong, messageOr, messageIn, messagesFrom};
+ghost use Rattle.writer.specs.RecordLists.{recordCount, wrongRecord, firstWrong, messageIn, messagesFrom};
 
 // Kind, seat and ten bytes of a body.
 const RECORD_SIZE: usize = 12;
@@ -52,7 +53,7 @@ fn first_wrong(records: &[u8], count: usize) -> Search
     Search::Nowhere
 }
 
-// A record's message, or a question where it is none.
+// A page's message, or a question where it is none.
 pub fn message_or(asked: Asked) -> Message
     ensures { λ r. ⌜ r ≡ messageOr (asks asked) ⌝ }
 {

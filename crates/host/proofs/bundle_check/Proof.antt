@@ -1,7 +1,7 @@
 -- The check's reply, told as one number.
 use mathlib.Core.Path.{ap, _∙_}
 use borrow.Author.Needs.{needs}
-use Rattle.host.specs.Bundles.{numberOfCheck}
+use Rattle.host.specs.BundleNumbers.{numberOfCheck}
 use Rattle.host.proofs.bundle_check.Statement.{statement}
 use Rattle.host.proofs.bundle_check.Tie as tie
 

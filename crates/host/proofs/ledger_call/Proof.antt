@@ -1,5 +1,5 @@
 -- The answer to what is handed over, told in words.
-use mathlib.Core.Path.{ap, _∙_}
+use mathlib.Core.Path.{refl, ap, _∙_}
 use borrow.Author.Needs.{needs}
 use Rattle.host.specs.Messages.{replyWords}
 use Rattle.host.proofs.ledger_call.Statement.{statement}
@@ -15,9 +15,8 @@ returns : tie.Need-returns
 returns c =
     let answered = c .before .answer .ensures in
     record {
-      reply = c .reply-words .ensures ∙ ap replyWords (answered .reply);
-      ledger = answered .ledger;
-      kept = λ code refused. answered .kept code (answered .reply ∙ refused);
+      told = c .reply-words .ensures ∙ ap replyWords (answered .reply);
+      answered = record { reply = refl; ledger = answered .ledger; kept = λ code refused. answered .kept code (answered .reply ∙ refused) };
     }
 
 pub ledger-call-spec : {M : Type 1} → statement M

@@ -1,7 +1,7 @@
 -- What was refused is as it was; what was read is the message of the page, and it is played.
 use mathlib.Core.Path.{ap, _∙_}
 use borrow.Author.Needs.{needs}
-use Rattle.writer.specs.RecordLists.{messageOr}
+use Rattle.model.specs.Bundles.{messageOr}
 use Rattle.host.proofs.Handed.{answer-refused, answer-played}
 use Rattle.host.proofs.handing.answer.Statement.{statement}
 use Rattle.host.proofs.handing.answer.Tie as tie

@@ -4,7 +4,7 @@ use native.Mathlib.Omega.{arith}
 use mathlib.Core.Path.{_≡_, ap, _∙_}
 use lib.ListN.{getD, take, drop}
 use Rattle.model.specs.Bundles.{messageOf}
-use Rattle.writer.specs.RecordLists.{messageOr}
+use Rattle.model.specs.Bundles.{messageOr}
 use borrow.Author.Needs.{needs}
 use Rattle.writer.proofs.records.message_in.Statement.{statement}
 use Rattle.writer.proofs.records.message_in.Tie as tie

@@ -12,8 +12,9 @@
  * long as stated; `length` is how many bytes the pointer before it leads to. A buffer that is const is left as it was.
  * All bytes and numbers are allowed, and every call returns. Numbers in bytes are little-endian.
  *
- * What is no message or no page: a body or a page of the wrong length gets 15; a kind that is no message gets 14; and a
- * seat other than 0 where the kind has none gets 14. 14 is tried before 15, and both before all else. */
+ * What is no message or no page, handed over by itself, to ledger_call or ledger_open: a body or a page of the wrong
+ * length gets 15; a kind that is no message gets 14; and a seat other than 0 where the kind has none gets 14. There 14
+ * is tried before 15, and both before all else. bundle_write has an order of its own, and says it. */
 #ifndef SAPLULL_H
 #define SAPLULL_H
 
@@ -62,8 +63,10 @@ extern "C" {
 #define SAPLULL_CODE_INSUFFICIENT_FUNDS 11 /* request or slip with a value above the balance */
 #define SAPLULL_CODE_ALREADY_ACKED 12 /* slip for a number that this seat has acked */
 #define SAPLULL_CODE_BAD_HEADER 13 /* fewer than 2 bytes, m outside 1 to 1,000, or fewer than 2 + 8m bytes */
-#define SAPLULL_CODE_BAD_CONTENTS 14 /* a wrong contents entry */
-#define SAPLULL_CODE_BAD_END 15 /* the bundle does not end with its last body */
+#define SAPLULL_CODE_BAD_CONTENTS 14 /* a wrong contents entry; handed over by itself: a kind that is no message, or a
+                                        seat where the kind has none */
+#define SAPLULL_CODE_BAD_END 15 /* the bundle does not end with its last body; handed over by itself: a body or page of
+                                   another length */
 #define SAPLULL_CODE_BAD_SUM 16 /* a wrong sum */
 #define SAPLULL_CODE_SHORT_BUFFER 17 /* waiting-list buffer under 32 bytes */
 #define SAPLULL_CODE_TOO_MANY_MESSAGES 18 /* more than 999 messages */

@@ -19,8 +19,10 @@ coded! {
     InsufficientFunds = 11, "request or slip with a value above the balance";
     AlreadyAcked = 12, "slip for a number that this seat has acked";
     BadHeader = 13, "fewer than 2 bytes, m outside 1 to 1,000, or fewer than 2 + 8m bytes";
-    BadContents = 14, "a wrong contents entry";
-    BadEnd = 15, "the bundle does not end with its last body";
+    BadContents = 14, "a wrong contents entry; handed over by itself: a kind that is no message, or a seat where \
+        the kind has none";
+    BadEnd = 15, "the bundle does not end with its last body; handed over by itself: a body or page of another \
+        length";
     BadSum = 16, "a wrong sum";
     ShortBuffer = 17, "waiting-list buffer under 32 bytes";
     TooManyMessages = 18, "more than 999 messages";

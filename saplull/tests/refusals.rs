@@ -81,7 +81,7 @@ fn bundles() {
     assert_eq!(of("wrong_sum"), fault(Refusal::BadSum, 1));
     assert_eq!(of("wrong_sum").unwrap_err().to_string(), "entry 1: a wrong sum");
     let shown = of("byte_missing").unwrap_err().to_string();
-    assert_eq!(shown, "the bundle does not end with its last body");
+    assert_eq!(shown, Refusal::BadEnd.sentence());
 }
 
 #[test]

@@ -2,8 +2,8 @@
 
 mod common;
 
-use common::{ack, file, opened, replies, transfer};
-use saplull::{bundle, Account, Book, LoadError, Message, Page, Refusal, Transfer};
+use common::{ack, file, opened, replies, transfer, whole_output};
+use saplull::{bundle, Account, Book, LoadError, Message, Page, Refusal, Reply, Transfer};
 use std::error::Error;
 
 #[test]
@@ -63,6 +63,58 @@ fn messages() {
     }
     let booked = Message::Ruling(transfer(0, 1, 4, 2));
     assert_eq!(replies(&mut book, &[booked, booked]), "K 2, R 6");
+}
+
+/// The reply to what is handed over as bytes. Where it is refused, the book has to be as it was.
+fn met(book: &mut Book, kind: u8, seat: u8, body: &[u8]) -> Reply {
+    let before = book.to_bytes();
+    let reply = book.call_bytes(kind, seat, body);
+    assert!(!matches!(reply, Reply::Refused(_)) || book.to_bytes() == before);
+    reply
+}
+
+#[test]
+fn bytes_that_are_no_message() {
+    let mut book = lived();
+    let slip = Message::Slip(transfer(0, 1, 4, 1)).record();
+    let (no_message, other_length) = (Reply::Refused(Refusal::BadContents), Reply::Refused(Refusal::BadEnd));
+    for kind in [0, 6, 255] {
+        assert_eq!(met(&mut book, kind, 0, &slip[2..]), no_message, "kind {kind}");
+    }
+    for kind in [1, 2, 4] {
+        assert_eq!(
+            met(&mut book, kind, 1, &slip[2..]),
+            no_message,
+            "a seat and kind {kind}"
+        );
+    }
+    assert_eq!(met(&mut book, 5, 1, &[0]), no_message, "a seat and a question");
+    for kind in 1..=4 {
+        assert_eq!(met(&mut book, kind, 0, &[]), other_length, "kind {kind}");
+        assert_eq!(met(&mut book, kind, 0, &slip[2..11]), other_length, "kind {kind}");
+        assert_eq!(met(&mut book, kind, 0, &slip[1..]), other_length, "kind {kind}");
+    }
+    assert_eq!(met(&mut book, 5, 0, &[]), other_length, "a question");
+    assert_eq!(met(&mut book, 5, 0, &slip[2..]), other_length, "a question");
+    assert_eq!(met(&mut book, 2, 1, &[]), no_message, "14 is tried before 15");
+    assert_eq!(met(&mut book, 3, 255, &[]), other_length, "15 is tried before 4");
+}
+
+#[test]
+fn bytes_of_messages() {
+    let (mut book, mut other) = (opened(6, 1, &[10, 3]), opened(6, 1, &[10, 3]));
+    let mut messages = whole_output();
+    messages.extend([
+        Message::Request(transfer(0, 2, 1, 1)),
+        Message::Ruling(transfer(1, 1, 2, 0)),
+    ]);
+    for message in messages {
+        let record = message.record();
+        let length = if record[0] == 5 { 1 } else { 10 };
+        let reply = book.call_bytes(record[0], record[1], &record[2..2 + length]);
+        assert_eq!(reply, other.call(&message), "{message:?}");
+        assert_eq!(book.to_bytes(), other.to_bytes(), "{message:?}");
+    }
 }
 
 #[test]

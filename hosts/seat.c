@@ -21,6 +21,7 @@ static const uint8_t MESSAGES[][SAPLULL_RECORD_SIZE] = {
     {SLIP, 0, FIRST}, {ACK, 0, FIRST}, {ACK, 1, FIRST}, {ACK, 2, FIRST}, {ACK, 3, FIRST}, {ACK, 4, FIRST},
     {QUESTION, 0, 1}, {QUESTION, 0, 1}, {SLIP, 0, FIRST}, {SLIP, 0, NEXT}, {SLIP, 0, NEXT}, {ACK, 0, NEXT},
 };
+static const char START_AGAIN[] = "not sent; see to the disk and start again";
 static const char BRING_BACK[] = "bring back the last book that this seat saved, never an earlier or a new one";
 
 /* Ends the host unless all is well. It tells the file, what is wrong with it (NULL: what errno says), what to do. */
@@ -39,9 +40,9 @@ static void save(const uint32_t book[SAPLULL_BOOK_WORDS], const char *file) {
     ledger_save(book, saved);
     FILE *out = fopen(fresh, "wb");
     check(out != NULL && fwrite(saved, sizeof saved, 1, out) == 1 && fflush(out) == 0 && fsync(fileno(out)) == 0 &&
-          fclose(out) == 0 && rename(fresh, file) == 0, fresh, NULL, "not sent; see to the disk and go on");
+          fclose(out) == 0 && rename(fresh, file) == 0, fresh, NULL, START_AGAIN);
     int folder = open(dirname(fresh), O_RDONLY); /* the new name is durable once its folder is */
-    check(folder >= 0 && fsync(folder) == 0 && close(folder) == 0, file, NULL, "not sent; see to its folder and go on");
+    check(folder >= 0 && fsync(folder) == 0 && close(folder) == 0, file, NULL, START_AGAIN);
 }
 
 static void send_reply(int line, const uint32_t reply[SAPLULL_REPLY_WORDS]) {

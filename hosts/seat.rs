@@ -10,6 +10,7 @@ use std::fs::{self, File};
 use std::io::{self, Write};
 use std::path::{Path, PathBuf};
 
+const START_AGAIN: &str = "not sent; see to the disk and start again";
 const BRING_BACK: &str = "bring back the last book that this seat saved, never an earlier or a new one";
 
 /// What comes in. A host gets these from its network, and checks their signatures first.
@@ -40,10 +41,10 @@ fn save(book: &Book, file: &Path) {
         out.sync_all()?;
         fs::rename(fresh, file)
     });
-    replaced.unwrap_or_else(|error| complain(fresh, error, "not sent; see to the disk and go on"));
+    replaced.unwrap_or_else(|error| complain(fresh, error, START_AGAIN));
     let here = Path::new(".").join(file); // the new name is durable once its folder is
     let synced = File::open(here.parent().unwrap_or(&here)).and_then(|folder| folder.sync_all());
-    synced.unwrap_or_else(|error| complain(file, error, "not sent; see to its folder and go on"));
+    synced.unwrap_or_else(|error| complain(file, error, START_AGAIN));
 }
 
 /// A seat opens its book once: another opening would forget all that the seat has acked.

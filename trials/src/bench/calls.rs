@@ -102,7 +102,9 @@ pub fn measure(program: &str) -> Result<(), String> {
 /// The instructions of all messages, less those of a run with none.
 fn counted(program: &str, by: &str, load: &Load) -> Result<u64, String> {
     let played = |count: usize| instructions(&[program, "--play", by, load.name, &count.to_string()], &[]);
-    Ok(played(MESSAGES)?.saturating_sub(played(0)?))
+    let (all, none) = (played(MESSAGES)?, played(0)?);
+    let wrong = || format!("{}, {by}: {all} instructions with all messages and {none} with none", load.name);
+    all.checked_sub(none).filter(|count| *count > 0).ok_or_else(wrong)
 }
 
 /// Prints what it takes to save the book behind a load, and to load it.

@@ -103,7 +103,12 @@ pub fn measure(program: &str) -> Result<(), String> {
 fn counted(program: &str, by: &str, load: &Load) -> Result<u64, String> {
     let played = |count: usize| instructions(&[program, "--play", by, load.name, &count.to_string()], &[]);
     let (all, none) = (played(MESSAGES)?, played(0)?);
-    let wrong = || format!("{}, {by}: {all} instructions with all messages and {none} with none", load.name);
+    let wrong = || {
+        format!(
+            "{}, {by}: {all} instructions with all messages and {none} with none",
+            load.name
+        )
+    };
     all.checked_sub(none).filter(|count| *count > 0).ok_or_else(wrong)
 }
 

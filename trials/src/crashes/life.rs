@@ -1,7 +1,7 @@
 //! The life of one seat, with all its kills: what is known of it from outside, and what is claimed.
 
 use super::cheat;
-use super::network::Network;
+use super::network::{Begun, Network};
 use super::steps::Place;
 use crate::dice::Dice;
 use crate::lent::{told, REPLY, SAVED};
@@ -11,7 +11,7 @@ use reference::book::{Book, Message, OpeningPage, Reply, Slip};
 use std::collections::BTreeMap;
 use std::fmt;
 
-/// So often a seat is killed in its life, and before each kill so many messages come at most.
+/// So often a seat is killed in its life, beside its opening, and before each kill so many messages come at most.
 pub const KILLS: usize = 12;
 const MESSAGES: u64 = 4;
 
@@ -97,18 +97,45 @@ impl<'a, 'b> Life<'a, 'b> {
             sent: BTreeMap::new(),
             unsent: BTreeMap::new(),
         };
-        life.start()?;
+        life.begin()?;
         Ok(life)
     }
 
-    /// The seat starts: it holds the book that was saved last.
-    fn start(&mut self) -> Result<(), Fault> {
-        let held = self.network.start(&page_bytes(&self.page));
+    /// The seat opens its book. Mostly it is killed once in its first save, and opens or goes on as it starts again.
+    fn begin(&mut self) -> Result<(), Fault> {
+        let kill = (!self.dice.once_in(4)).then(|| *self.dice.pick(&Place::OF_SAVES));
+        self.start(kill)?;
+        if kill.is_some() {
+            self.start(None)?;
+        }
+        Ok(())
+    }
+
+    /// The seat starts: it holds the book that was saved last. Where it opens its book, it is killed at this place.
+    fn start(&mut self, kill: Option<Place>) -> Result<(), Fault> {
+        let part = self.part();
+        let started = self.network.start(&page_bytes(&self.page), part);
+        started.map_err(fault(Claim::Runs))?;
         self.book = self.saved.clone();
-        let holds = held.and_then(|held| held.holds(&self.page, &self.book));
-        holds
-            .map_err(|what| format!("after {} kills: {what}", self.kills))
+        let held = loop {
+            match self.network.begun().map_err(fault(Claim::Runs))? {
+                Begun::At(place) if kill == Some(place) => {
+                    self.seen.add(place.first_row());
+                    self.kills += 1;
+                    return self.network.kill().map_err(fault(Claim::Runs));
+                }
+                Begun::At(_) => self.network.let_go_on().map_err(fault(Claim::Runs))?,
+                Begun::Holds(lent) => break lent.holds(&self.page, &self.book),
+                Begun::Refused(code) => break Err(format!("its file is no saved book, refused by {code}")),
+            }
+        };
+        held.map_err(|what| format!("after {} kills: {what}", self.kills))
             .map_err(fault(Claim::GoesOn))
+    }
+
+    /// How many bytes of a save are written when half of it is.
+    fn part(&mut self) -> u16 {
+        *self.dice.pick(&[0, 1, SAVED / 2, SAVED - 1]) as u16
     }
 
     /// Messages and kills in turn. After each kill mostly comes another slip of the number that was at work.
@@ -126,15 +153,15 @@ impl<'a, 'b> Life<'a, 'b> {
             let place = *self.dice.pick(&Place::ALL);
             self.meet(&message, Some(place))?;
             killed_at = Some(message);
-            self.start()?;
+            self.start(None)?;
         }
         Ok(())
     }
 
     /// One message; at this place the seat is killed.
     fn meet(&mut self, message: &Message, kill: Option<Place>) -> Result<(), Fault> {
-        let part = *self.dice.pick(&[0, 1, SAVED / 2, SAVED - 1]);
-        self.network.hand(message, part as u16).map_err(fault(Claim::Runs))?;
+        let part = self.part();
+        self.network.hand(message, part).map_err(fault(Claim::Runs))?;
         let due = self.book.call(message);
         let mut passed = Vec::new();
         while passed.len() < Place::ALL.len() {

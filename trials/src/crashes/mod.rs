@@ -25,13 +25,17 @@ pub fn lives(checks: &mut Checks, program: &str, seed: u64) -> Result<(), String
     let folder = Folder::new()?;
     let network = |habit| Network::new(program, &folder.path, habit);
     checks.part("seats that save, then send");
-    println!("{LIVES} seats are killed {} times each", life::KILLS);
+    println!(
+        "{LIVES} seats are killed {} times each, and most of them once more as they open",
+        life::KILLS
+    );
     let mut seen = Seen::default();
     for index in 0..LIVES {
         let lived = one_life(network(Habit::SaveThenSend), seed, index, &mut seen);
         let told = lived.map_err(|fault| fault.to_string());
         checks.same(&format!("life {index} of seed {seed}"), told, Ok(()));
     }
+    seen.table(checks, Place::OF_SAVES.iter().map(|place| place.first_row()));
     seen.table(checks, Place::ALL.iter().map(|place| place.row()).chain(life::ROWS));
     checks.part("seats that do not work as they have to");
     for (habit, claim) in [

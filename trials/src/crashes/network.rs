@@ -1,6 +1,6 @@
 //! The network of one seat, which also kills it: the seat's process, and the pipes to and from it.
 
-use super::steps::{book_of, frame, reply_of, Habit, Place, FRAME, HELD, TOLD};
+use super::steps::{book_of, frame, opening, reply_of, Habit, Place, FRAME, HELD, HOLDS, REFUSALS, TOLD};
 use crate::daybook::PAGE;
 use crate::lent::{Lent, REPLY};
 use reference::book::Message;
@@ -28,6 +28,16 @@ pub struct Told {
     pub reply: Option<[u32; REPLY]>,
 }
 
+/// What a seat tells as it starts.
+pub enum Begun {
+    /// it saves a new book
+    At(Place),
+    /// the book that it goes on with
+    Holds(Lent),
+    /// the code by which its file is no saved book
+    Refused(u8),
+}
+
 impl<'a> Network<'a> {
     /// A seat that has no book yet, and keeps it in a file of this folder.
     pub fn new(program: &'a str, folder: &Path, habit: Habit) -> Network<'a> {
@@ -43,8 +53,8 @@ impl<'a> Network<'a> {
         }
     }
 
-    /// Starts the seat: the book that it goes on with.
-    pub fn start(&mut self, page: &[u8; PAGE]) -> Result<Lent, String> {
+    /// Starts the seat.
+    pub fn start(&mut self, page: &[u8; PAGE], part: u16) -> Result<(), String> {
         let started = Command::new(self.program)
             .arg(&self.file)
             .arg(self.habit.name())
@@ -58,12 +68,23 @@ impl<'a> Network<'a> {
             child.stdout.take().expect("a pipe"),
         );
         self.seat = Some(Process { child, to, from });
-        let mut held = [0; HELD];
-        self.with(|seat| {
-            seat.to.write_all(page)?;
-            seat.from.read_exact(&mut held)
-        })?;
-        Ok(book_of(&held))
+        self.with(|seat| seat.to.write_all(&opening(page, part)))
+    }
+
+    /// Waits for what the seat tells next, until it holds a book.
+    pub fn begun(&mut self) -> Result<Begun, String> {
+        let mut byte = [0];
+        self.with(|seat| seat.from.read_exact(&mut byte))?;
+        match (byte[0], Place::of(byte[0])) {
+            (HOLDS, _) => {
+                let mut held = [0; HELD];
+                self.with(|seat| seat.from.read_exact(&mut held))?;
+                Ok(Begun::Holds(book_of(&held)))
+            }
+            (code, _) if REFUSALS.contains(&code) => Ok(Begun::Refused(code)),
+            (_, Some(place)) if Place::OF_SAVES.contains(&place) => Ok(Begun::At(place)),
+            (other, _) => Err(format!("the seat tells {other} as it starts")),
+        }
     }
 
     pub fn hand(&mut self, message: &Message, part: u16) -> Result<(), String> {

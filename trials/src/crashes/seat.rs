@@ -1,7 +1,7 @@
 //! The seat: it keeps its book in a file, over the static library. For each message it calls, saves the book durably, and
 //! sends the reply.
 
-use super::steps::{bytes_of, unframed, Habit, Place, FRAME};
+use super::steps::{bytes_of, part_of, unframed, Habit, Place, FRAME, HOLDS, OPENING, REFUSALS};
 use crate::daybook::PAGE;
 use crate::lent::{Lent, REPLY, SAVED};
 use std::fs::{self, File};
@@ -16,53 +16,54 @@ struct Seat<'a> {
 
 /// Works on the messages that come, until no more do. First comes the page that opens the book, where none is saved.
 pub fn run(file: &Path, habit: Habit) -> Result<(), String> {
-    let mut page = [0; PAGE];
+    let mut opening = [0; OPENING];
     let ended = |error| format!("the network went away: {error}");
-    io::stdin().read_exact(&mut page).map_err(ended)?;
-    let lent = if file.exists() { load(file)? } else { open(file, &page)? };
-    say(&bytes_of(&lent.words[..])).map_err(ended)?;
+    let unsaved = |error| format!("{}: {error}; the book has to be saved", file.display());
+    io::stdin().read_exact(&mut opening).map_err(ended)?;
+    let (page, part) = opening.split_at(PAGE);
+    let is_new = !file.exists();
+    let lent = if is_new { open(page)? } else { load(file)? };
     let mut seat = Seat { file, habit, lent };
+    if is_new {
+        seat.save(part_of(part)).map_err(unsaved)?;
+    }
+    say(&[&[HOLDS], &bytes_of(&seat.lent.words[..])[..]].concat()).map_err(ended)?;
     let mut frame = [0; FRAME];
     while io::stdin().read_exact(&mut frame).is_ok() {
-        let met = seat.meet(&frame);
-        met.map_err(|error| format!("{}: {error}; the book has to be saved", file.display()))?;
+        seat.meet(&frame).map_err(unsaved)?;
     }
     Ok(())
 }
 
-/// The book that is saved.
+/// The book that is saved. The network is told the code where it is none.
 fn load(file: &Path) -> Result<Lent, String> {
     let wrong = |what: String| format!("{}: {what}; put the copy here that was saved last", file.display());
     let bytes = fs::read(file).map_err(|error| wrong(error.to_string()))?;
     let mut lent = Lent::default();
     match lent.load(&bytes) {
         0 => Ok(lent),
-        code => Err(wrong(format!("no saved book, refused by {code}"))),
+        code => {
+            if REFUSALS.contains(&code) {
+                say(&[code]).map_err(|error| wrong(error.to_string()))?;
+            }
+            Err(wrong(format!("no saved book, refused by {code}")))
+        }
     }
 }
 
-/// A new book, which is saved before any message comes.
-fn open(file: &Path, page: &[u8]) -> Result<Lent, String> {
+/// A new book, which is to be saved before any message comes.
+fn open(page: &[u8]) -> Result<Lent, String> {
     let mut lent = Lent::default();
-    let code = lent.open(page);
-    if code > 0 {
-        return Err(format!("the page is refused by {code}; hand over one that opens"));
+    match lent.open(page) {
+        0 => Ok(lent),
+        code => Err(format!("the page is refused by {code}; hand over one that opens")),
     }
-    let saved = write_whole(file, &saved(&lent));
-    saved.map_err(|error| format!("{}: {error}; the book has to be saved", file.display()))?;
-    Ok(lent)
 }
 
 fn saved(lent: &Lent) -> [u8; SAVED] {
     let mut saved = [0; SAVED];
     lent.save(&mut saved);
     saved
-}
-
-fn write_whole(file: &Path, bytes: &[u8]) -> io::Result<()> {
-    let mut out = File::create(file)?;
-    out.write_all(bytes)?;
-    out.sync_all()
 }
 
 fn say(bytes: &[u8]) -> io::Result<()> {

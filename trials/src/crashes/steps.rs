@@ -1,6 +1,7 @@
 //! What a seat and its network tell each other: the places of a seat's work, a message as it comes over the pipe, and the
 //! order in which a seat works.
 
+use crate::daybook::PAGE;
 use crate::lent::{Lent, Sent, REPLY, WORDS};
 use crate::records::{record, RECORD};
 use reference::book::Message;
@@ -23,6 +24,8 @@ pub enum Place {
 
 impl Place {
     pub const ALL: [Place; 5] = [Place::Called, Place::Half, Place::Written, Place::Saved, Place::Sent];
+    /// Those of a save, to which a seat also comes as it opens its book.
+    pub const OF_SAVES: [Place; 3] = [Place::Half, Place::Written, Place::Saved];
 
     pub fn byte(self) -> u8 {
         self as u8
@@ -40,6 +43,15 @@ impl Place {
             Place::Written => "killed before the rename",
             Place::Saved => "killed between save and send",
             Place::Sent => "killed after the send",
+        }
+    }
+
+    /// The row of a kill at this place of the first save.
+    pub fn first_row(self) -> &'static str {
+        match self {
+            Place::Half => "killed in the first save",
+            Place::Written => "killed before the first rename",
+            _ => "killed after the first save",
         }
     }
 }
@@ -81,7 +93,13 @@ impl Habit {
 
 /// A message over the pipe: its record, and how many bytes of the new file are written when half of it is.
 pub const FRAME: usize = RECORD + 2;
-/// The words that a seat holds as it begins, and a reply, over the pipe.
+/// The page, and that number for the save of a new book.
+pub const OPENING: usize = PAGE + 2;
+/// A seat that goes on with a book tells this byte and its words. One whose file is no saved book tells, as a byte, the code
+/// by which it is refused, and ends.
+pub const HOLDS: u8 = 255;
+pub const REFUSALS: std::ops::RangeInclusive<u8> = 101..=104;
+/// The words of a book, and a reply, over the pipe.
 pub const HELD: usize = 4 * WORDS;
 pub const TOLD: usize = 4 * REPLY;
 
@@ -99,7 +117,16 @@ pub fn unframed(frame: &[u8; FRAME]) -> (Sent, usize) {
         seat: frame[1],
         body: frame[2..2 + length].to_vec(),
     };
-    (sent, usize::from(u16::from_le_bytes([frame[12], frame[13]])))
+    (sent, part_of(&frame[RECORD..]))
+}
+
+pub fn opening(page: &[u8; PAGE], part: u16) -> Vec<u8> {
+    [&page[..], &part.to_le_bytes()].concat()
+}
+
+/// How many bytes are written when half of a save is, from the end of a frame or an opening.
+pub fn part_of(bytes: &[u8]) -> usize {
+    usize::from(u16::from_le_bytes([bytes[0], bytes[1]]))
 }
 
 /// Words as bytes, the lowest first.

@@ -105,7 +105,7 @@ fn counted(program: &str, by: &str, load: &Load) -> Result<u64, String> {
     let (all, none) = (played(MESSAGES)?, played(0)?);
     let wrong = || {
         format!(
-            "{}, {by}: {all} instructions with all messages and {none} with none",
+            "{}, {by}: {all} instructions with all messages and {none} with none, which cannot be right",
             load.name
         )
     };

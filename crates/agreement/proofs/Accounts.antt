@@ -3,16 +3,16 @@ use Prim.Native.Nat.{_≤_}
 use native.Mathlib.Omega.{arith}
 use mathlib.Core.Path.{_≡_, refl, ap, _∙_}
 use lib.ListN.{take}
-use Rattle.agreement.specs.Types.{Seat, Account, Entry, Ledger, Opening, Message, Reply}
-use Rattle.agreement.specs.Runs.{Opens, Run, ledgerAt, Obeys}
+use Rattle.laws.specs.Types.{Seat, Account, Entry, Ledger, Opening, Message, Reply}
+use Rattle.runs.specs.Runs.{Opens, Run, ledgerAt, Obeys}
 use Rattle.agreement.proofs.Soundness.{opened-entry, group, Sound}
 use Rattle.agreement.proofs.Reachable.{sound, everywhere}
 use Rattle.agreement.proofs.StepLaws.{switched-state, Turn, keeps, accepts, turn}
 use Rattle.model.specs.Basics.{sumOf}
 use Rattle.model.specs.Records.{accountOf, freshEntry, withPending, sumBalances, setEntry, entryOf}
-use Rattle.model.proofs.Sums.{sum-front}
-use Rattle.model.proofs.Access.{entry-set-other}
-use Rattle.model.proofs.Settles.{Apart, settle-apart}
+use Rattle.laws.proofs.Sums.{sum-front}
+use Rattle.laws.proofs.Access.{entry-set-other}
+use Rattle.laws.proofs.Settles.{Apart, settle-apart}
 
 -- an account that has nothing, and has booked nothing
 abbrev pub Unused : Entry → Type 0

@@ -5,12 +5,12 @@ use mathlib.Core.Path.{_≡_, refl, ap, sym, _∙_}
 use mathlib.Core.Logic.{_⊎_, inl, inr}
 use mathlib.Core.Bool.{Bool, true, false, _&&_}
 use mathlib.Core.Option.{some}
-use Rattle.agreement.specs.Types.{Seat, Account, Transfer, Full, Entry, Ledger, Opening, Message, Circulated, Ack, Reply, Acknowledge}
-use Rattle.agreement.specs.Runs.{Opens, honest, Call, message, waitingList, switch, Event, Run, _▹_, Within, at-end, sooner, throughout, sameSeat, rulesAt, ledgerAt, Obeys, acked, passes}
-use Rattle.agreement.specs.Premises.{implies, ackedBy, genuine}
+use Rattle.laws.specs.Types.{Seat, Account, Transfer, Full, Entry, Ledger, Opening, Message, Circulated, Ack, Reply, Acknowledge}
+use Rattle.runs.specs.Runs.{Opens, honest, Call, message, waitingList, switch, Event, Run, _▹_, Within, at-end, sooner, throughout, sameSeat, rulesAt, ledgerAt, Obeys, acked, passes}
+use Rattle.runs.specs.Premises.{implies, ackedBy, genuine}
 use Rattle.agreement.proofs.Places.{before, Order, same-event, earlier, later, order, happened-later, throughout-at, obeys-before}
 use Rattle.agreement.proofs.Deeds.{acked-is, deed-found}
-use Rattle.model.proofs.Opened.{Group}
+use Rattle.laws.proofs.Opened.{Group}
 use Rattle.agreement.proofs.Soundness.{opened-entry, group, Sound, no-acks, recorded-read, same-range}
 use Rattle.agreement.proofs.Reachable.{sound, run-induction, past-calls, happened-at}
 use Rattle.agreement.proofs.Quorums.{bit-most}
@@ -20,9 +20,9 @@ use Rattle.model.specs.Records.{entryOf}
 use Rattle.model.specs.Transfers.{equal}
 use Rattle.model.specs.Refusals.{ackFrom, outOfRange}
 use Rattle.model.specs.Switches.{Rules, switched, stepUnder}
-use Rattle.model.proofs.Sums.{impossible, both}
-use Rattle.model.proofs.Switching.{switched-keeps}
-use Rattle.model.proofs.Steps.{Eligible, Recordable, entryWithAck, retain-keeps, waitingUnder, Happens}
+use Rattle.laws.proofs.Sums.{impossible, both}
+use Rattle.laws.proofs.Switching.{switched-keeps}
+use Rattle.laws.proofs.Steps.{Eligible, Recordable, entryWithAck, retain-keeps, waitingUnder, Happens}
 
 -- the last number of an account that this entry has booked or acked
 abbrev pub lastNumber : Entry → ℕ

@@ -5,10 +5,10 @@ use mathlib.Core.Bool.{Bool, true, false, not, cond}
 use mathlib.Core.List.{List, [], _∷_, _++_}
 use mathlib.Core.Option.{Option, none, some}
 use mathlib.Core.Logic.{_⊎_, inl, inr}
-use Rattle.agreement.specs.Types.{Seat, Transfer, Ledger, Opening, Message, Ack, Accept, Propose}
-use Rattle.agreement.specs.Runs.{Opens, FewBad, message, Event, Run, start, _▹_, Within, at-end, sooner, happened, rulesAt, ledgerAt, Obeys, accepted, proposed, ruled, passes}
-use Rattle.agreement.specs.Facts.{acceptedBy}
-use Rattle.agreement.specs.Premises.{ruledOn, ruledOtherwise, likewise, proposals, founded, rightful, Premises}
+use Rattle.laws.specs.Types.{Seat, Transfer, Ledger, Opening, Message, Ack, Accept, Propose}
+use Rattle.runs.specs.Runs.{Opens, FewBad, message, Event, Run, start, _▹_, Within, at-end, sooner, happened, rulesAt, ledgerAt, Obeys, accepted, proposed, ruled, passes}
+use Rattle.runs.specs.Facts.{acceptedBy}
+use Rattle.runs.specs.Premises.{ruledOn, ruledOtherwise, likewise, proposals, founded, rightful, Premises}
 use Rattle.agreement.proofs.Places.{before, within-trans, Order, same-event, earlier, later, order, happened-holds, happened-later, throughout-at, obeys-before}
 use Rattle.agreement.proofs.Deeds.{Accepts, by-ack, by-ruling, accepted-is, passes-is, deed-found}
 use Rattle.agreement.proofs.Reachable.{sound, happened-at, put-forward}
@@ -18,8 +18,8 @@ use Rattle.agreement.proofs.Acked.{call-from}
 use Rattle.agreement.proofs.Votes.{Quorum, Majority, quorums-agree, quorum-proposed, accept-quorum, propose-majority}
 use Rattle.model.specs.Basics.{every}
 use Rattle.model.specs.Transfers.{sameNumber, equal, conflict}
-use Rattle.model.proofs.Sums.{impossible, both}
-use Rattle.model.proofs.Equality.{same-number, number-same, equal-sound, equal-refl, Conflict, conflict-complete}
+use Rattle.laws.proofs.Sums.{impossible, both}
+use Rattle.laws.proofs.Equality.{same-number, number-same, equal-sound, equal-refl, Conflict, conflict-complete}
 
 -- the first ruling in a run that has a slip's account and number
 pub record FirstRuling (t : Transfer) (r : Run) : Type 0 where

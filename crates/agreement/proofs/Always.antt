@@ -7,12 +7,13 @@ use mathlib.Core.Bool.{Bool, true, false, _&&_, _||_, or-true}
 use mathlib.Core.Option.{some}
 use lib.ListN.{length}
 use borrow.Author.Tests.{leb-false}
-use Rattle.agreement.specs.Types.{Seat, Account, Transfer, Slot, Empty, Full, Entry, Ledger, Opening, Message, Request, Circulated, Ack, Decision, Inquiry, Reply, Circulate, Acknowledge, Accept, Propose, Note, Balance, Refuse}
-use Rattle.agreement.specs.Runs.{Opens, Call, message, waitingList, switch, Event, Run, _▹_, Within, sameSeat, rulesAt, ledgerAt, Conforms, Obeys, isAccept, accepted, proposed, ruled, passes, at-end}
-use Rattle.agreement.specs.Facts.{answeredK, countOf, mustAccept, acceptedBy, taken, ruledFor, Always}
-use Rattle.agreement.proofs.Places.{before, Order, same-event, earlier, later, order, happened-found, happened-holds, obeys-before, obeys-at, ledger-after}
+use Rattle.laws.specs.Types.{Seat, Account, Transfer, Slot, Empty, Full, Entry, Ledger, Opening, Message, Request, Circulated, Ack, Decision, Inquiry, Reply, Circulate, Acknowledge, Accept, Propose, Note, Balance, Refuse}
+use Rattle.runs.specs.Runs.{Opens, Call, message, waitingList, switch, Event, Run, _▹_, Within, sameSeat, rulesAt, ledgerAt, Conforms, Obeys, isAccept, accepted, proposed, ruled, passes, at-end}
+use Rattle.runs.proofs.Found.{happened-found, that-slip}
+use Rattle.runs.specs.Facts.{answeredK, countOf, mustAccept, acceptedBy, taken, ruledFor, Always}
+use Rattle.agreement.proofs.Places.{before, Order, same-event, earlier, later, order, happened-holds, obeys-before, obeys-at, ledger-after}
 use Rattle.agreement.proofs.Proposals.{happens-in-run}
-use Rattle.agreement.proofs.Deeds.{accepting-call, that-slip, deed-found}
+use Rattle.agreement.proofs.Deeds.{accepting-call, deed-found}
 use Rattle.agreement.proofs.Soundness.{opened-entry, next-waits, group, SoundEntry, Sound}
 use Rattle.agreement.proofs.Reachable.{sound, stays, everywhere, past-calls, happened-at, put-forward}
 use Rattle.agreement.proofs.Accounts.{behind, accounts-sum}
@@ -27,11 +28,11 @@ use Rattle.model.specs.Acks.{holds, acksFor, enough}
 use Rattle.model.specs.Basics.{bit}
 use Rattle.model.specs.Settling.{isWaiting, affordable, settle}
 use Rattle.model.specs.Switches.{Rules, sinceRequest5, rank, switched, stepUnder}
-use Rattle.model.proofs.Sums.{impossible, both, same-test, sum-set-same, sum-same-each}
-use Rattle.model.proofs.Equality.{equal-sound, equal-refl}
-use Rattle.model.proofs.Opened.{Group}
-use Rattle.model.proofs.Steps.{Happens}
-use Rattle.model.proofs.Settles.{none-affordable, settle-done, settle-currents}
+use Rattle.laws.proofs.Sums.{impossible, both, same-test, sum-set-same, sum-same-each}
+use Rattle.laws.proofs.Equality.{equal-sound, equal-refl}
+use Rattle.laws.proofs.Opened.{Group}
+use Rattle.laws.proofs.Steps.{Happens}
+use Rattle.laws.proofs.Settles.{none-affordable, settle-done, settle-currents}
 
 -- a call accepts exactly if it must
 call-accepts : (o : Opening) (v : Rules) (l : Ledger) (c : Call) → Group o → Sound o l → Conforms v l c → answeredK c ≡ mustAccept v l c

@@ -3,14 +3,15 @@ use Prim.Native.Nat.{ℕ}
 use mathlib.Core.Path.{_≡_, refl, ap, sym}
 use mathlib.Core.Bool.{Bool, true, false, cond, not, _&&_}
 use mathlib.Core.Option.{Option, none, some}
-use Rattle.agreement.specs.Types.{Seat, Transfer, Message, Request, Circulated, Ack, Decision, Inquiry, Reply, Circulate, Acknowledge, Accept, Propose, Note, Balance, Refuse}
-use Rattle.agreement.specs.Runs.{Call, message, waitingList, switch, Event, Run, _▹_, Within, happened, sameSeat, isAcknowledge, isAccept, acked, accepted, proposed, passes}
-use Rattle.agreement.specs.Undisputed.{tooEarly, brings}
-use Rattle.agreement.proofs.Places.{happened-found, seat-is}
+use Rattle.laws.specs.Types.{Seat, Transfer, Message, Request, Circulated, Ack, Decision, Inquiry, Reply, Circulate, Acknowledge, Accept, Propose, Note, Balance, Refuse}
+use Rattle.runs.specs.Runs.{Call, message, waitingList, switch, Event, Run, _▹_, Within, happened, sameSeat, isAcknowledge, isAccept, acked, accepted, proposed, passes}
+use Rattle.runs.proofs.Found.{happened-found, that-slip}
+use Rattle.runs.specs.Undisputed.{tooEarly, brings}
+use Rattle.agreement.proofs.Places.{seat-is}
 use Rattle.agreement.proofs.Proposals.{carried}
 use Rattle.model.specs.Transfers.{equal}
-use Rattle.model.proofs.Sums.{impossible, both, is-not}
-use Rattle.model.proofs.Equality.{equal-sound}
+use Rattle.laws.proofs.Sums.{impossible, both, is-not}
+use Rattle.laws.proofs.Equality.{equal-sound}
 
 is-acknowledge : (r : Reply) → isAcknowledge r ≡ true → r ≡ Acknowledge
 is-acknowledge Circulate e = impossible (cc)
@@ -95,11 +96,6 @@ brings-is s t (message (Decision u) r) e = impossible (cc)
 brings-is s t (message (Inquiry a) r) e = impossible (cc)
 brings-is s t (waitingList before r after) e = impossible (cc)
 brings-is s t switch e = impossible (cc)
-
--- a slip that is equal to t is t
-pub that-slip : (t : Transfer) (x : Option Transfer) → passes (equal t) x ≡ true → x ≡ some t
-that-slip t none e = impossible (cc)
-that-slip t (some u) e = ap some (sym (equal-sound t u e))
 
 -- a slip that is there and passes the test
 pub passes-is : (test : Transfer → Bool) (x : Option Transfer) → passes test x ≡ true → (t : Transfer) × (x ≡ some t) × (test t ≡ true)

@@ -1,6 +1,6 @@
 -- Demand 3, whole: the statement is `Demand3` in specs/Claims.antt.
 use mathlib.Core.Path.{sym, _∙_}
-use Rattle.agreement.specs.Claims.{Demand3}
+use Rattle.runs.specs.Claims.{Demand3}
 use Rattle.agreement.proofs.Places.{obeys-before}
 use Rattle.agreement.proofs.Slated.{slated, told-slate}
 use Rattle.agreement.proofs.Agree.{accepted-agree}

@@ -11,8 +11,8 @@ use mathlib.Core.Option.{Option, none, some}
 use lib.Dec.{eqb}
 use lib.ListN.{length, getD}
 use borrow.Author.Tests.{eq-eqb, ne-eqb}
-use Rattle.agreement.specs.Types.{Seat, Account, Transfer, Full, Entry, Ledger, Opening, Message, Reply}
-use Rattle.agreement.specs.Runs.{Opens, message, Event, Run, start, _▹_, Within, at-end, ledgerAt, Obeys, accepted}
+use Rattle.laws.specs.Types.{Seat, Account, Transfer, Full, Entry, Ledger, Opening, Message, Reply}
+use Rattle.runs.specs.Runs.{Opens, message, Event, Run, start, _▹_, Within, at-end, ledgerAt, Obeys, accepted}
 use Rattle.agreement.proofs.Places.{before, within-trans, nothing-yet, last-or-sooner, obeys-before}
 use Rattle.agreement.proofs.Soundness.{opened-entry, next-waits, group, Sound, bounded}
 use Rattle.agreement.proofs.Reachable.{run-induction}
@@ -22,11 +22,11 @@ use Rattle.model.specs.Transfers.{sameAccount}
 use Rattle.model.specs.Switches.{switched}
 use Rattle.model.specs.Records.{accountOf, freshLedger, withPending, entryAt, setEntry, withEntry, entryOf}
 use Rattle.model.specs.Settling.{apply, settle}
-use Rattle.model.proofs.Equality.{same-number, number-same}
-use Rattle.model.proofs.Sums.{impossible}
-use Rattle.model.proofs.Access.{set-each, same-account}
-use Rattle.model.proofs.Booking.{Affordable, share, apply-clears, apply-others, apply-balance, apply-length}
-use Rattle.model.proofs.Settles.{Bounded, NextWaits, settle-induction, waited, apply-bounded, apply-next}
+use Rattle.laws.proofs.Equality.{same-number, number-same}
+use Rattle.laws.proofs.Sums.{impossible}
+use Rattle.laws.proofs.Access.{set-each, same-account}
+use Rattle.laws.proofs.Booking.{Affordable, share, apply-clears, apply-others, apply-balance, apply-length}
+use Rattle.laws.proofs.Settles.{Bounded, NextWaits, settle-induction, waited, apply-bounded, apply-next}
 
 -- the sum of f over the numbers below n, and over the numbers from 1 to n
 abbrev below : (ℕ → ℕ) → ℕ → ℕ

@@ -1,4 +1,4 @@
--- Demand 3, proved: `demand3`, in Demand3.antt. The files before it are its steps.
+-- Demand 3, proved: `demand3`, in Demand3.antt. The files before it are its steps. The statements are in the crate runs.
 pub mod Places
 pub mod Proposals
 pub mod Deeds
@@ -19,9 +19,4 @@ pub mod Retained
 pub mod Always
 pub mod Theorem1
 pub mod Switching
-pub mod AnyOrder
-pub mod Examples
-pub mod Ties
-pub mod SwitchesTried
-pub mod FactsTried
-pub mod LateTried
+pub mod Tried

@@ -5,11 +5,12 @@ use mathlib.Core.Bool.{Bool, true, false, cond, or-true}
 use borrow.Author.Tests.{eq-eqb, eqb-true}
 use Prim.Native.Nat.{ℕ}
 use mathlib.Core.List.{List}
-use Rattle.agreement.specs.Types.{Seat, Ledger, Opening, Message, Reply, ListReply}
-use Rattle.agreement.specs.Runs.{Call, message, waitingList, switch, Event, Run, start, _▹_, Within, at-end, sooner, happened, throughout, sameSeat, rulesAfter, rulesAt, nextLedger, ledgerAt, MayReply, Conforms, Obeys}
+use Rattle.laws.specs.Types.{Seat, Ledger, Opening, Message, Reply, ListReply}
+use Rattle.runs.specs.Runs.{Call, message, waitingList, switch, Event, Run, start, _▹_, Within, at-end, sooner, happened, throughout, sameSeat, rulesAfter, rulesAt, nextLedger, ledgerAt, MayReply, Conforms, Obeys}
+use Rattle.runs.proofs.Found.{happened-found}
 use Rattle.model.specs.Records.{seatOf, freshLedger}
 use Rattle.model.specs.Switches.{Rules, nextRules, switched, stepUnder}
-use Rattle.model.proofs.Sums.{impossible, both}
+use Rattle.laws.proofs.Sums.{impossible, both}
 
 -- the rules under which each seat started; and the start is a place
 abbrev pub startedUnder : Run → Seat → Rules
@@ -62,19 +63,7 @@ order (r ▹ c) w v = go (last-or-sooner w) (last-or-sooner v) (order r)
     go (inr w) (inl v) rest = earlier (rw (sym (v .0)) at w)
     go (inr w) (inr v) rest = rest w v
 
--- a test that some event passes: such an event
-pub happened-found : (test : Event → Bool) (r : Run) → happened test r ≡ true
-    → (p : Run) × (e : Event) × Within (p ▹ e) r × (test e ≡ true)
-happened-found test (start from) h = impossible (cc)
-happened-found test (r ▹ e) h = go (happened test r) refl (happened-found test r)
-  where
-    go : (b : Bool) → happened test r ≡ b
-        → (happened test r ≡ true → (p : Run) × (d : Event) × Within (p ▹ d) r × (test d ≡ true))
-        → (p : Run) × (d : Event) × Within (p ▹ d) (r ▹ e) × (test d ≡ true)
-    go true yet rest = let found = rest yet in (found .0, found .1, sooner (found .2), found .3)
-    go false yet rest = (r, e, at-end, rw yet at h)
-
--- and if an event passes it, some does
+-- if an event passes a test, some does
 pub happened-holds : (test : Event → Bool) {p r : Run} {e : Event} → Within (p ▹ e) r → test e ≡ true → happened test r ≡ true
 happened-holds test {p} at-end h = rw h (or-true (happened test p))
 happened-holds test (sooner w) h = rw (happened-holds test w h)

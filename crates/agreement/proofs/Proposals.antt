@@ -2,15 +2,15 @@
 use mathlib.Core.Path.{_≡_, refl, sym, _∙_}
 use mathlib.Core.Bool.{true, false}
 use mathlib.Core.Option.{Option, none, some}
-use Rattle.agreement.specs.Types.{Transfer, Ledger, Refusal, Message, Reply, Circulate, Acknowledge, Accept, Propose, Note, Balance, Refuse}
-use Rattle.agreement.specs.Runs.{proposal, freeSlip, acksWith, StandsFor, MayReply}
-use Rattle.agreement.specs.Proposals.{PutForwardAlike}
+use Rattle.laws.specs.Types.{Transfer, Ledger, Refusal, Message, Reply, Circulate, Acknowledge, Accept, Propose, Note, Balance, Refuse}
+use Rattle.runs.specs.Runs.{proposal, freeSlip, acksWith, StandsFor, MayReply}
+use Rattle.runs.specs.Proposals.{PutForwardAlike}
 use Rattle.model.specs.Acks.{hasMost, mostAcked}
 use Rattle.model.specs.Switches.{Rules, firstRules, sinceRequest3, sinceRequest5, newest, lateMet, stepUnder}
-use Rattle.model.proofs.Sums.{impossible}
-use Rattle.model.proofs.Proposals.{most-acked-most, same-acks}
-use Rattle.model.proofs.Refusing.{newest-step}
-use Rattle.model.proofs.Steps.{Happens, refused, circulated, acknowledged, accepted-by-acks, proposed, noted, accepted-by-ruling, joined, told, happens, carries-most}
+use Rattle.laws.proofs.Sums.{impossible}
+use Rattle.laws.proofs.Proposals.{most-acked-most, same-acks}
+use Rattle.laws.proofs.Refusing.{newest-step}
+use Rattle.laws.proofs.Steps.{Happens, refused, circulated, acknowledged, accepted-by-acks, proposed, noted, accepted-by-ruling, joined, told, happens, carries-most}
 
 -- a reply that carries a slip is P
 pub carried : (r : Reply) (t : Transfer) → proposal r ≡ some t → r ≡ Propose t

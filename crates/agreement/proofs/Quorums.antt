@@ -6,13 +6,13 @@ use mathlib.Core.Path.{_≡_, refl, ap, sym, _∙_}
 use mathlib.Core.Bool.{Bool, true, false}
 use mathlib.Core.List.{List, [], _∷_}
 use lib.ListN.{length, getD}
-use Rattle.agreement.specs.Types.{Transfer, Slot, Empty, Full}
-use Rattle.agreement.specs.Runs.{countBelow}
+use Rattle.laws.specs.Types.{Transfer, Slot, Empty, Full}
+use Rattle.runs.specs.Runs.{countBelow}
 use Rattle.model.specs.Basics.{bit, count}
 use Rattle.model.specs.Transfers.{equal}
 use Rattle.model.specs.Acks.{holds, isFull}
-use Rattle.model.proofs.Sums.{impossible}
-use Rattle.model.proofs.Equality.{equal-sound, equal-refl}
+use Rattle.laws.proofs.Sums.{impossible}
+use Rattle.laws.proofs.Equality.{equal-sound, equal-refl}
 
 pub bit-most : (b : Bool) → bit b ≤ 1
 bit-most true = omega arith

@@ -7,8 +7,8 @@ use mathlib.Core.Logic.{_⊎_, inl, inr}
 use mathlib.Core.Bool.{false}
 use mathlib.Core.List.{List}
 use mathlib.Core.Option.{some}
-use Rattle.agreement.specs.Types.{Seat, Transfer, Ledger, Opening, Message, Reply, Propose, ListReply}
-use Rattle.agreement.specs.Runs.{Opens, Call, message, waitingList, switch, Event, Run, start, _▹_, Within, at-end, sooner, sameSeat, rulesAt, ledgerAt, Conforms, Obeys, proposed}
+use Rattle.laws.specs.Types.{Seat, Transfer, Ledger, Opening, Message, Reply, Propose, ListReply}
+use Rattle.runs.specs.Runs.{Opens, Call, message, waitingList, switch, Event, Run, start, _▹_, Within, at-end, sooner, sameSeat, rulesAt, ledgerAt, Conforms, Obeys, proposed}
 use Rattle.agreement.proofs.Places.{startedUnder, the-start, nothing-yet, last-or-sooner, seat-self, obeys-at, one-event, ledger-induction}
 use Rattle.agreement.proofs.Proposals.{happens-in-run}
 use Rattle.agreement.proofs.Deeds.{proposed-is}
@@ -16,8 +16,8 @@ use Rattle.agreement.proofs.Soundness.{group, Sound, opened-sound, swit
 use Rattle.agreement.proofs.StepLaws.{step-sound, Proposes, ProposesLate, answer-propose}
 use Rattle.model.specs.Records.{freshLedger}
 use Rattle.model.specs.Switches.{Rules, nextRules, switched, stepUnder}
-use Rattle.model.proofs.Sums.{impossible}
-use Rattle.model.proofs.Steps.{Happens}
+use Rattle.laws.proofs.Sums.{impossible}
+use Rattle.laws.proofs.Steps.{Happens}
 
 -- what happened at a message of a run, by the rules that its seat had there
 pub happened-at : (o : Opening) {p r : Run} {e : Event} (m : Message) (q : Reply) → Obeys o r → Within (p ▹ e) r → e .call ≡ message m q

@@ -6,9 +6,9 @@ use mathlib.Core.Path.{_≡_, refl, ap, sym, _∙_}
 use mathlib.Core.Logic.{_⊎_, inl, inr}
 use mathlib.Core.Bool.{Bool, true, _&&_}
 use mathlib.Core.Option.{some}
-use Rattle.agreement.specs.Types.{Seat, Account, Transfer, Full, Entry, Ledger, Opening, Message, Decision, Reply, Accept}
-use Rattle.agreement.specs.Runs.{Opens, message, waitingList, switch, Event, Run, _▹_, Within, at-end, sooner, sameSeat, ledgerAt, Obeys, accepted, ruled, passes}
-use Rattle.agreement.specs.Facts.{acceptedBy, taken, ruledFor}
+use Rattle.laws.specs.Types.{Seat, Account, Transfer, Full, Entry, Ledger, Opening, Message, Decision, Reply, Accept}
+use Rattle.runs.specs.Runs.{Opens, message, waitingList, switch, Event, Run, _▹_, Within, at-end, sooner, sameSeat, ledgerAt, Obeys, accepted, ruled, passes}
+use Rattle.runs.specs.Facts.{acceptedBy, taken, ruledFor}
 use Rattle.agreement.proofs.Places.{happened-holds, happened-later, seat-self}
 use Rattle.agreement.proofs.Soundness.{opened-entry, group, SoundEntry, Sound, admitted}
 use Rattle.agreement.proofs.Reachable.{sound, run-induction}
@@ -17,11 +17,11 @@ use Rattle.model.specs.Records.{withRetainedProposed, entryOf}
 use Rattle.model.specs.Switches.{Rules}
 use Rattle.model.specs.Transfers.{equal}
 use Rattle.model.specs.Acks.{acksFor, enough}
-use Rattle.model.proofs.Sums.{impossible}
-use Rattle.model.proofs.Equality.{equal-refl}
-use Rattle.model.proofs.Booking.{Cleared}
-use Rattle.model.proofs.Switching.{takesOver, switched-entry, takes-over-keeps, takes-over-from}
-use Rattle.model.proofs.Steps.{Eligible, entryWithAck, retainUnder, retain-keeps, retained-or, Happens}
+use Rattle.laws.proofs.Sums.{impossible}
+use Rattle.laws.proofs.Equality.{equal-refl}
+use Rattle.laws.proofs.Booking.{Cleared}
+use Rattle.laws.proofs.Switching.{takesOver, switched-entry, takes-over-keeps, takes-over-from}
+use Rattle.laws.proofs.Steps.{Eligible, entryWithAck, retainUnder, retain-keeps, retained-or, Happens}
 
 module _ (o : Opening) (opens : Opens o) (s : Seat) where
   abbrev isAccepted : Transfer → Event → Bool

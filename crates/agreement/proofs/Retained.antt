@@ -7,10 +7,11 @@ use mathlib.Core.Logic.{_⊎_, inl, inr}
 use mathlib.Core.Bool.{true}
 use mathlib.Core.Option.{some}
 use lib.ListN.{length}
-use Rattle.agreement.specs.Types.{Seat, Account, Transfer, Slot, Empty, Full, Entry, Ledger, Opening, Message, Reply, Propose}
-use Rattle.agreement.specs.Runs.{Opens, Call, message, waitingList, switch, Event, Run, _▹_, Within, at-end, sooner, sameSeat, rulesAt, ledgerAt, Obeys, accepted, proposed, passes}
-use Rattle.agreement.specs.Facts.{putsFor, proposedFor}
-use Rattle.agreement.proofs.Places.{before, within-trans, Order, same-event, earlier, later, order, happened-found, happened-holds, happened-later, obeys-before, seat-is, seat-self, rules-after, ledger-after}
+use Rattle.laws.specs.Types.{Seat, Account, Transfer, Slot, Empty, Full, Entry, Ledger, Opening, Message, Reply, Propose}
+use Rattle.runs.specs.Runs.{Opens, Call, message, waitingList, switch, Event, Run, _▹_, Within, at-end, sooner, sameSeat, rulesAt, ledgerAt, Obeys, accepted, proposed, passes}
+use Rattle.runs.proofs.Found.{happened-found}
+use Rattle.runs.specs.Facts.{putsFor, proposedFor}
+use Rattle.agreement.proofs.Places.{before, within-trans, Order, same-event, earlier, later, order, happened-holds, happened-later, obeys-before, seat-is, seat-self, rules-after, ledger-after}
 use Rattle.agreement.proofs.Deeds.{accepting-call, passes-is}
 use Rattle.agreement.proofs.Proposals.{carried}
 use Rattle.agreement.proofs.Soundness.{opened-entry, group, SoundEntry, booked-retained, Sound, admitted}
@@ -21,13 +22,13 @@ use Rattle.model.specs.Records.{withBalance, withProposed, withRetainedProposed
 use Rattle.model.specs.Settling.{isWaiting}
 use Rattle.model.specs.Switches.{Rules, firstRules, sinceRequest3, sinceRequest5, rank, nextRules, retainsFrom, switched}
 use Rattle.model.specs.Transfers.{sameNumber}
-use Rattle.model.proofs.Sums.{impossible, both, same-test}
-use Rattle.model.proofs.Equality.{same-number, number-same, conflict-sound}
-use Rattle.model.proofs.Access.{with-entry-same}
-use Rattle.model.proofs.Booking.{SameButBalance, Cleared}
-use Rattle.model.proofs.Opened.{Group}
-use Rattle.model.proofs.Switching.{takesOver, switched-entry}
-use Rattle.model.proofs.Steps.{Eligible, entryWithAck, waitingUnder, Happens}
+use Rattle.laws.proofs.Sums.{impossible, both, same-test}
+use Rattle.laws.proofs.Equality.{same-number, number-same, conflict-sound}
+use Rattle.laws.proofs.Access.{with-entry-same}
+use Rattle.laws.proofs.Booking.{SameButBalance, Cleared}
+use Rattle.laws.proofs.Opened.{Group}
+use Rattle.laws.proofs.Switching.{takesOver, switched-entry}
+use Rattle.laws.proofs.Steps.{Eligible, entryWithAck, waitingUnder, Happens}
 
 -- a slip of the next number, where nothing waits, is not retained
 none-next : (o : Opening) (l : Ledger) (t u : Transfer) → Group o → Sound o l → Eligible l t → entryOf l (t .account) .retained ≡ Full u

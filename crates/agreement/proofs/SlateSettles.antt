@@ -9,18 +9,18 @@ use mathlib.Core.Option.{Option, none, some}
 use lib.Dec.{leb}
 use lib.ListN.{length}
 use borrow.Author.Tests.{leb-true, leb-false, le-leb, eq-eqb, ne-eqb}
-use Rattle.agreement.specs.Types.{Account, Transfer, Slot, Empty, Full, Entry}
-use Rattle.agreement.specs.Slates.{Slate, covered, lower, lowest, without, leave, leaveAtMost, leaveAll, join}
+use Rattle.laws.specs.Types.{Account, Transfer, Slot, Empty, Full, Entry}
+use Rattle.runs.specs.Slates.{Slate, covered, lower, lowest, without, leave, leaveAtMost, leaveAll, join}
 use Rattle.model.specs.Basics.{bit, count}
 use Rattle.model.specs.Records.{accountOf, entryAt, setEntry, withPending}
 use Rattle.model.specs.Transfers.{sameAccount, equal}
 use Rattle.model.specs.Acks.{holds}
 use Rattle.model.specs.Settling.{affordable, lowestAffordable, apply, settle}
-use Rattle.model.proofs.Sums.{impossible}
-use Rattle.model.proofs.Equality.{equal-sound, equal-refl, equal-sym, equal-apart}
-use Rattle.model.proofs.Access.{entry-set-same, entry-set-other}
-use Rattle.model.proofs.Booking.{Affordable, share, apply-clears, apply-others, apply-balance}
-use Rattle.model.proofs.Settles.{Lowest, none-affordable, settle-induction, Bounded, waited, apply-bounded, NextWaits, apply-next}
+use Rattle.laws.proofs.Sums.{impossible}
+use Rattle.laws.proofs.Equality.{equal-sound, equal-refl, equal-sym, equal-apart}
+use Rattle.laws.proofs.Access.{entry-set-same, entry-set-other}
+use Rattle.laws.proofs.Booking.{Affordable, share, apply-clears, apply-others, apply-balance}
+use Rattle.laws.proofs.Settles.{Lowest, none-affordable, settle-induction, Bounded, waited, apply-bounded, NextWaits, apply-next}
 
 -- the slip is among these
 abbrev Among : Transfer → List Transfer → Type 0

@@ -1,11 +1,11 @@
 -- Each ledger is its slate, at every place of a run that obeys: the second point of demand 3. It needs no premises.
 use Prim.Native.Nat.{ℕ}
 use mathlib.Core.Path.{_≡_, refl, ap, _∙_}
-use Rattle.agreement.specs.Types.{Seat, Account, Entry, Ledger, Opening, Message, Reply, Balance, Inquiry}
-use Rattle.agreement.specs.Runs.{Opens, message, Event, Run, _▹_, Within, ledgerAt, Obeys, accepted}
-use Rattle.agreement.specs.Slates.{Slate, freshSlate, nextSlate, slateAt, join}
+use Rattle.laws.specs.Types.{Seat, Account, Entry, Ledger, Opening, Message, Reply, Balance, Inquiry}
+use Rattle.runs.specs.Runs.{Opens, message, Event, Run, _▹_, Within, ledgerAt, Obeys, accepted}
+use Rattle.runs.specs.Slates.{Slate, freshSlate, nextSlate, slateAt, join}
 use Rattle.agreement.proofs.Places.{before, obeys-before, seat-self}
-use Rattle.model.proofs.Opened.{Group}
+use Rattle.laws.proofs.Opened.{Group}
 use Rattle.agreement.proofs.Soundness.{next-waits, opened-entry, group, Sound, bounded}
 use Rattle.agreement.proofs.Reachable.{run-induction, happened-at}
 use Rattle.agreement.proofs.StepLaws.{switched-state, Turn, keeps, accepts, turn, answer-balance}

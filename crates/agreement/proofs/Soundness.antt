@@ -8,8 +8,8 @@ use native.Mathlib.Decide.{ℕ-discrete}
 use lib.ListN.{length, getD, replicate, length-set, List·getD-map, length-map}
 use lib.Seq.{getD-set-same, getD-set-other}
 use borrow.Author.Tests.{ltb-true, eq-eqb}
-use Rattle.agreement.specs.Types.{Seat, Account, Transfer, Slot, Empty, Full, AckSlot, Entry, Ledger, Opening}
-use Rattle.agreement.specs.Runs.{Opens}
+use Rattle.laws.specs.Types.{Seat, Account, Transfer, Slot, Empty, Full, AckSlot, Entry, Ledger, Opening}
+use Rattle.runs.specs.Runs.{Opens}
 use Rattle.model.specs.Basics.{bit, sumOf}
 use Rattle.model.specs.Records.{seatOf, accountOf, noAcks, freshEntry, freshLedger, withAck, withPending, withRetained, withNoneRetained, sumBalances, withEntries, withEntry, entryOf}
 use Rattle.model.specs.Transfers.{sameNumber, equal}
@@ -17,15 +17,15 @@ use Rattle.model.specs.Acks.{holds, conflicts, acksFor, enough}
 use Rattle.model.specs.Refusals.{outOfRange, waitsAlready, ackFrom}
 use Rattle.model.specs.Settling.{settle}
 use Rattle.model.specs.Switches.{Rules, firstRules, sinceRequest3, sinceRequest5, retainsFrom, switched}
-use Rattle.model.proofs.Sums.{impossible, sum-set, sum-set-same, sum-same-each}
-use Rattle.model.proofs.Equality.{equal-sound, equal-refl, Conflict, conflict-complete}
-use Rattle.model.proofs.Access.{no-acks-length, set-each, set-entry-length}
-use Rattle.model.proofs.Booking.{SameButBalance, Cleared}
-use Rattle.model.proofs.Settles.{Bounded, NextWaits, settle-each, settle-sum, settle-length}
-use Rattle.model.proofs.Opened.{Group, opened-group}
-use Rattle.model.proofs.Witnesses.{fresh-sum}
-use Rattle.model.proofs.Switching.{takesOver, switched-entry, switched-keeps, switched-group, switched-length}
-use Rattle.model.proofs.Steps.{Eligible, Recordable, entryWithAck, waitingUnder, acceptedIn}
+use Rattle.laws.proofs.Sums.{impossible, sum-set, sum-set-same, sum-same-each}
+use Rattle.laws.proofs.Equality.{equal-sound, equal-refl, Conflict, conflict-complete}
+use Rattle.laws.proofs.Access.{no-acks-length, set-each, set-entry-length}
+use Rattle.laws.proofs.Booking.{SameButBalance, Cleared}
+use Rattle.laws.proofs.Settles.{Bounded, NextWaits, settle-each, settle-sum, settle-length}
+use Rattle.laws.proofs.Opened.{Group, opened-group}
+use Rattle.laws.proofs.Witnesses.{fresh-sum}
+use Rattle.laws.proofs.Switching.{takesOver, switched-entry, switched-keeps, switched-group, switched-length}
+use Rattle.laws.proofs.Steps.{Eligible, Recordable, entryWithAck, waitingUnder, acceptedIn}
 
 -- the group of an opening page that a run is about
 pub group : (o : Opening) → Opens o → Group o

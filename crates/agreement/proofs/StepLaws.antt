@@ -11,11 +11,11 @@ use lib.Dec.{leb}
 use borrow.Author.Tests.{leb-true, ltb-true, le-leb, lt-leb, le-ltb}
 use mathlib.Core.Option.{none, some}
 use lib.ListN.{length}
-use Rattle.agreement.specs.Types.{Seat, Account, Transfer, Slot, Empty, Full, Entry, Ledger, Opening, Refusal, Message, Request, Circulated, Ack, Decision, Inquiry, Reply, Acknowledge, Accept, Propose, Balance, Refuse}
+use Rattle.laws.specs.Types.{Seat, Account, Transfer, Slot, Empty, Full, Entry, Ledger, Opening, Refusal, Message, Request, Circulated, Ack, Decision, Inquiry, Reply, Acknowledge, Accept, Propose, Balance, Refuse}
 use Rattle.model.specs.declared.Refusal.the-variants.{PastNumber, FutureNumber, AlreadyAccepted}
-use Rattle.agreement.specs.Runs.{isRefusal, message, isAccept, accepted}
-use Rattle.agreement.specs.Facts.{mustAccept}
-use Rattle.model.proofs.Opened.{Group}
+use Rattle.runs.specs.Runs.{isRefusal, message, isAccept, accepted}
+use Rattle.runs.specs.Facts.{mustAccept}
+use Rattle.laws.proofs.Opened.{Group}
 use Rattle.agreement.proofs.Soundness.{recorded-new, recorded-kept, recorded-counted, recorded-stands, SoundEntry, booked-retained, Sound, Admitted, admitted, marked-sound, stored, noted-entry, accepted-entry, ruled-entry, retain-sound, waits-sound, accept-sound}
 use Rattle.model.specs.Records.{seatOf, withAcked, withProposed, withPending, withRetained, withRetainedProposed, entryAt, setEntry, withEntries, withEntry, entryOf}
 use Rattle.model.specs.Acks.{slipIn, hasMost, holds, conflicts, acksFor, acksRecorded, enough, twoConflict, mustPropose}
@@ -23,15 +23,15 @@ use Rattle.model.specs.Refusals.{firstRefusal, outOfRange, waitsAlready, ackFro
 use Rattle.model.specs.Settling.{settle}
 use Rattle.model.specs.Calls.{lateIn, rulesIn}
 use Rattle.model.specs.Switches.{Rules, firstRules, sinceRequest3, sinceRequest5, switched, rulesMet, lateMet, stepUnder}
-use Rattle.model.proofs.Sums.{impossible, some-counted, both, is-not}
-use Rattle.model.proofs.Equality.{same-number, equal-sound, equal-refl, Conflict, conflict-sound}
-use Rattle.model.proofs.Access.{entry-set-same, set-each, with-entry-same}
-use Rattle.model.proofs.Tallies.{most-sound}
-use Rattle.model.proofs.Booking.{SameButBalance, Cleared}
-use Rattle.model.proofs.Settles.{Turned, kept, booked, settle-entry}
-use Rattle.model.proofs.Switching.{ack-rules, switched-keeps}
-use Rattle.model.proofs.Refusing.{SomeHolds, some-holds, refused-by}
-use Rattle.model.proofs.Steps.{Eligible, Recordable, entryWithAck, retainUnder, retain-keeps, waitingUnder, Joining, joining, acceptedIn, Happens, refused, circulated, acknowledged, accepted-by-acks, proposed, noted, accepted-by-ruling, joined, told}
+use Rattle.laws.proofs.Sums.{impossible, some-counted, both, is-not}
+use Rattle.laws.proofs.Equality.{same-number, equal-sound, equal-refl, Conflict, conflict-sound}
+use Rattle.laws.proofs.Access.{entry-set-same, set-each, with-entry-same}
+use Rattle.laws.proofs.Tallies.{most-sound}
+use Rattle.laws.proofs.Booking.{SameButBalance, Cleared}
+use Rattle.laws.proofs.Settles.{Turned, kept, booked, settle-entry}
+use Rattle.laws.proofs.Switching.{ack-rules, switched-keeps}
+use Rattle.laws.proofs.Refusing.{SomeHolds, some-holds, refused-by}
+use Rattle.laws.proofs.Steps.{Eligible, Recordable, entryWithAck, retainUnder, retain-keeps, waitingUnder, Joining, joining, acceptedIn, Happens, refused, circulated, acknowledged, accepted-by-acks, proposed, noted, accepted-by-ruling, joined, told}
 
 -- what the rules retain changes neither balance nor current number
 retain-balance : (v : Rules) (e : Entry) (t : Transfer) → retainUnder v e t .balance ≡ e .balance

@@ -6,9 +6,9 @@ use mathlib.Core.Logic.{inl, inr}
 use mathlib.Core.Bool.{Bool, true, false, cond}
 use mathlib.Core.Option.{Option, none, some}
 use borrow.Author.Tests.{lt-leb, le-ltb}
-use Rattle.agreement.specs.Types.{Seat, Account, Transfer, Empty, Entry, Ledger, Refusal, Message, Circulated, Ack, Decision, Inquiry, Reply, Accept, Refuse}
-use Rattle.agreement.specs.Runs.{Call, message, waitingList, switch, _▹_, at-end, sooner, sameSeat, rulesAfter, rulesAt, ledgerAt, freeSlip, acksWith, StandsFor, MayReply, Obeys}
-use Rattle.agreement.specs.Switching.{SameSaveTies, Alike, TakenAlike, forgotten, LateAlone, NoneGoesBack, NewestStays, MarksStand}
+use Rattle.laws.specs.Types.{Seat, Account, Transfer, Empty, Entry, Ledger, Refusal, Message, Circulated, Ack, Decision, Inquiry, Reply, Accept, Refuse}
+use Rattle.runs.specs.Runs.{Call, message, waitingList, switch, _▹_, at-end, sooner, sameSeat, rulesAfter, rulesAt, ledgerAt, freeSlip, acksWith, StandsFor, MayReply, Obeys}
+use Rattle.runs.specs.Switching.{SameSaveTies, Alike, TakenAlike, forgotten, LateAlone, NoneGoesBack, NewestStays, MarksStand}
 use Rattle.agreement.proofs.Places.{seat-is, obeys-before}
 use Rattle.agreement.proofs.Proposals.{free-carried, most-with}
 use Rattle.agreement.proofs.Reachable.{sound}
@@ -21,10 +21,10 @@ use Rattle.model.specs.Settling.{Settled, settle}
 use Rattle.model.specs.Refusals.{firstRefusal, outOfRange, paysItself}
 use Rattle.model.specs.Calls.{payerOf, Due, replied, accepts, turnBy, finishedBy, finished, entryFor, rulesIn}
 use Rattle.model.specs.Switches.{Rules, firstRules, sinceRequest3, sinceRequest5, newest, rank, nextRules, switched, rulesMet, lateMet, retainsAs, stepUnder}
-use Rattle.model.proofs.Proposals.{most-acked-most}
-use Rattle.model.proofs.Forgetting.{forgetting, forgets-set, settledForgetting, settle-forgets}
-use Rattle.model.proofs.Refusing.{refuses}
-use Rattle.model.proofs.Switching.{ack-rules, ruling-rules}
+use Rattle.laws.proofs.Proposals.{most-acked-most}
+use Rattle.laws.proofs.Forgetting.{forgetting, forgets-set, settledForgetting, settle-forgets}
+use Rattle.laws.proofs.Refusing.{refuses}
+use Rattle.laws.proofs.Switching.{ack-rules, ruling-rules}
 
 module _ (l : Ledger) (m : Message) where
   -- what may be replied under rules v is what is due, or both are P and have the most acks

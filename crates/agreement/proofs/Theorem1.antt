@@ -9,12 +9,13 @@ use mathlib.Core.Bool.{Bool, true, false, not, _&&_}
 use mathlib.Core.Option.{some}
 use lib.Dec.{ltb}
 use borrow.Author.Tests.{lt-ltb, ltb-true}
-use Rattle.agreement.specs.Types.{Seat, Transfer, Slot, Empty, Full, Entry, Ledger, Opening, Refusal, Message, Ack, Reply, Circulate, Acknowledge, Accept, Propose, Note, Balance, Refuse}
-use Rattle.agreement.specs.Runs.{Opens, countBelow, FewBad, honest, message, Event, Run, _▹_, Within, sameSeat, rulesAt, ledgerAt, MayReply, Obeys, isRefusal, accepted, proposed, ruled}
-use Rattle.agreement.specs.Premises.{Premises}
-use Rattle.agreement.specs.Facts.{acceptedBy}
-use Rattle.agreement.specs.Undisputed.{AllAcked, tooEarly, brings, AllReached, Theorem1}
-use Rattle.agreement.proofs.Places.{before, within-trans, happened-found, obeys-before, obeys-at, seat-is, ledger-after}
+use Rattle.laws.specs.Types.{Seat, Transfer, Slot, Empty, Full, Entry, Ledger, Opening, Refusal, Message, Ack, Reply, Circulate, Acknowledge, Accept, Propose, Note, Balance, Refuse}
+use Rattle.runs.specs.Runs.{Opens, countBelow, FewBad, honest, message, Event, Run, _▹_, Within, sameSeat, rulesAt, ledgerAt, MayReply, Obeys, isRefusal, accepted, proposed, ruled}
+use Rattle.runs.proofs.Found.{happened-found}
+use Rattle.runs.specs.Premises.{Premises}
+use Rattle.runs.specs.Facts.{acceptedBy}
+use Rattle.runs.specs.Undisputed.{AllAcked, tooEarly, brings, AllReached, Theorem1}
+use Rattle.agreement.proofs.Places.{before, within-trans, obeys-before, obeys-at, seat-is, ledger-after}
 use Rattle.agreement.proofs.Proposals.{happens-in-run, refused-due}
 use Rattle.agreement.proofs.Deeds.{Accepts, by-ack, by-ruling, accepted-is, brings-is, deed-found}
 use Rattle.agreement.proofs.Soundness.{group, Sound}
@@ -31,11 +32,11 @@ use Rattle.model.specs.Transfers.{equal}
 use Rattle.model.specs.Acks.{holds, conflicts, acksFor, enough}
 use Rattle.model.specs.Refusals.{outOfRange, waitsAlready, ackFrom}
 use Rattle.model.specs.Switches.{Rules, switched, stepUnder}
-use Rattle.model.proofs.Sums.{impossible, both}
-use Rattle.model.proofs.Equality.{number-same, equal-sound, equal-refl, Conflict, conflict-sound}
-use Rattle.model.proofs.Switching.{switched-keeps}
-use Rattle.model.proofs.Refusing.{refusal-keeps}
-use Rattle.model.proofs.Steps.{Happens}
+use Rattle.laws.proofs.Sums.{impossible, both}
+use Rattle.laws.proofs.Equality.{number-same, equal-sound, equal-refl, Conflict, conflict-sound}
+use Rattle.laws.proofs.Switching.{switched-keeps}
+use Rattle.laws.proofs.Refusing.{refusal-keeps}
+use Rattle.laws.proofs.Steps.{Happens}
 
 -- every number below n is counted
 count-all : (p : ℕ → Bool) (n : ℕ) → ((i : ℕ) → p i ≡ true) → countBelow p n ≡ n

@@ -5,8 +5,8 @@ use mathlib.Core.Path.{_≡_, refl, ap, sym, _∙_}
 use mathlib.Core.Bool.{Bool, true, false}
 use lib.ListN.{length}
 use borrow.Author.Tests.{lt-ltb}
-use Rattle.agreement.specs.Types.{Seat, Account, Transfer, Slot, Empty, Full, AckSlot, Entry, Ledger, Opening, Message}
-use Rattle.agreement.specs.Runs.{Opens, countBelow, FewBad, honest, Run, Obeys}
+use Rattle.laws.specs.Types.{Seat, Account, Transfer, Slot, Empty, Full, AckSlot, Entry, Ledger, Opening, Message}
+use Rattle.runs.specs.Runs.{Opens, countBelow, FewBad, honest, Run, Obeys}
 use Rattle.agreement.proofs.Quorums.{count-places, count-more, two-quorums, quorum-most}
 use Rattle.agreement.proofs.Soundness.{group, Sound, accepted-entry, recorded-stands}
 use Rattle.agreement.proofs.StepLaws.{Recording, Proposes, proposes-for}
@@ -15,7 +15,7 @@ use Rattle.model.specs.Basics.{count}
 use Rattle.model.specs.Records.{seatOf}
 use Rattle.model.specs.Acks.{holds, isFull, acksFor}
 use Rattle.model.specs.Refusals.{ackFrom}
-use Rattle.model.proofs.Steps.{entryWithAck}
+use Rattle.laws.proofs.Steps.{entryWithAck}
 
 -- the vote of each seat in an entry
 abbrev pub vote : Entry → ℕ → Slot

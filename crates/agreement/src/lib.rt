@@ -1,1 +1,1 @@
-// No code: the runs of a whole group and what is proved of them stand in specs/ and proofs/.
+// No code: what is claimed of runs, in the crate runs, is proved in proofs/.

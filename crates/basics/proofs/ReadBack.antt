@@ -3,7 +3,7 @@ use Prim.Native.Nat.{ℕ}
 use mathlib.Core.Path.{_≡_, refl}
 use mathlib.Core.Option.{Option, none, some}
 use Rattle.model.specs.declared.Refusal.{Refusal}
-use Rattle.model.proofs.Sums.{impossible}
+use Rattle.laws.proofs.Sums.{impossible}
 use Rattle.basics.specs.declared.results.Check.the-variants.{Passed, Failed}
 use Rattle.basics.specs.declared.results.Search.the-variants.{At, Nowhere}
 use Rattle.basics.specs.Results.{checkOf, searchOf}

@@ -9,8 +9,8 @@ use Rattle.model.specs.declared.BundleReply.the-variants.{Sound, BundleRefused}
 use Rattle.model.specs.declared.Refusal.the-variants.{BadHeader, BadContents, BadEnd, BadSum}
 use Rattle.model.specs.Bundles.{entryCount, badHeader, firstBadEntry, badEnd, firstBadSum, faults, firstFault, checkBundle}
 use Rattle.model.specs.Replies.{valuesOfBundle}
-use Rattle.model.proofs.Sums.{impossible}
-use Rattle.model.proofs.Faults.{fault-told}
+use Rattle.laws.proofs.Sums.{impossible}
+use Rattle.laws.proofs.Faults.{fault-told}
 use Rattle.bundle.specs.declared.checks.Walk.the-variants.{Wrong, EndsAt}
 use Rattle.bundle.specs.Promises.{CheckedAs, walked}
 

@@ -19,7 +19,7 @@ use Rattle.model.specs.declared.BundleReply.the-variants.{Sound, BundleRefused}
 use Rattle.model.specs.Basics.{every, firstWhere}
 use Rattle.model.specs.Bundles.{numberAt, entryCount, contentsAt, bodyLengths, bodyLength, startAt, badCount, badHeader, misplaced, wrongEntry, firstBadEntry, badEnd, wrongSumAt, firstBadSum, ofWhole, firstFault, checkBundle}
 use Rattle.bundle.specs.Promises.{longest, RefusedEarly, LongRefused}
-use Rattle.model.proofs.Sums.{impossible, both, neither, NotFound, first-none}
+use Rattle.laws.proofs.Sums.{impossible, both, neither, NotFound, first-none}
 
 -- two tests that agree on each of the numbers find the same
 same-found : (p q : ℕ → Bool) (left i : ℕ) → ((k : ℕ) → i ≤ k → k < i + left → p k ≡ q k)

@@ -7,7 +7,7 @@ use lib.Dec.{ltb}
 use borrow.Author.Tests.{lt-ltb, le-ltb, ltb-true, ltb-false}
 use Rattle.model.specs.declared.ContentsEntry.{ContentsEntry}
 use Rattle.model.specs.Bundles.{entryCount, contentsAt, pageOf, pageAt}
-use Rattle.model.proofs.Sums.{impossible}
+use Rattle.laws.proofs.Sums.{impossible}
 use Rattle.bundle.specs.declared.Cursor.{Cursor}
 use Rattle.bundle.specs.declared.Read.{Read}
 use Rattle.bundle.specs.declared.Read.the-variants.{Taken, NoMore}

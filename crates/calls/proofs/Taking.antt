@@ -23,12 +23,12 @@ use Rattle.model.specs.Acks.{holds, acksFor, acksRecorded, enough, mustPropose,
 use Rattle.model.specs.Replies.{letterOf, valuesOf}
 use Rattle.model.specs.Refusals.{firstRefusal}
 use Rattle.model.specs.Calls.{Due, replied, accepts, Effect, tallied, waits, finishedBy, finished, lateIn, step, rulesIn}
-use Rattle.model.proofs.Equality.{equal-refl}
-use Rattle.model.proofs.Sums.{impossible, sum-at-least}
-use Rattle.model.proofs.Access.{set-entry-twice, with-entry-read, with-entry-same, with-entry-again}
-use Rattle.model.proofs.Steps.{joining}
+use Rattle.laws.proofs.Equality.{equal-refl}
+use Rattle.laws.proofs.Sums.{impossible, sum-at-least}
+use Rattle.laws.proofs.Access.{set-entry-twice, with-entry-read, with-entry-same, with-entry-again}
+use Rattle.laws.proofs.Steps.{joining}
 use Rattle.model.specs.Switches.{newest}
-use Rattle.model.proofs.Refusing.{effectIn, refuses, not-refused, joins-in, newest-step}
+use Rattle.laws.proofs.Refusing.{effectIn, refuses, not-refused, joins-in, newest-step}
 use Rattle.layout.specs.Layout.{ledgerIn, entryIn}
 use Rattle.layout.proofs.Blocks.{entries-length}
 use Rattle.layout.proofs.Ranges.{accounts-fit}
@@ -39,7 +39,8 @@ use Rattle.basics.proofs.ReadBack.{passed, failed}
 use Rattle.settling.specs.Results.{Settles}
 use Rattle.tally.specs.declared.Tally.{Tally}
 use Rattle.tally.specs.Results.{tallyOf}
-use Rattle.calls.specs.Promises.{Answered, lateSlip, Taken}
+use Rattle.checks.specs.Promises.{lateSlip}
+use Rattle.calls.specs.Promises.{Answered, Taken}
 
 -- what is replied is told by its letter and its values
 answered : (before : List ℕ) (m : Message) (r : Reply) (after : List ℕ) → r ≡ step (ledgerIn before) m .reply → ledgerIn after ≡ step (ledgerIn before) m .next

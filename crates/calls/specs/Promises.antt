@@ -1,21 +1,19 @@
 -- What a message promises, by the model's `step`, of the ledger that the words are.
 use Prim.Native.Nat.{ℕ, _+_, _<_}
 use mathlib.Core.Path.{_≡_}
-use mathlib.Core.Bool.{false, cond}
+use mathlib.Core.Bool.{false}
 use mathlib.Core.List.{List}
 use Rattle.model.specs.declared.Seat.{Seat}
 use Rattle.model.specs.declared.Transfer.{Transfer}
-use Rattle.model.specs.declared.Slot.{Slot}
-use Rattle.model.specs.declared.Slot.the-variants.{Empty}
 use Rattle.model.specs.declared.Message.{Message}
 use Rattle.model.specs.declared.Message.the-variants.{Ack}
 use Rattle.model.specs.declared.Refusal.{Refusal}
 use Rattle.model.specs.declared.Reply.{Reply}
 use Rattle.model.specs.declared.Reply.the-variants.{Refuse}
-use Rattle.model.specs.Types.{Entry, Ledger, Outcome}
+use Rattle.model.specs.Types.{Outcome}
 use Rattle.model.specs.Acks.{acksFor, enough}
 use Rattle.model.specs.Replies.{letterOf, valuesOf}
-use Rattle.model.specs.Calls.{tallied, waits, mustJoin, finished, lateIn, step}
+use Rattle.model.specs.Calls.{tallied, waits, finished, lateIn, step}
 use Rattle.layout.specs.Layout.{ledgerIn, entryIn}
 use Rattle.tally.specs.declared.Tally.{Tally}
 use Rattle.tally.specs.Results.{tallyOf}
@@ -32,10 +30,6 @@ pub record Answered (before : List ℕ) (m : Message) (r : Reply) (after : List 
 -- An ack that brings no late P.
 pub record NotLate (before : List ℕ) (s : Seat) (t : Transfer) (r : Reply) (after : List ℕ) : Type 0 where
   pub answered : lateIn (ledgerIn before) (Ack s t) ≡ false → Answered before (Ack s t) r after
-
--- The slip that an ack's late P carries, if it brings one: the retained one.
-abbrev pub lateSlip : Ledger → Entry → Seat → Transfer → Slot
-lateSlip l e s t = cond (mustJoin l e (Ack s t)) (e .retained) Empty
 
 -- What was taken: it is not refused any more.
 pub record Taken (o : Outcome) (r : Reply) (after : List ℕ) : Type 0 where

@@ -1,11 +1,11 @@
 // The five kinds of message, each where the ledger lies. What a function promises is in specs/Promises.antt.
-use crate::checks::ack_check;
-use crate::checks::circulated_check;
-use crate::checks::late_proposal;
-use crate::checks::request_check;
-use crate::checks::transfer_check;
 use basics::quorums::is_enough;
 use basics::results::Check;
+use checks::ack_check;
+use checks::circulated_check;
+use checks::late_proposal;
+use checks::request_check;
+use checks::transfer_check;
 use model::Account;
 use model::Refusal;
 use model::Reply;

@@ -7,11 +7,11 @@ use lib.ListN.{length, take, drop, length-map, List·getD-map}
 use lib.Seq.{length-take-le, drop-cons, getD-take}
 use Rattle.model.specs.Basics.{sumOf}
 use Rattle.model.specs.Records.{accountOf, freshEntry, sumCurrents, entryOf}
-use Rattle.model.proofs.Sums.{sum-front, sum-map}
-use Rattle.agreement.specs.Types.{Seat, Account, Entry, Ledger, Opening, Inquiry, Balance}
-use Rattle.agreement.specs.Runs.{Opens, Run, _▹_, Within, at-end, ledgerAt, Obeys}
-use Rattle.agreement.specs.Slates.{slateAt}
-use Rattle.agreement.specs.Facts.{countOf, Facts}
+use Rattle.laws.proofs.Sums.{sum-front, sum-map}
+use Rattle.laws.specs.Types.{Seat, Account, Entry, Ledger, Opening, Inquiry, Balance}
+use Rattle.runs.specs.Runs.{Opens, Run, _▹_, Within, at-end, ledgerAt, Obeys}
+use Rattle.runs.specs.Slates.{slateAt}
+use Rattle.runs.specs.Facts.{countOf, Facts}
 use Rattle.agreement.proofs.Places.{obeys-before}
 use Rattle.agreement.proofs.Soundness.{group}
 use Rattle.agreement.proofs.Reachable.{sound}

@@ -7,10 +7,10 @@ use mathlib.Core.Option.{some}
 use Rattle.model.specs.Types.{Outcome}
 use Rattle.model.specs.Calls.{step}
 use Rattle.model.specs.Switches.{newest, stepUnder}
-use Rattle.model.proofs.Refusing.{newest-step}
+use Rattle.laws.proofs.Refusing.{newest-step}
 use Rattle.model.specs.Bundles.{pageAt, messageOf}
-use Rattle.agreement.specs.Types.{Seat, Opening, Message}
-use Rattle.agreement.specs.Runs.{Run, _▹_, Within, at-end, rulesAt, ledgerAt, MayReply, Obeys}
+use Rattle.laws.specs.Types.{Seat, Opening, Message}
+use Rattle.runs.specs.Runs.{Run, _▹_, Within, at-end, rulesAt, ledgerAt, MayReply, Obeys}
 use Rattle.agreement.proofs.Places.{before, obeys-before, ledger-after, seat-self}
 use Rattle.text.specs.Lines.{replyLine}
 use Rattle.replay.specs.Text.{entryLine, ledgerAfter, ledgerFrom, linesFrom}

@@ -4,18 +4,18 @@ use native.Mathlib.Omega.{arith}
 use mathlib.Core.Path.{_≡_, refl, ap, sym, subst, _∙_}
 use mathlib.Core.Bool.{Bool, true, false, cond}
 use mathlib.Core.List.{List, []}
-use Rattle.agreement.specs.Types.{Seat, Account, Ledger, Opening}
-use Rattle.agreement.specs.Runs.{Call, message, waitingList, switch, Event, Run, start, _▹_, at-end, sameSeat, rulesAfter, rulesAt, nextLedger, ledgerAt, MayReply, Conforms, Obeys}
+use Rattle.laws.specs.Types.{Seat, Account, Ledger, Opening}
+use Rattle.runs.specs.Runs.{Call, message, waitingList, switch, Event, Run, start, _▹_, at-end, sameSeat, rulesAfter, rulesAt, nextLedger, ledgerAt, MayReply, Conforms, Obeys}
 use Rattle.agreement.proofs.Places.{seat-is, seat-self}
 use Rattle.agreement.proofs.Proposals.{refused-due}
-use Rattle.agreement.proofs.AnyOrder.{rising-conforms}
+use Rattle.runs.proofs.AnyOrder.{rising-conforms}
 use Rattle.agreement.proofs.Demand3.{demand3}
 use Rattle.agreement.proofs.Always.{always}
 use Rattle.model.specs.Types.{Outcome}
 use Rattle.model.specs.Records.{RetainsNothing, entryOf}
 use Rattle.model.specs.Switches.{Rules, firstRules, sinceRequest3, sinceRequest5, newest, rank, switched}
-use Rattle.model.proofs.Refusing.{refusal-keeps, newest-step}
-use Rattle.model.proofs.Opened.{opened-fresh}
+use Rattle.laws.proofs.Refusing.{refusal-keeps, newest-step}
+use Rattle.laws.proofs.Opened.{opened-fresh}
 use Rattle.layout.specs.Layout.{blockWords, heldBlockWords, ledgerIn}
 use Rattle.conformance.specs.Operations.{ledgerUnder, ContractServes, ContractOpens, ContractLists, ContractSwitches, Operated, OperatedConforms, Called, Works, WorksObeys, ObeysWorks, WorksDemand3, WorksFacts}
 use Rattle.layout.specs.Words.{wordsOf, LedgerTold}

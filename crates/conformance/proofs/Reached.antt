@@ -7,8 +7,8 @@ use mathlib.Core.Bool.{_||_}
 use mathlib.Core.List.{List}
 use lib.Dec.{eqb, ltb}
 use borrow.Author.Tests.{eqb-false}
-use Rattle.agreement.specs.Types.{Seat, Account, Transfer, Full, AckSlot, Entry, Ledger, Opening, Message, Reply}
-use Rattle.agreement.specs.Runs.{Opens, Run, ledgerAt, Obeys}
+use Rattle.laws.specs.Types.{Seat, Account, Transfer, Full, AckSlot, Entry, Ledger, Opening, Message, Reply}
+use Rattle.runs.specs.Runs.{Opens, Run, ledgerAt, Obeys}
 use Rattle.agreement.proofs.Soundness.{group, SoundEntry, Sound, no-acks, opened-entry, recorded-read}
 use Rattle.agreement.proofs.StepLaws.{Puts, puts-mark, puts-ack, puts-proposal, puts-accepted, puts-ruled, puts-late, each-entry}
 use Rattle.agreement.proofs.Reachable.{sound, everywhere}
@@ -16,11 +16,11 @@ use Rattle.model.specs.Records.{withBalance, entryOf}
 use Rattle.model.specs.Acks.{ackAt}
 use Rattle.model.specs.Switches.{Rules}
 use Rattle.model.specs.Refusals.{ackFrom, unknownAccount}
-use Rattle.model.proofs.Sums.{impossible, neither}
-use Rattle.model.proofs.Opened.{Group}
-use Rattle.model.proofs.Booking.{SameButBalance, Cleared}
-use Rattle.model.proofs.Switching.{takesOver, switched-entry, takes-over-keeps, takes-over-from}
-use Rattle.model.proofs.Steps.{Eligible, Recordable, entryWithAck, retain-keeps, retained-or, waitingUnder, Happens}
+use Rattle.laws.proofs.Sums.{impossible, neither}
+use Rattle.laws.proofs.Opened.{Group}
+use Rattle.laws.proofs.Booking.{SameButBalance, Cleared}
+use Rattle.laws.proofs.Switching.{takesOver, switched-entry, takes-over-keeps, takes-over-from}
+use Rattle.laws.proofs.Steps.{Eligible, Recordable, entryWithAck, retain-keeps, retained-or, waitingUnder, Happens}
 use Rattle.layout.specs.Words.{EntryTold, LedgerTold}
 
 -- a slip that moves something, to a recipient whose number is a byte

@@ -11,8 +11,8 @@ use borrow.Author.Tests.{ltb-true, ltb-false, lt-ltb, le-leb}
 use Rattle.model.specs.declared.Refusal.the-variants.{BadGroup, BadAccounts, SumTooLarge, UnknownSeat, OutOfRange, PastNumber, FutureNumber, AlreadyAccepted, AckRepeated, AckConflicting, InsufficientFunds, AlreadyAcked, BadHeader, BadContents, BadEnd, BadSum, ShortBuffer, TooManyMessages, NoRoom, SelfPayment}
 use Rattle.model.specs.Records.{accountOf}
 use Rattle.model.specs.Replies.{codeOf, letterOf, valuesOf}
-use Rattle.model.proofs.Sums.{impossible}
-use Rattle.agreement.specs.Types.{Refusal, Reply, Circulate, Acknowledge, Accept, Propose, Note, Balance, Refuse}
+use Rattle.laws.proofs.Sums.{impossible}
+use Rattle.laws.specs.Types.{Refusal, Reply, Circulate, Acknowledge, Accept, Propose, Note, Balance, Refuse}
 use Rattle.text.specs.Lines.{digit, decimal, carried, lettered, replyLine}
 use Rattle.text.proofs.Decimals.{one-digit, more-digits}
 use Rattle.replay.specs.Text.{Row, rowLines}

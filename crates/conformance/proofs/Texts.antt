@@ -7,9 +7,9 @@ use mathlib.Core.Option.{some}
 use Rattle.model.specs.declared.BundleReply.the-variants.{Sound}
 use Rattle.model.specs.Records.{freshLedger}
 use Rattle.model.specs.Bundles.{entryCount, pageAt, messageOf, checkBundle}
-use Rattle.agreement.specs.Types.{Message}
-use Rattle.agreement.specs.Runs.{Opens, rulesAt, ledgerAt}
-use Rattle.agreement.proofs.AnyOrder.{rising-conforms}
+use Rattle.laws.specs.Types.{Message}
+use Rattle.runs.specs.Runs.{Opens, rulesAt, ledgerAt}
+use Rattle.runs.proofs.AnyOrder.{rising-conforms}
 use Rattle.agreement.proofs.Always.{always}
 use Rattle.model.specs.Switches.{newest}
 use Rattle.ledger.specs.Promises.{ListedAs}

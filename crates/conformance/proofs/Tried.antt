@@ -14,13 +14,13 @@ use Rattle.model.specs.Acks.{hasMost}
 use Rattle.model.specs.Settling.{lowestAffordable, apply, settleAtMost, settle}
 use Rattle.model.specs.Switches.{stepUnder}
 use Rattle.model.specs.Bundles.{checkBundle}
-use Rattle.agreement.specs.Types.{Seat, Message, Circulated, Ack, Decision, Inquiry, Reply, Acknowledge, Note, Accept, Balance, Opened}
-use Rattle.agreement.specs.Runs.{_▹_, rulesAt, ledgerAt, Obeys}
-use Rattle.agreement.specs.Slates.{leaveAtMost, leaveAll, slateAt}
-use Rattle.agreement.specs.Facts.{countOf}
-use Rattle.agreement.proofs.Examples.{page, t, today, asked, acks, ack, _then_, witness, witness-obeys, witness-keeps}
-use Rattle.agreement.proofs.SwitchesTried.{across, across-keeps}
-use Rattle.agreement.proofs.FactsTried.{_is_}
+use Rattle.laws.specs.Types.{Seat, Message, Circulated, Ack, Decision, Inquiry, Reply, Acknowledge, Note, Accept, Balance, Opened}
+use Rattle.runs.specs.Runs.{_▹_, rulesAt, ledgerAt, Obeys}
+use Rattle.runs.specs.Slates.{leaveAtMost, leaveAll, slateAt}
+use Rattle.runs.specs.Facts.{countOf}
+use Rattle.runs.proofs.Examples.{page, t, today, asked, acks, ack, _then_, witness, witness-obeys, witness-keeps}
+use Rattle.runs.proofs.SwitchesTried.{across, across-keeps}
+use Rattle.runs.proofs.FactsTried.{_is_}
 use Rattle.text.specs.Lines.{decimal}
 use Rattle.replay.specs.Text.{Row, rowLines, openingPage, opened}
 use Rattle.replay.proofs.WholeOutput.{case, nineLines, texts}

@@ -1,4 +1,4 @@
--- The links: what the contracts promise, and what the texts of `daybook` are, are runs as `agreement` means them. So demand 3, under its
+-- The links: what the contracts promise, and what the texts of `daybook` are, are runs as `runs` means them. So demand 3, under its
 -- premises, and the facts of every run hold of what the code does; and a change of contracts, runs or texts that breaks this is refused. In
 -- reading order:
 -- Operations: an operation that keeps its contract is a call of a run, at a seat under the newest rules (`ContractServes`, `OperatedConforms`). Seats that lend their words from

@@ -4,11 +4,11 @@ use Prim.Native.Nat.{ℕ}
 use mathlib.Core.Path.{_≡_}
 use mathlib.Core.Bool.{Bool, true, false}
 use mathlib.Core.List.{List}
-use Rattle.agreement.specs.Types.{Seat, Ledger, Opening, Refusal, Message, Reply, Refuse, Opened, ListReply}
-use Rattle.agreement.specs.Runs.{Opens, FewBad, Call, message, waitingList, switch, Event, Run, start, _▹_, atHonest, sameSeat, rulesAfter, rulesAt, nextLedger, ledgerAt, MayReply, MayList, Conforms, Obeys}
-use Rattle.agreement.specs.Premises.{Premises}
-use Rattle.agreement.specs.Claims.{Claim}
-use Rattle.agreement.specs.Facts.{Facts}
+use Rattle.laws.specs.Types.{Seat, Ledger, Opening, Refusal, Message, Reply, Refuse, Opened, ListReply}
+use Rattle.runs.specs.Runs.{Opens, FewBad, Call, message, waitingList, switch, Event, Run, start, _▹_, atHonest, sameSeat, rulesAfter, rulesAt, nextLedger, ledgerAt, MayReply, MayList, Conforms, Obeys}
+use Rattle.runs.specs.Premises.{Premises}
+use Rattle.runs.specs.Claims.{Claim}
+use Rattle.runs.specs.Facts.{Facts}
 use Rattle.model.specs.Openings.{openReply, openLedger}
 use Rattle.model.specs.Switches.{Rules, firstRules, sinceRequest3, sinceRequest5, newest, nextRules, switched, stepUnder}
 use Rattle.layout.specs.Layout.{ledgerIn, heldIn}

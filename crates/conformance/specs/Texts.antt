@@ -8,10 +8,10 @@ use Rattle.model.specs.declared.BundleReply.the-variants.{Sound}
 use Rattle.model.specs.Bundles.{entryCount, pageAt, messageOf, checkBundle}
 use Rattle.model.specs.Basics.{sumOf}
 use Rattle.model.specs.Switches.{newest}
-use Rattle.agreement.specs.Types.{Seat, Account, Opening, Message, Inquiry, Reply, Balance, Opened, ListReply}
-use Rattle.agreement.specs.Runs.{message, waitingList, Event, Run, start, _▹_, ledgerAt, Obeys}
-use Rattle.agreement.specs.Slates.{slateAt}
-use Rattle.agreement.specs.Facts.{countOf, Facts}
+use Rattle.laws.specs.Types.{Seat, Account, Opening, Message, Inquiry, Reply, Balance, Opened, ListReply}
+use Rattle.runs.specs.Runs.{message, waitingList, Event, Run, start, _▹_, ledgerAt, Obeys}
+use Rattle.runs.specs.Slates.{slateAt}
+use Rattle.runs.specs.Facts.{countOf, Facts}
 use Rattle.text.specs.Lines.{replyLine}
 use Rattle.replay.specs.Text.{Row, rowLines, rowsOf, openingPage, opened, textOf}
 use Rattle.replay.specs.Lists.{ListOf}

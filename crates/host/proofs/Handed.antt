@@ -20,7 +20,7 @@ use Rattle.model.specs.Replies.{codeOf, valuesOfOpen}
 use Rattle.model.specs.Bundles.{Page, wrongPage, openingOf, messageOf, messageOr}
 use Rattle.model.specs.Openings.{openRules, openLedgerBy, openLedger}
 use Rattle.model.specs.Calls.{step}
-use Rattle.model.proofs.Sums.{impossible}
+use Rattle.laws.proofs.Sums.{impossible}
 use Rattle.basics.specs.declared.results.Check.{Check}
 use Rattle.basics.specs.declared.results.Check.the-variants.{Passed, Failed}
 use Rattle.basics.specs.Results.{checkOf}

@@ -12,7 +12,7 @@ use Rattle.model.specs.declared.Refusal.the-variants.{BadGroup, BadContents, Ba
 use Rattle.model.specs.Records.{seatOf, accountOf}
 use Rattle.model.specs.Refusals.{firstRefusal}
 use Rattle.model.specs.Bundles.{Page, wrongPage, transferOf, messageOf}
-use Rattle.model.proofs.Sums.{impossible}
+use Rattle.laws.proofs.Sums.{impossible}
 use Rattle.bundle.proofs.Longest.{kind-later}
 use Rattle.host.specs.Handing.{handedRefusal, openingRules}
 

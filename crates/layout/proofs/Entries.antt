@@ -18,7 +18,7 @@ use Rattle.model.specs.declared.Slot.the-variants.{Empty, Full}
 use Rattle.model.specs.Types.{AckSlot, Entry}
 use Rattle.model.specs.Records.{accountOf, entryOf, withEntry, withBalance, withAcked, withAck, withProposed, withPending, withRetainedAs, withRetainedProposed}
 use Rattle.model.specs.Refusals.{ackFrom}
-use Rattle.model.proofs.Sums.{impossible}
+use Rattle.laws.proofs.Sums.{impossible}
 use Rattle.layout.specs.Layout.{blockWords, groupPlace, bookWords, Block, block, currentPlace, mark, slotBy, ackIn, tableFrom, upTo, entryBy, entriesIn, ledgerIn}
 use Rattle.layout.specs.Blocks.{put, Changes}
 use Rattle.layout.proofs.Blocks.{table-at, table-each, table-length, table-same, table-set, put-here, put-else, entry-in, changed-ledger}

@@ -12,7 +12,7 @@ use Rattle.model.specs.Types.{Entry, Ledger}
 use Rattle.model.specs.Records.{accountOf, noAcks, noLedger, withNoneRetained, entryOf}
 use Rattle.model.specs.Switches.{sinceRequest3, switched}
 use Rattle.model.specs.Calls.{step}
-use Rattle.model.proofs.Refusing.{refusal, no-ledger-refuses}
+use Rattle.laws.proofs.Refusing.{refusal, no-ledger-refuses}
 use Rattle.layout.specs.Layout.{bookWords, heldBookWords, slotBy, entryBy, entriesIn, ledgerIn, heldEntriesIn, heldIn}
 
 -- words that are all 0 are the ledger with nothing in it, which refuses every message

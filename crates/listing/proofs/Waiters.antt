@@ -14,7 +14,7 @@ use Rattle.model.specs.declared.Refusal.the-variants.{ShortBuffer}
 use Rattle.model.specs.declared.ListReply.the-variants.{Listed, ListRefused}
 use Rattle.model.specs.Basics.{allWhere}
 use Rattle.model.specs.Calls.{waitsAt, waitingAccounts, Lists}
-use Rattle.model.proofs.Searches.{alone, all-more}
+use Rattle.laws.proofs.Searches.{alone, all-more}
 
 module _ (l : Ledger) (before : List ℕ) where
   -- the accounts before i at which a slip waits

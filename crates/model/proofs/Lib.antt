@@ -1,21 +1,4 @@
--- What is proved of the definitions: the known pages, and the laws that other crates use.
+-- The definitions tried: the known pages, and what no answer shows. What holds of every ledger is proved in the crate laws.
 pub mod Rows
 pub mod KnownPages
-pub mod Sums
-pub mod Equality
-pub mod Access
-pub mod Tallies
-pub mod Searches
-pub mod Gathering
-pub mod Proposals
-pub mod Booking
-pub mod Settles
-pub mod Forgetting
-pub mod Refusing
-pub mod Switching
-pub mod Opened
-pub mod Steps
-pub mod Listing
-pub mod Witnesses
-pub mod Numbers
-pub mod Faults
+pub mod Tried

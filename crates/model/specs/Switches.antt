@@ -1,6 +1,6 @@
 -- Document 02, request 3 and later: seats "switch on different days". The sets of rules in the order of time; what a held ledger becomes at a switch; and
 -- the step under earlier rules, told by how it differs from today's. A request that changes the rules adds a set, and says here what those before it lack;
--- which reply was left free by earlier rules is said where runs are (`freeSlip`, in Runs.antt of agreement).
+-- which reply was left free by earlier rules is said where runs are (`freeSlip`, in Runs.antt of runs).
 use Prim.Native.Nat.{ℕ}
 use mathlib.Core.Bool.{Bool, false, cond}
 use mathlib.Core.List.{List, [], _∷_, map}

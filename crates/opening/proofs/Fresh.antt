@@ -6,7 +6,7 @@ use lib.ListN.{length, getD, length-map, List·getD-map}
 use Rattle.model.specs.declared.Account.{Account}
 use Rattle.model.specs.Types.{Ledger}
 use Rattle.model.specs.Records.{accountOf, freshEntry, withBalance, withBooked, withNoneRetained, withEntries, entryOf, withEntry}
-use Rattle.model.proofs.Access.{with-entry-again}
+use Rattle.laws.proofs.Access.{with-entry-again}
 use Rattle.layout.specs.Layout.{ledgerIn}
 use Rattle.store.proofs.Entering.{Entered, none-entered, one-entered, all-entered}
 

@@ -18,8 +18,8 @@ use Rattle.model.specs.Basics.{sumOf}
 use Rattle.model.specs.Refusals.{firstRefusal}
 use Rattle.model.specs.Records.{freshLedger}
 use Rattle.model.specs.Openings.{openRules, openReply, openLedger}
-use Rattle.model.proofs.Sums.{impossible}
-use Rattle.model.proofs.Opened.{opened-fresh}
+use Rattle.laws.proofs.Sums.{impossible}
+use Rattle.laws.proofs.Opened.{opened-fresh}
 use Rattle.basics.proofs.Arrays.{array-length}
 use Rattle.layout.specs.Layout.{ledgerIn}
 use Rattle.opening.specs.Promises.{Opens}

@@ -9,7 +9,7 @@ use Rattle.model.specs.declared.Opening.{Opening}
 use Rattle.model.specs.declared.OpenReply.{OpenReply}
 use Rattle.model.specs.declared.OpenReply.the-variants.{Opened}
 use Rattle.model.specs.Records.{freshLedger}
-use Rattle.model.proofs.Opened.{opened-fresh}
+use Rattle.laws.proofs.Opened.{opened-fresh}
 use Rattle.layout.specs.Layout.{ledgerIn}
 use Rattle.opening.specs.Promises.{Opens}
 use Rattle.bundle.proofs.Longest.{few-entries}

@@ -9,8 +9,8 @@ use lib.Seq.{take-all, drop-drop, drop-append-seam, take-append-seam, take-add}
 use borrow.Author.Tests.{eq-eqb, ne-eqb}
 use Rattle.model.specs.Bundles.{number4, wordsFrom, bodySum}
 use Rattle.model.specs.Writing.{numberBytes, wordBytes, Bytes}
-use Rattle.model.proofs.Numbers.{number-read, number-written, number-bytes, more-bytes, joined, words-length, word-bytes, words-count, words-at, words-read, words-back, words-small, sum-below}
-use Rattle.model.proofs.Sums.{impossible}
+use Rattle.laws.proofs.Numbers.{number-read, number-written, number-bytes, more-bytes, joined, words-length, word-bytes, words-count, words-at, words-read, words-back, words-small, sum-below}
+use Rattle.laws.proofs.Sums.{impossible}
 use Rattle.bundle.proofs.Longest.{no-difference}
 use Rattle.layout.specs.Layout.{bookWords}
 use Rattle.saving.specs.declared.LoadReply.{LoadReply}

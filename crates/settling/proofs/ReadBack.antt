@@ -2,7 +2,7 @@
 use mathlib.Core.Path.{_≡_, refl}
 use mathlib.Core.Option.{Option, none, some}
 use Rattle.model.specs.declared.Account.{Account}
-use Rattle.model.proofs.Sums.{impossible}
+use Rattle.laws.proofs.Sums.{impossible}
 use Rattle.settling.specs.declared.Found.the-variants.{At, Nothing}
 use Rattle.settling.specs.Results.{foundOf}
 

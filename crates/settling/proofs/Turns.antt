@@ -9,8 +9,8 @@ use Rattle.model.specs.declared.Account.{Account}
 use Rattle.model.specs.Types.{Entry, Ledger}
 use Rattle.model.specs.Records.{withEntries}
 use Rattle.model.specs.Settling.{isWaiting, waiting, lowestAffordable, apply}
-use Rattle.model.proofs.Booking.{apply-waiting}
-use Rattle.model.proofs.Settles.{lowest-affordable, settle-none, settle-some, settle-waiting}
+use Rattle.laws.proofs.Booking.{apply-waiting}
+use Rattle.laws.proofs.Settles.{lowest-affordable, settle-none, settle-some, settle-waiting}
 use Rattle.basics.proofs.Counting.{count-most}
 use Rattle.layout.specs.Layout.{ledgerIn}
 use Rattle.layout.proofs.Blocks.{entries-length}

@@ -11,8 +11,8 @@ use Rattle.model.specs.declared.Slot.the-variants.{Empty, Full}
 use Rattle.model.specs.Types.{Entry, Ledger}
 use Rattle.model.specs.Records.{accountOf, entryOf, withNoneRetained, withRetainedOf, withRetained, withEntries, withEntry}
 use Rattle.model.specs.Switches.{sinceRequest3, retainsFrom, retainsWaiting, switched}
-use Rattle.model.proofs.Access.{with-entry-same, with-entry-again}
-use Rattle.model.proofs.Switching.{switched-entry, switched-length}
+use Rattle.laws.proofs.Access.{with-entry-same, with-entry-again}
+use Rattle.laws.proofs.Switching.{switched-entry, switched-length}
 use Rattle.layout.specs.Layout.{ledgerIn, entryIn, heldIn}
 use Rattle.layout.proofs.Blocks.{entries-length}
 use Rattle.layout.proofs.Entries.{pending-of}

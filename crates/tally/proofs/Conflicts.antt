@@ -15,9 +15,9 @@ use Rattle.model.specs.Types.{AckSlot}
 use Rattle.model.specs.Basics.{bit, count}
 use Rattle.model.specs.Transfers.{equal, conflict}
 use Rattle.model.specs.Acks.{ackAt, holds, conflicts, isFull, acksFor, acksRecorded, twoConflict}
-use Rattle.model.proofs.Sums.{impossible, some-counted, sum-at-least}
-use Rattle.model.proofs.Equality.{equal-sound}
-use Rattle.model.proofs.Tallies.{inside, TwoConflict, two-conflict-sound, two-conflict-complete}
+use Rattle.laws.proofs.Sums.{impossible, some-counted, sum-at-least}
+use Rattle.laws.proofs.Equality.{equal-sound}
+use Rattle.laws.proofs.Tallies.{inside, TwoConflict, two-conflict-sound, two-conflict-complete}
 
 abbrev none : AckSlot
 none = record { slot = Empty }

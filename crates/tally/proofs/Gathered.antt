@@ -17,9 +17,9 @@ use Rattle.model.specs.Basics.{bit, allWhere}
 use Rattle.model.specs.Records.{seatOf}
 use Rattle.model.specs.Acks.{ackAt, holds, isFull, acksFor}
 use Rattle.model.specs.Gathering.{hasAcked, gathered, ExactlyGathered}
-use Rattle.model.proofs.Sums.{impossible}
-use Rattle.model.proofs.Searches.{alone, all-more, all-few}
-use Rattle.model.proofs.Gathering.{gathered-number, gathered-exactly}
+use Rattle.laws.proofs.Sums.{impossible}
+use Rattle.laws.proofs.Searches.{alone, all-more, all-few}
+use Rattle.laws.proofs.Gathering.{gathered-number, gathered-exactly}
 use Rattle.basics.proofs.Counting.{Counts, counts-none, counts-more, counts-all}
 use Rattle.tally.specs.declared.Tally.{Tally}
 use Rattle.tally.specs.Results.{inArray, tallyOf, counted, seatsOf}

@@ -14,10 +14,10 @@ use Rattle.model.specs.declared.Slot.the-variants.{Empty, Full}
 use Rattle.model.specs.Types.{AckSlot}
 use Rattle.model.specs.Basics.{bit}
 use Rattle.model.specs.Acks.{ackAt, holds, acksFor, noMoreThan, hasMost, slipIn, mostAcked}
-use Rattle.model.proofs.Sums.{impossible, sum-at-least}
-use Rattle.model.proofs.Equality.{equal-refl}
-use Rattle.model.proofs.Tallies.{inside, most-sound}
-use Rattle.model.proofs.Proposals.{FirstOfMost, only-first, none-recorded}
+use Rattle.laws.proofs.Sums.{impossible, sum-at-least}
+use Rattle.laws.proofs.Equality.{equal-refl}
+use Rattle.laws.proofs.Tallies.{inside, most-sound}
+use Rattle.laws.proofs.Proposals.{FirstOfMost, only-first, none-recorded}
 use Rattle.basics.proofs.Counting.{every-at}
 use Rattle.store.specs.Stores.{withNumber}
 use Rattle.tally.specs.declared.Leader.{Leader}

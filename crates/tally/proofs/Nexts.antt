@@ -8,8 +8,8 @@ use Rattle.model.specs.declared.Slot.{Slot}
 use Rattle.model.specs.declared.Slot.the-variants.{Empty, Full}
 use Rattle.model.specs.Types.{AckSlot, Entry}
 use Rattle.model.specs.Acks.{ackAt, holds, acksFor, mostAcked}
-use Rattle.model.proofs.Sums.{impossible, some-counted}
-use Rattle.model.proofs.Proposals.{first-of-most}
+use Rattle.laws.proofs.Sums.{impossible, some-counted}
+use Rattle.laws.proofs.Proposals.{first-of-most}
 use Rattle.layout.specs.Layout.{entryIn}
 use Rattle.layout.proofs.Entries.{ack-of-next}
 use Rattle.store.specs.Stores.{withNumber}

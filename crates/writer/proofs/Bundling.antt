@@ -19,8 +19,8 @@ use Rattle.model.specs.Replies.{valuesOfWrite}
 use Rattle.model.specs.Bundles.{Page, Fault}
 use Rattle.model.specs.Writing.{numberBytes, pageZero, messagePage, pagesOf, entryBytes, entryFor, contentsOf, bodiesOf, written, writeFaults, writeReply, bufferAfter}
 use Rattle.model.proofs.Opening.{the-type}
-use Rattle.model.proofs.Faults.{fault-told}
-use Rattle.model.proofs.Sums.{impossible}
+use Rattle.laws.proofs.Faults.{fault-told}
+use Rattle.laws.proofs.Sums.{impossible}
 use Rattle.bundle.specs.Promises.{longest}
 use Rattle.basics.specs.Outputs.{Writes}
 use Rattle.basics.proofs.Arrays.{array-length}

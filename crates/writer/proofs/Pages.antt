@@ -14,7 +14,7 @@ use Rattle.model.specs.declared.Message.{Message}
 use Rattle.model.specs.declared.Message.the-variants.{Request, Circulated, Ack, Decision, Inquiry}
 use Rattle.model.specs.Bundles.{bodyLength, Page, wrongEntry, wordsFrom, openingOf, transferOf, messageOf}
 use Rattle.model.specs.Writing.{numberBytes, Bytes, wordBytes, pageZero, transferBytes, messagePage}
-use Rattle.model.proofs.Numbers.{number-read, number-bytes, no-bytes, one-byte, more-bytes, words-length, words-read, word-bytes}
+use Rattle.laws.proofs.Numbers.{number-read, number-bytes, no-bytes, one-byte, more-bytes, words-length, words-read, word-bytes}
 use Rattle.writer.specs.RoundTrips.{TransferFits, MessageFits, OpeningFits}
 
 -- a transfer's ten bytes

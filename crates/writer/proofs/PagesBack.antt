@@ -13,7 +13,7 @@ use Rattle.model.specs.declared.Message.the-variants.{Request, Circulated, Ack,
 use Rattle.model.specs.Records.{seatOf, accountOf}
 use Rattle.model.specs.Bundles.{Page, bodyLength, openingOf, transferOf, messageOf}
 use Rattle.model.specs.Writing.{Bytes, pageZero, transferBytes, messagePage}
-use Rattle.model.proofs.Numbers.{number-written, number-small, joined, words-back, words-small}
+use Rattle.laws.proofs.Numbers.{number-written, number-small, joined, words-back, words-small}
 use Rattle.bundle.proofs.Longest.{no-difference}
 use Rattle.writer.specs.RoundTrips.{TransferFits, MessageFits, OpeningFits}
 

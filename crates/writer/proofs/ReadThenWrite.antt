@@ -15,8 +15,8 @@ use Rattle.model.specs.declared.Message.{Message}
 use Rattle.model.specs.declared.BundleReply.the-variants.{Sound}
 use Rattle.model.specs.Bundles.{Page, numberAt, entryCount, contentsAt, bodyLength, startAt, misplaced, pageAt, checkBundle, bodySum, taken, readNext, openingOf, messageOf}
 use Rattle.model.specs.Writing.{numberBytes, Bytes, pageZero, messagePage, entryBytes, entryFor, contentsOf, bodiesOf, bundleOf, written}
-use Rattle.model.proofs.Numbers.{number-written, dropped-bytes, taken-bytes, joined}
-use Rattle.model.proofs.Sums.{impossible}
+use Rattle.laws.proofs.Numbers.{number-written, dropped-bytes, taken-bytes, joined}
+use Rattle.laws.proofs.Sums.{impossible}
 use Rattle.bundle.proofs.Longest.{few-entries, right-entries, right-end, right-sums, right-entry, kind-later, no-difference, wrongAt}
 use Rattle.writer.specs.RoundTrips.{AllFit, ReadsFrom, WritesBack, ReadThenWrite, Reads}
 use Rattle.writer.proofs.PagesBack.{opening-fits, first-back, PageBack, page-back}

@@ -17,7 +17,7 @@ use Rattle.model.specs.declared.BundleReply.the-variants.{Sound}
 use Rattle.model.specs.Basics.{firstWhere}
 use Rattle.model.specs.Bundles.{numberAt, entryCount, contentsAt, startAt, bodyLength, bodySum, Page, pageOf, pageAt, wrongEntry, badHeader, firstBadEntry, badEnd, wrongSumAt, firstBadSum, checkBundle, openingOf, messageOf}
 use Rattle.model.specs.Writing.{numberBytes, Bytes, pageZero, messagePage, pagesOf, entryBytes, entryFor, contentsOf, bodiesOf, bundleOf, written}
-use Rattle.model.proofs.Numbers.{number-read, number-bytes, no-bytes, one-byte, more-bytes, sum-below}
+use Rattle.laws.proofs.Numbers.{number-read, number-bytes, no-bytes, one-byte, more-bytes, sum-below}
 use Rattle.bundle.proofs.Longest.{wrongAt}
 use Rattle.writer.specs.RoundTrips.{AllFit, OpeningFits, ReadsFrom, ReadsBack, WriteThenRead}
 use Rattle.writer.proofs.Pages.{message-read, opening-read, Right, opening-right, message-right, message-short, PageBytes, message-bytes, opening-bytes}

@@ -10,7 +10,7 @@ use Rattle.model.specs.declared.Slot.the-variants.{Empty, Full}
 use Rattle.model.specs.Types.{Ledger}
 use Rattle.model.specs.Records.{entryOf, withEntries, withEntry}
 use Rattle.model.specs.Settling.{credited, debited, apply}
-use Rattle.model.proofs.Access.{set-entry-length}
+use Rattle.laws.proofs.Access.{set-entry-length}
 use Rattle.layout.specs.Layout.{ledgerIn}
 use Rattle.layout.proofs.Blocks.{entries-length}
 use borrow.Author.Needs.{needs}

@@ -9,7 +9,7 @@ use Rattle.model.specs.declared.Transfer.{Transfer}
 use Rattle.model.specs.Types.{Ledger}
 use Rattle.model.specs.Records.{withBalance, withBooked, entryOf, withEntry}
 use Rattle.model.specs.Settling.{debited}
-use Rattle.model.proofs.Access.{with-entry-again}
+use Rattle.laws.proofs.Access.{with-entry-again}
 use Rattle.layout.specs.Layout.{ledgerIn, entryIn}
 use Rattle.layout.proofs.Blocks.{entries-length}
 use borrow.Author.Needs.{needs}

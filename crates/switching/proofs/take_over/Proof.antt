@@ -14,9 +14,7 @@ same-length : tie.Need-same-length
 same-length c = search needs
 
 returns : tie.Need-returns
-returns c =
-    let start = c .before .before .before .before .before .before .before .before .before .before in
-    all-taken (start .args .held .now) (start .args .words .now) _ _ (c .before .before .before .before .before .before .take-accounts .ensures .taken) (c .before .before .take-group .ensures)
+returns c = search (needs, all-taken)
 
 pub take-over-spec : {M : Type 1} → statement M
 take-over-spec = tie.close (tie.spec take-accounts-requires take-group-requires same-length returns)

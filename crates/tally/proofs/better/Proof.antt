@@ -13,7 +13,7 @@ use Rattle.model.specs.declared.Slot.the-variants.{Empty, Full}
 use Rattle.model.specs.Types.{Entry}
 use Rattle.model.specs.Acks.{acksFor}
 use Rattle.model.specs.Refusals.{ackFrom}
-use Rattle.model.proofs.Sums.{impossible}
+use Rattle.laws.proofs.Sums.{impossible}
 use Rattle.layout.specs.Layout.{entryIn}
 use Rattle.layout.proofs.Entries.{ack-of-next}
 use Rattle.store.specs.Stores.{withNumber, numbered}

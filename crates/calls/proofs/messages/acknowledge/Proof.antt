@@ -2,8 +2,8 @@
 use mathlib.Core.Path.{refl, sym, _∙_}
 use Rattle.basics.proofs.ReadBack.{passed}
 use Rattle.model.specs.declared.Message.the-variants.{Circulated}
-use Rattle.model.proofs.Sums.{impossible}
-use Rattle.calls.proofs.Ranges.{circulated-fits}
+use Rattle.laws.proofs.Sums.{impossible}
+use Rattle.checks.proofs.Ranges.{circulated-fits}
 use Rattle.calls.proofs.Taking.{refused, served}
 use borrow.Author.Needs.{needs}
 use Rattle.calls.proofs.messages.acknowledge.Statement.{statement}

@@ -2,7 +2,7 @@
 use mathlib.Core.Path.{refl, sym, _∙_}
 use Rattle.basics.proofs.ReadBack.{passed}
 use Rattle.model.specs.declared.Message.the-variants.{Decision}
-use Rattle.calls.proofs.Ranges.{fits}
+use Rattle.checks.proofs.Ranges.{fits}
 use Rattle.calls.proofs.Taking.{refused, served}
 use borrow.Author.Needs.{needs}
 use Rattle.calls.proofs.messages.decide.Statement.{statement}

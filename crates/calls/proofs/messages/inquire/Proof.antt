@@ -4,11 +4,11 @@ use borrow.Author.Tests.{le-leb, lt-leb}
 use Rattle.model.specs.declared.Message.the-variants.{Inquiry}
 use Rattle.model.specs.declared.Refusal.the-variants.{OutOfRange}
 use Rattle.model.specs.declared.Reply.the-variants.{Balance}
-use Rattle.model.proofs.Sums.{impossible}
-use Rattle.model.proofs.Access.{with-entry-read}
+use Rattle.laws.proofs.Sums.{impossible}
+use Rattle.laws.proofs.Access.{with-entry-read}
 use Rattle.layout.specs.Layout.{ledgerIn}
 use Rattle.basics.specs.declared.results.Check.the-variants.{Passed, Failed}
-use Rattle.calls.proofs.Ranges.{account-place}
+use Rattle.checks.proofs.Ranges.{account-place}
 use Rattle.calls.proofs.Taking.{refused, served}
 use borrow.Author.Needs.{needs}
 use Rattle.calls.proofs.messages.inquire.Statement.{statement}

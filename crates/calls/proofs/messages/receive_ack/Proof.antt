@@ -24,8 +24,7 @@ same-length : tie.Need-same-length
 same-length c = search needs
 
 returns : tie.Need-returns
-returns c =
-    proposes-late (c .before .before .before .before .before .before .before .before .before .before .args .words .now) (c .before .before .before .before .before .before .before .before .before .before .args .s) (c .before .before .before .before .before .before .before .before .before .before .args .t) _ (c .before .before .before .before .before .before .before .late-proposal .ensures) _ _ (c .before .before .before .before .before .retained .given .1) (c .before .before .put-retained-proposed .ensures)
+returns c = search (needs, proposes-late)
 
 same-length-2 : tie.Need-same-length-2
 same-length-2 c = search needs

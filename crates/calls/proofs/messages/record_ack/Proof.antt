@@ -7,7 +7,9 @@ use mathlib.Core.List.{List}
 use Rattle.model.specs.declared.Seat.{Seat}
 use Rattle.model.specs.declared.Transfer.{Transfer}
 use Rattle.model.specs.declared.Message.the-variants.{Ack}
+use Rattle.model.specs.declared.Refusal.{Refusal}
 use Rattle.model.specs.declared.Reply.{Reply}
+use Rattle.model.specs.declared.Reply.the-variants.{Refuse}
 use Rattle.model.specs.Records.{withAck, withEntry}
 use Rattle.model.specs.Acks.{acksFor, enough}
 use Rattle.model.specs.Refusals.{firstRefusal}
@@ -15,7 +17,7 @@ use Rattle.model.specs.Calls.{tallied, finished, rulesIn}
 use Rattle.layout.specs.Layout.{ledgerIn, entryIn}
 use Rattle.layout.proofs.Entries.{acks-length}
 use Rattle.basics.specs.declared.results.Check.{Check}
-use Rattle.basics.specs.declared.results.Check.the-variants.{Passed}
+use Rattle.basics.specs.declared.results.Check.the-variants.{Passed, Failed}
 use Rattle.basics.specs.Results.{checkOf}
 use Rattle.basics.proofs.ReadBack.{passed}
 use Rattle.store.specs.Stores.{AckStored}
@@ -23,7 +25,7 @@ use Rattle.tally.specs.declared.Tally.{Tally}
 use Rattle.tally.specs.Results.{tallyOf, atNext}
 use Rattle.tally.proofs.Nexts.{tally-next}
 use Rattle.calls.specs.Promises.{Next, Taken, NotLate, Accepted, NotEnough}
-use Rattle.calls.proofs.Ranges.{Fits, ack-fits}
+use Rattle.checks.proofs.Ranges.{Fits, ack-fits}
 use Rattle.calls.proofs.Taking.{refused, served, still-next, recorded, whole, tally-accepts}
 use borrow.Author.Needs.{needs}
 use Rattle.calls.proofs.messages.record_ack.Statement.{statement}
@@ -79,6 +81,11 @@ undecided-in : (ws mid : List ℕ) (s : Seat) (t : Transfer) (y : Tally) (r : Re
 undecided-in ws mid s t y r after x q q-is ok n f n-is f-is k k-is few stored gathers =
     undecided ws s t q q-is ok mid stored y gathers n f n-is f-is k k-is few r after x
 
+-- where a rule refuses the ack, the words stay
+refused-as-it-was : (ws : List ℕ) (s : Seat) (t : Transfer) (q : Check) → q ≡ checkOf (firstRefusal (rulesIn (ledgerIn ws) (Ack s t)))
+    → (r : Refusal) → q ≡ Failed r → NotLate ws s t (Refuse r) ws
+refused-as-it-was ws s t q q-is r found = record { answered = λ in-time. refused ws (Ack s t) in-time q q-is r found }
+
 ack-check-requires : tie.Need-ack-check-requires
 ack-check-requires c κs = search needs
 
@@ -122,13 +129,7 @@ same-length : tie.Need-same-length
 same-length c = search needs
 
 returns : tie.Need-returns
-returns c =
-    let start = c .before .before .before .before .before .before in
-    record {
-      answered =
-          λ in-time.
-          refused (start .args .words .now) (Ack (start .args .s) (start .args .t)) in-time _ (c .before .before .before .ack-check .ensures) _ (c .before .r .given .1);
-    }
+returns c = search (needs, refused-as-it-was)
 
 same-length-2 : tie.Need-same-length-2
 same-length-2 c = search needs

@@ -1,8 +1,8 @@
 -- Refused by its rules, or circulated; the words stay as they are.
 use mathlib.Core.Path.{refl, sym}
 use Rattle.model.specs.declared.Message.the-variants.{Request}
-use Rattle.model.proofs.Sums.{impossible}
-use Rattle.model.proofs.Access.{with-entry-read}
+use Rattle.laws.proofs.Sums.{impossible}
+use Rattle.laws.proofs.Access.{with-entry-read}
 use Rattle.layout.specs.Layout.{ledgerIn}
 use Rattle.calls.proofs.Taking.{refused, served}
 use borrow.Author.Needs.{needs}

@@ -4,7 +4,7 @@ use native.Mathlib.Omega.{arith}
 use borrow.Author.Needs.{needs}
 use mathlib.Core.Path.{refl, sym, _∙_}
 use Rattle.model.specs.Bundles.{wordsFrom}
-use Rattle.model.proofs.Numbers.{words-count, words-at}
+use Rattle.laws.proofs.Numbers.{words-count, words-at}
 use Rattle.basics.proofs.Filling.{Filled, filled-none, filled-more, filled-all}
 use Rattle.pages.proofs.messages.balances_of.Statement.{statement}
 use Rattle.pages.proofs.messages.balances_of.Tie as tie

@@ -1,7 +1,7 @@
 -- The tests in their order; where none refuses, the writer itself is asked.
 use native.Mathlib.Omega.{arith}
 use mathlib.Core.Path.{sym, _∙_}
-use Rattle.model.proofs.Sums.{first-found}
+use Rattle.laws.proofs.Sums.{first-found}
 use Rattle.basics.proofs.ReadBack.{search-at, search-nowhere}
 use Rattle.writer.specs.RecordLists.{recordCount, wrongRecord, firstWrong}
 use Rattle.writer.proofs.Recording.{records-too-many, record-wrong, last-wrong, records-written}

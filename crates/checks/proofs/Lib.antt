@@ -1,0 +1,4 @@
+-- Laws of the tests and of the late P.
+pub mod Rules
+pub mod Ranges
+pub mod Late

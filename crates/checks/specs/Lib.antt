@@ -1,0 +1,2 @@
+-- What a check promises, by the model's definitions.
+pub mod Promises

@@ -1,0 +1,19 @@
+-- What is proved of the definitions, which stand in the crate model: the laws that other crates use.
+pub mod Sums
+pub mod Equality
+pub mod Access
+pub mod Tallies
+pub mod Searches
+pub mod Gathering
+pub mod Proposals
+pub mod Booking
+pub mod Settles
+pub mod Forgetting
+pub mod Refusing
+pub mod Switching
+pub mod Opened
+pub mod Steps
+pub mod Listing
+pub mod Witnesses
+pub mod Numbers
+pub mod Faults

@@ -5,7 +5,7 @@ use mathlib.Core.Path.{_≡_, refl, ap}
 use mathlib.Core.Logic.{inl, inr}
 use mathlib.Core.Bool.{Bool, true, false, cond, _&&_, false≢true}
 use mathlib.Core.List.{List, [], _∷_}
-use lib.Dec.{eqb, lit≤, lit<}
+use lib.Dec.{eqb, lit≤}
 use Rattle.laws.specs.Types.{Transfer, AckSlot, Ledger, Circulated, Decision, Acknowledge, Accept, Propose, Note, Refuse}
 use Rattle.runs.specs.Runs.{Opens, FewBad, waitingList, switch, Event, Run, start, _▹_, at-end, sooner, happened, atHonest, rulesAt, ledgerAt, acksWith, Obeys, ruled, passes}
 use Rattle.runs.specs.Premises.{Premises}

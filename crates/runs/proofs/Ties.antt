@@ -103,9 +103,12 @@ moreU = ledgerAt page (seatOf 2) (today ▹ ack 2 3 u Note ▹ ack 2 4 u Note �
 pub same-acks-needed :
     (step moreT (Ack (seatOf 4) u) .reply ≡ Propose t)
     × (step moreU (Ack (seatOf 1) t) .reply ≡ Propose u)
-    × (SameAcks moreT (Ack (seatOf 4) u) moreU (Ack (seatOf 1) t) → Full t ≡ Full u)
+    × (SameAcks moreT (Ack (seatOf 4) u) moreU (Ack (seatOf 1) t) → ⊥)
 unfolding rulesAt ledgerAt noAcks equal conflict hasMost mostAcked lowestAffordable apply settleAtMost settle step stepUnder
-same-acks-needed = (refl, refl, λ same. same (seatOf 2))
+same-acks-needed = (refl, refl, λ same. let held : Full t ≡ Full u = same (seatOf 2) in apart held)
+  where
+    apart : Full t ≡ Full u → ⊥
+    apart held = let slips : t ≡ u = cc in absurd (omega (arith, ap (λ (v : Transfer). v .value) slips))
 
 -- What is alike between the sets of rules, on that tie: no more than that both slips have the most acks.
 pub ties-save : Alike one wLast → SameSaveTies (acksWith one wLast) (Propose u) (Propose t)

@@ -322,7 +322,7 @@ late-not-alike = (refl, refl, λ s. refl)
 -- .. so that two P's are alike is not said of these
 pub alike-unless-late : PutForwardAlike → true ≡ false → true ≡ false → t ≡ u
 unfolding rulesAt ledgerAt noAcks equal conflict hasMost mostAcked lowestAffordable apply settleAtMost settle step stepUnder
-alike-unless-late alike late too = alike tThere uThere third third t u late too refl refl (λ s. refl)
+alike-unless-late alike one other = alike tThere uThere third third t u one other refl refl (λ s. refl)
 
 -- What does not differ from the rules before is not said where a late P is due: there 6 is replied. And the mark is set there.
 pub late-alone-says : LateAlone tThere third → (true ≡ false → Propose t ≡ Refuse PastNumber) × (true ≡ true)

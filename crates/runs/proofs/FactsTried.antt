@@ -133,7 +133,7 @@ undisputed-keeps = (
   each-honest (λ s. reached (seatOf 0) s t undisputedRun ≡ true) refl refl refl refl refl,
 )
 
--- .. as it is: where one ack has not arrived yet, or three were lost, t is not accepted
+-- Seat 0 has accepted t then. Where one ack has not arrived yet, or three were lost, t is not accepted
 pub theorem1-computed :
     (acceptedBy (seatOf 0) t undisputedRun ≡ true)
     × (acceptedBy (seatOf 0) t oneLacks ≡ false)

@@ -283,8 +283,8 @@ marks-say = (
   λ f. f .retained-marked usedUp (seatOf 0) (accountOf 0) u at-end refl,
 )
 
--- Theorem 1, where one of the honest seats joins in: every honest seat has acked t, and the bad seat's ack of u comes to seat 1 when t is booked there. Nothing
--- but t is put forward.
+-- A run as Theorem 1 means it, in which one of the honest seats joins in: every honest seat has acked t, and the bad seat's ack of u comes to seat 1 when t is
+-- booked there. Nothing but t is put forward.
 abbrev pub joinedUndisputed : Run
 joinedUndisputed = undisputedRun ▹ ack 1 1 t Note ▹ ack 1 2 t Note ▹ ack 1 3 t (Accept 1) ▹ ack 1 5 u (Propose t)
 

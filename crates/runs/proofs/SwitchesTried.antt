@@ -1,4 +1,4 @@
--- Document 02, request 3, tried: a run in which seats switch on different days keeps the premises, and what demand 3 says of it; a mark that stands; and
+-- Document 02, request 3, tried: a run in which seats switch on different days keeps the premises; what is said of a mark, and of what is alike; and
 -- running an old bundle again, which is no switch. All is computed.
 use Prim.Native.Nat.{ℕ, _≤_, _<_}
 use mathlib.Core.Path.{_≡_, refl, ap}

@@ -1,4 +1,4 @@
--- Demand 3 as one statement. Its proof is `demand3` in proofs/Demand3.antt.
+-- Demand 3 as one statement. Its proof is `demand3` in Demand3.antt of the crate agreement.
 use Prim.Native.Nat.{ℕ, _<_}
 use mathlib.Core.Path.{_≡_}
 use mathlib.Core.Bool.{Bool, true}

@@ -1,5 +1,5 @@
 -- What holds of every run that obeys the definitions, premises or not: the whole-run facts of demand 2. The proof is `always` in
--- proofs/Always.antt.
+-- Always.antt of the crate agreement.
 use Prim.Native.Nat.{ℕ, _+_, _≤_, _<_}
 use mathlib.Core.Path.{_≡_}
 use mathlib.Core.Logic.{_⊎_}

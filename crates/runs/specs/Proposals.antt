@@ -1,4 +1,4 @@
--- Document 02, request 2, "Tied slips should be put forward alike", beside demand 3. The proofs are in proofs/Proposals.antt.
+-- Document 02, request 2, "Tied slips should be put forward alike", beside demand 3. The proofs are in Proposals.antt of the crate agreement.
 use mathlib.Core.Path.{_≡_}
 use mathlib.Core.Bool.{false}
 use Rattle.laws.specs.Types.{Seat, Transfer, Ledger, Message, Propose}

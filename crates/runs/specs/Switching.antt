@@ -1,5 +1,5 @@
 -- Document 02, request 3: "That two honest books cannot part holds across the switch." Demand 3 itself is of runs in which seats switch; what makes it true
--- stands here, and how little each switch changes. The proofs are in proofs/Switching.antt.
+-- stands here, and how little each switch changes. The proofs are in Switching.antt of the crate agreement.
 use Prim.Native.Nat.{_≤_, _<_}
 use mathlib.Core.Path.{_≡_}
 use mathlib.Core.Logic.{_⊎_}

@@ -1,4 +1,4 @@
--- The paper's Theorem 1. Its proof is `theorem1` in proofs/Theorem1.antt.
+-- The paper's Theorem 1. Its proof is `theorem1` in Theorem1.antt of the crate agreement.
 use mathlib.Core.Path.{_≡_}
 use mathlib.Core.Bool.{Bool, true, false, not, _&&_}
 use mathlib.Core.Option.{some}

@@ -423,7 +423,7 @@ abbrev pub chain : Run
 chain = twoWait ▹ ruling 0 (slip 2 1 5 0) (Accept 3) ▹ ruling 0 (slip 2 1 5 0) (Refuse PastNumber)
 
 -- Two slips wait at seats 0 and 1. Each is asked for its waiting list, and one lists them the other way round
-abbrev bothWait : Run
+abbrev pub bothWait : Run
 bothWait = today ▹ ruling 0 (slip 0 1 11 1) (Accept 0) ▹ ruling 0 (slip 1 1 4 0) (Accept 0) ▹ ruling 1 (slip 1 1 4 0) (Accept 0) ▹ ruling 1 (slip 0 1 11 1) (Accept 0)
 
 abbrev listedFirst : Run

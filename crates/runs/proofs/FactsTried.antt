@@ -8,7 +8,7 @@ use native.Mathlib.Omega.{arith}
 use lib.Dec.{lit≤, lit<}
 use borrow.Author.Tests.{le-ltb}
 use Rattle.laws.specs.Types.{Seat, Transfer, Opening, Circulated, Ack, Inquiry, Acknowledge, Accept, Propose, Note, Balance, Refuse}
-use Rattle.runs.specs.Runs.{Opens, FewBad, honest, Event, Run, _▹_, Within, at-end, sooner, throughout, atHonest, rulesAt, ledgerAt, Obeys, proposed}
+use Rattle.runs.specs.Runs.{Opens, FewBad, honest, Event, Run, _▹_, Within, at-end, sooner, throughout, atHonest, rulesAt, ledgerAt, InAnyOrder, Obeys, proposed}
 use Rattle.runs.specs.Premises.{ackedBy, Premises}
 use Rattle.runs.specs.Slates.{leaveAtMost, leaveAll, slateAt}
 use Rattle.runs.specs.Claims.{SameCounts, Claim}
@@ -20,12 +20,13 @@ use Rattle.model.specs.Transfers.{equal, conflict}
 use Rattle.model.specs.Openings.{openReply}
 use Rattle.model.specs.Acks.{holds, acksFor, enough, hasMost, mostAcked}
 use Rattle.model.specs.Settling.{lowestAffordable, apply, settleAtMost, settle}
+use Rattle.model.specs.Calls.{waitingAccounts}
 use Rattle.model.specs.Switches.{stepUnder}
 use Rattle.model.proofs.Rows.{slip, pageWith}
 use Rattle.laws.proofs.Sums.{impossible}
 use Rattle.laws.proofs.Equality.{conflict-sound}
 use Rattle.runs.proofs.Found.{happened-found, that-slip}
-use Rattle.runs.proofs.Examples.{page, t, u, v, bad, today, asked, acks, ack, ruling, _then_, waits, witness, putsForward, free, refusedRuling, poor, oneWaits, bothBooked, oneMore, three, chain, slate}
+use Rattle.runs.proofs.Examples.{page, t, u, v, bad, today, asked, acks, ack, ruling, _then_, waits, witness, putsForward, free, refusedRuling, poor, oneWaits, bothBooked, oneMore, three, chain, bothWait, slate}
 
 -- One more run: every honest seat acks t. At seat 0 the bad seat's ack of u comes first; the acks of seats 0 to 3 make five with it,
 -- which conflict, and t is put forward; then the bad seat acks t too, and is refused. Seat 1 gets two acks and one of them again, the
@@ -364,3 +365,8 @@ proposals-say = (
       f .only-accepted-proposed (acceptedThere ▹ ack 1 1 u (Propose t)) acceptedThere (ruling 1 t (Accept 1)) (ack 1 1 u (Propose t)) t t
       after (sooner (sooner (sooner at-end))) refl refl refl refl refl,
 )
+
+-- The order of a waiting list in a run: of accounts 0 and 1, which wait at seat 1, each stands once, and another does not; of their places nothing is said.
+pub order-says : InAnyOrder (ledgerAt page (seatOf 1) bothWait) (1 ∷ 0 ∷ []) → (1 is 1) × (1 is 1) × (0 is 0)
+unfolding rulesAt ledgerAt waitingAccounts noAcks equal conflict hasMost mostAcked lowestAffordable apply settleAtMost settle stepUnder
+order-says h = (h 0, h 1, h 2)

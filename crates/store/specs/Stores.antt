@@ -9,7 +9,7 @@ use Rattle.model.specs.declared.Transfer.{Transfer}
 use Rattle.model.specs.declared.Slot.{Slot}
 use Rattle.model.specs.declared.Slot.the-variants.{Empty, Full}
 use Rattle.model.specs.Records.{withEntry, withAck, withPending, withRetained}
-use Rattle.layout.specs.Layout.{Block, block, pendingValuePlace, pendingNumberPlace, pendingRecipientPlace, ackValuesPlace, ackRecipientsPlace, upTo, ledgerIn, entryIn}
+use Rattle.layout.specs.Layout.{Block, block, proposedPlace, pendingValuePlace, pendingNumberPlace, pendingRecipientPlace, ackValuesPlace, ackRecipientsPlace, retainedValuePlace, retainedNumberPlace, retainedRecipientPlace, retainedProposedPlace, upTo, ledgerIn, entryIn}
 use Rattle.layout.specs.Blocks.{put, Changes}
 
 -- the block with 0 at the places from i up to n
@@ -41,8 +41,10 @@ pub record PendingStored (before : List ℕ) (t : Transfer) (after : List ℕ) :
   pub words : Changes before (t .account .0) (put (put (put (block before (t .account .0)) pendingValuePlace (t .value)) pendingNumberPlace (t .number)) pendingRecipientPlace (t .recipient .0)) after
   pub waits : 0 < t .value → ledgerIn after ≡ withEntry (ledgerIn before) (t .account) (withPending (entryIn before (t .account)) t)
 
--- The slip's value, number and recipient are in the places of what is retained, with the word of the next number's mark: it is retained if it has a value.
+-- The slip's value, number and recipient are in the places of what is retained, with the word of the next number's mark: it is retained if it has a
+-- value.
 pub record RetainedStored (before : List ℕ) (t : Transfer) (after : List ℕ) : Type 0 where
+  pub words : Changes before (t .account .0) (put (put (put (put (block before (t .account .0)) retainedValuePlace (t .value)) retainedNumberPlace (t .number)) retainedRecipientPlace (t .recipient .0)) retainedProposedPlace (block before (t .account .0) proposedPlace)) after
   pub retained : 0 < t .value → ledgerIn after ≡ withEntry (ledgerIn before) (t .account) (withRetained (entryIn before (t .account)) t)
 
 -- The group's numbers, read back as they are in their ranges; the entries are as they were.

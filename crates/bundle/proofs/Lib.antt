@@ -1,5 +1,6 @@
--- Laws that the proofs of this crate share.
+-- Laws that the proofs of this crate share, and worked facts of a reading.
 pub mod Checking
 pub mod Longest
 pub mod Reading
+pub mod Facts
 pub mod Asking

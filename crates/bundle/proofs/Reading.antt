@@ -17,11 +17,11 @@ module _ (bytes : List ℕ) (i : ℕ) where
   -- a page is left, and it is taken
   pub reads-page : {c : ContentsEntry} → i < entryCount bytes → c ≡ contentsAt bytes i
       → ReadAs bytes i (Taken c (record { next = i + 1 }))
-  reads-page inside e = let test = lt-ltb i (entryCount bytes) inside in record { meets = rw (test, e); told = rw (test, e) }
+  reads-page inside e = let test = lt-ltb i (entryCount bytes) inside in record { meets = rw (test, e); told = rw (test, e); values = rw (test, e) }
 
   -- no page is left
   pub reads-none : entryCount bytes ≤ i → ReadAs bytes i (NoMore (record { next = i }))
-  reads-none over = let test = le-ltb i (entryCount bytes) over in record { meets = rw test; told = rw test }
+  reads-none over = let test = le-ltb i (entryCount bytes) over in record { meets = rw test; told = rw test; values = rw test }
 
   -- for a caller: there are pages left exactly if one is taken, which is the next
   module _ {r : Read} (reads : ReadAs bytes i r) where

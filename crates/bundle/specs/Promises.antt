@@ -3,11 +3,12 @@ use Prim.Native.Nat.{ℕ, _+_, _<_}
 use mathlib.Core.Path.{_≡_}
 use mathlib.Core.Logic.{_⊎_}
 use mathlib.Core.Bool.{cond}
-use mathlib.Core.List.{List}
+use mathlib.Core.List.{List, [], _∷_}
 use mathlib.Core.Option.{Option, none, some}
 use lib.Dec.{ltb}
 use lib.ListN.{length}
 use Rattle.model.specs.declared.Refusal.{Refusal}
+use Rattle.model.specs.declared.ContentsEntry.{ContentsEntry}
 use Rattle.model.specs.declared.BundleReply.{BundleReply}
 use Rattle.model.specs.declared.BundleReply.the-variants.{BundleRefused}
 use Rattle.model.specs.Bundles.{entryCount, contentsAt, pageOf, startAt, firstBadEntry, faultValues, faults, checkBundle, Reading, taken, noMore, readNext}
@@ -40,10 +41,26 @@ abbrev pub readOf : List ℕ → ℕ → Read
 readOf bytes i =
     cond (ltb i (entryCount bytes)) (Taken (contentsAt bytes i) (record { next = i + 1 })) (NoMore (record { next = i }))
 
--- A reading: the reply, and that it is what the model says.
+-- an entry's kind, seat, start and sum
+abbrev pub valuesOfEntry : ContentsEntry → List ℕ
+valuesOfEntry c = c .kind ∷ c .seat ∷ c .start ∷ c .sum ∷ []
+
+-- The reply's number and values, as `Replies` gives them of the other answers: 0, since a reading refuses nothing; how many pages are taken,
+-- 1 or 0; the entry at which the reading goes on, or stays; and the values of a taken page's entry.
+abbrev pub valuesOfRead : Read → List ℕ
+valuesOfRead (Taken c at) = 0 ∷ 1 ∷ at .next ∷ valuesOfEntry c
+valuesOfRead (NoMore at) = 0 ∷ 0 ∷ at .next ∷ []
+
+-- these of document 01's reading: below m entry i is taken and i + 1 is next; from there on none is, and the reading stays
+abbrev pub readValues : List ℕ → ℕ → List ℕ
+readValues bytes i =
+    cond (ltb i (entryCount bytes)) (0 ∷ 1 ∷ (i + 1) ∷ valuesOfEntry (contentsAt bytes i)) (0 ∷ 0 ∷ i ∷ [])
+
+-- A reading: the reply, that it is what the model says, and document 01's number and values of it.
 pub record ReadAs (bytes : List ℕ) (i : ℕ) (r : Read) : Type 0 where
   pub meets : r ≡ readOf bytes i
   pub told : readingOf bytes r ≡ readNext bytes i
+  pub values : valuesOfRead r ≡ readValues bytes i
 
 -- "a bundle of at most 18,123 bytes": m, 1,000 entries of 8 bytes, an opening page and 999 other bodies
 abbrev pub longest : ℕ

@@ -10,6 +10,7 @@ use Rattle.layout.specs.Layout.{ledgerIn}
 use Rattle.settling.specs.declared.Found.{Found}
 use Rattle.settling.specs.declared.Found.the-variants.{At, Nothing}
 
+-- the account that the search finds, if any
 abbrev pub foundOf : Option Account → Found
 foundOf none = Nothing
 foundOf (some a) = At a

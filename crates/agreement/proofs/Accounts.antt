@@ -1,4 +1,5 @@
--- The k accounts have everything: behind the k-th every balance and current number stays 0, with no premises on the run.
+-- The k accounts have everything: behind the k-th every balance and current number
+-- stays 0, with no premises on the run.
 use Prim.Native.Nat.{_≤_}
 use native.Mathlib.Omega.{arith}
 use mathlib.Core.Path.{_≡_, refl, ap, _∙_}

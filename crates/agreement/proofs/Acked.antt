@@ -1,4 +1,5 @@
--- A seat acks at most one slip per account and number; and an ack that a ledger holds from an honest seat is a slip that this seat acked.
+-- A seat acks at most one slip per account and number; and an ack that a ledger holds from an honest seat
+-- is a slip that this seat acked.
 use Prim.Native.Nat.{ℕ, _+_, _≤_, _<_}
 use native.Mathlib.Omega.{arith}
 use mathlib.Core.Path.{_≡_, refl, ap, sym, _∙_}

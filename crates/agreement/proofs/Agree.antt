@@ -145,8 +145,9 @@ module _ (o : Opening) (bad : Seat → Bool) (run : Run) (opens : Opens o) (few 
       go (earlier first) = earlier-ruling p q e d t u v first ist isu account number
       go (later first) = sym (earlier-ruling q p d e u t w first isu ist (sym account) (sym number))
 
-  -- where of its account and number only t has a majority or a quorum, a ruling for them is for t. What was put forward before the first of them has a
-  -- majority; or it is late, and its seat had accepted it: by a quorum, since a ruling would have come before
+  -- where of its account and number only t has a majority or a quorum, a ruling for them is for t. What was put
+  -- forward before the first of them has a majority; or it is late, and its seat had accepted it: by a quorum, since
+  -- a ruling would have come before
   pub ruled-only : (t u : Transfer)
       → ((w : Transfer) → Majority o bad run w → t .account ≡ w .account → t .number ≡ w .number → t ≡ w)
       → ((w : Transfer) → Quorum o bad run w → t .account ≡ w .account → t .number ≡ w .number → t ≡ w)

@@ -145,7 +145,8 @@ module _ (o : Opening) (opens : Opens o) (s : Seat) where
       go (earlier first) = absurd (accepts-no-more p q e d t u (obeys-before o obeys v) first there here is this account number)
       go (later first) = absurd (accepts-no-more q p d e u t (obeys-before o obeys w) first here there this is (sym account) (sym number))
 
-  -- after it, only the accepted slip is put forward for its number, late: what another P carries is of an eligible slip's account and number
+  -- after it, only the accepted slip is put forward for its number, late: what another P carries is of an
+  -- eligible slip's account and number
   only-accepted : (p q : Run) (e : Event) (c : Call) (t u : Transfer) → Obeys o (q ▹ record { at = s; call = c }) → Within (p ▹ e) q → e .at ≡ s
       → accepted (e .call) ≡ some t → proposed c ≡ some u → t .account ≡ u .account → t .number ≡ u .number
       → (t ≡ u) × (rank sinceRequest5 ≤ rank (rulesAt s q))

@@ -1,5 +1,6 @@
--- The third point of demand 3: counts determine balances. What an account has, and has paid for its numbers up to its count, is what
--- it opened with and what the numbers of all accounts up to their counts brought it; and by agreement one slip answers to each number.
+-- The third point of demand 3: counts determine balances. What an account has, and has paid for its numbers up to its
+-- count, is what it opened with and what the numbers of all accounts up to their counts brought it; and by agreement
+-- one slip answers to each number.
 use Prim.Native.Nat.{ℕ, zero, suc, _+_, _<_}
 use native.Mathlib.Decide.{ℕ-discrete, decLt}
 use native.Mathlib.Omega.{arith}

@@ -1,4 +1,5 @@
--- Places in a run: how they are ordered, what the tests over a run say at each of them, and how a seat's ledger gets from one to the next.
+-- Places in a run: how they are ordered, what the tests over a run say at each of them, and how a seat's
+-- ledger gets from one to the next.
 use mathlib.Core.Path.{_≡_, refl, ap, sym}
 use mathlib.Core.Logic.{_⊎_, inl, inr}
 use mathlib.Core.Bool.{Bool, true, false, cond, or-true}
@@ -103,7 +104,8 @@ pub ledger-after : (o : Opening) (s : Seat) (r : Run) (e : Event) (m : Message) 
 unfolding ledgerAt
 ledger-after o s r e m q seat call = rw (seat, call, seat-self s)
 
--- What stays true of a seat's rules and ledger at one more event: at one elsewhere, at a waiting list, at a switch, and at a message, under whatever rules.
+-- What stays true of a seat's rules and ledger at one more event: at one elsewhere, at a waiting list, at a switch, and
+-- at a message, under whatever rules.
 module _ (o : Opening) (s : Seat) (P : Run → Rules → Ledger → Type 0)
     (elsewhere : (r : Run) (e : Event) (v : Rules) (l : Ledger) → sameSeat (e .at) s ≡ false → P r v l → P (r ▹ e) v l)
     (listed : (r : Run) (b a : List ℕ) (q : ListReply) (v : Rules) (l : Ledger) → P r v l → P (r ▹ record { at = s; call = waitingList b q a }) v l)

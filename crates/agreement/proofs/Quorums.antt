@@ -1,4 +1,5 @@
--- Counting seats: two quorums share an honest seat, and a slip with a quorum outnumbers every other wherever n - f acks are recorded.
+-- Counting seats: two quorums share an honest seat, and a slip with a quorum outnumbers every other
+-- wherever n - f acks are recorded.
 use Prim.Native.Nat.{ℕ, zero, suc, _+_, _*_, _≤_, _<_}
 use native.Mathlib.Decide.{decLt}
 use native.Mathlib.Omega.{arith}

@@ -1,6 +1,6 @@
--- What happened at a message of a run; and every ledger that an opening and calls can make is sound, with no premises on the run. By this, three ways to show what holds of a seat's
--- ledger in a run, each from what a message does to a sound ledger: at every place (`run-induction`), from a place on (`stays`), and of
--- every earlier call (`past-calls`).
+-- What happened at a message of a run; and every ledger that an opening and calls can make is sound, with no premises
+-- on the run. By this, three ways to show what holds of a seat's ledger in a run, each from what a message does to a
+-- sound ledger: at every place (`run-induction`), from a place on (`stays`), and of every earlier call (`past-calls`).
 use Prim.Native.Nat.{ℕ}
 use mathlib.Core.Path.{_≡_, refl, ap, sym, subst, _∙_}
 use mathlib.Core.Logic.{_⊎_, inl, inr}
@@ -77,7 +77,8 @@ module _ (o : Opening) (opens : Opens o) (s : Seat) where
       unfolding rulesAt ledgerAt
       everywhere opened r obeys = stays obeys (the-start r) (opened (startedUnder r s))
 
-  -- Q of every earlier call at the seat, its rules and its ledger now: true of each call when it is made, and later switches and messages keep it
+  -- Q of every earlier call at the seat, its rules and its ledger now: true of each call when it is made, and
+  -- later switches and messages keep it
   module _ (Q : Call → Rules → Ledger → Type 0)
       (listed : (v : Rules) (l : Ledger) (b a : List ℕ) (q : ListReply) → Q (waitingList b q a) v l)
       (switches : (v : Rules) (l : Ledger) → Q switch v l)

@@ -45,7 +45,8 @@ module _ (o : Opening) (opens : Opens o) (s : Seat) where
     pub why-booked : (m : ℕ) → 1 ≤ m → m ≤ e .current → WasAccepted r a m
     pub why-retained : (t : Transfer) → e .retained ≡ Full t → acceptedBy s t r ≡ true
 
-  -- reasons stay reasons where acks, current and the waiting slip stay, and there is one for what is retained, at the same place or later
+  -- reasons stay reasons where acks, current and the waiting slip stay, and there is one for what is
+  -- retained, at the same place or later
   reasons-stay : (r r′ : Run) (a : Account) (e e′ : Entry) → Within r r′
       → e′ .acks ≡ e .acks → e′ .current ≡ e .current → e′ .pending ≡ e .pending
       → ((t : Transfer) → e′ .retained ≡ Full t → acceptedBy s t r ≡ true) → Reasons r a e → Reasons r′ a e′

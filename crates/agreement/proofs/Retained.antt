@@ -1,5 +1,5 @@
--- What a seat retains, and what it puts forward: under the rules since request 5 the latest accepted slip, before them nothing; and at most one slip, one
--- time, for an account and number.
+-- What a seat retains, and what it puts forward: under the rules since request 5 the latest accepted slip, before them
+-- nothing; and at most one slip, one time, for an account and number.
 use Prim.Native.Nat.{ℕ, _+_, _≤_, _<_}
 use native.Mathlib.Omega.{arith}
 use mathlib.Core.Path.{_≡_, refl, ap, sym, subst, _∙_}
@@ -40,7 +40,8 @@ none-next o l t u g ok fit held number =
       booked-retained o (t .account) (entryOf l (t .account)) (ok .each (t .account)) (admitted o l t g ok fit .none-waits) u held,
     )
 
--- What an entry retains under a set of rules: something since request 5 alone, and then what waits, if anything does, or else what was booked last.
+-- What an entry retains under a set of rules: something since request 5 alone, and then what waits, if anything
+-- does, or else what was booked last.
 pub record Latest (v : Rules) (e : Entry) : Type 0 where
   pub slip : (t : Transfer) → e .retained ≡ Full t
       → (v ≡ sinceRequest5) × ((e .pending ≡ Full t) ⊎ ((e .pending ≡ Empty) × (t .number ≡ e .current)))
@@ -123,7 +124,8 @@ module _ (o : Opening) (opens : Opens o) (s : Seat) where
       (λ v l next m q ok h old. step-latest v o l next m q (group o opens) ok h old)
       (λ v a. rw (opened-entry o a) (record { slip = λ t h. impossible (cc); waiting = λ since t h. impossible (cc); mark = λ h. impossible (cc) }))
 
--- The slip is the latest that was accepted under the rules since request 5, and is retained; or a later one was accepted.
+-- The slip is the latest that was accepted under the rules since request 5, and is
+-- retained; or a later one was accepted.
 abbrev Retains : Transfer → Entry → Type 0
 Retains t e = (t .number < e .current + bit (isWaiting e)) ⊎ (e .retained ≡ Full t)
 
@@ -216,8 +218,9 @@ abbrev MarkedOrRetained : ℕ → Rules → Entry → Type 0
 MarkedOrRetained number v e =
     (e .proposed ≡ true) ⊎ ((v ≡ sinceRequest5) × (u : Transfer) × (e .retained ≡ Full u) × (u .number ≡ number))
 
--- A number is used up in an entry, under a set of rules: something was put forward for it, so nothing is any more. It is not above the next; if it is the
--- next, its mark is set, or, since request 5, it is retained; and if it is retained, that mark is set.
+-- A number is used up in an entry, under a set of rules: something was put forward for it, so nothing is any
+-- more. It is not above the next; if it is the next, its mark is set, or, since request 5, it is retained; and if
+-- it is retained, that mark is set.
 pub record UsedUp (number : ℕ) (v : Rules) (e : Entry) : Type 0 where
   pub not-above : number ≤ e .current + 1
   pub next-marked : number ≡ e .current + 1 → MarkedOrRetained number v e
@@ -237,7 +240,8 @@ still-used number v e e′ current marked retained late old =
     go (inl is) = inl (marked is)
     go (inr (since, u, held, this)) = inr (since, u, retained ∙ held, this)
 
--- a slip of the next number is accepted, where only a number that has been booked is retained: it is retained with its mark
+-- a slip of the next number is accepted, where only a number that has been booked is
+-- retained: it is retained with its mark
 accepted-used : (number : ℕ) (v : Rules) (e : Entry) (t : Transfer) → t .number ≡ e .current + 1
     → ((u : Transfer) → e .retained ≡ Full u → u .number ≡ t .number → ⊥) → UsedUp number v e → UsedUp number v (waitingUnder v e t)
 accepted-used number firstRules e t next none-held old = still-used number firstRules e (waitingUnder firstRules e t) refl (λ h. h) refl (λ h. h) old

@@ -67,7 +67,8 @@ among-all p P v vs first others u among pass = go (equal u v) refl
     go true e = let same = equal-sound u v e in rw same (first (rw same at pass))
     go false e = others u (among-others u v vs e among) pass
 
--- What the search for the lowest slip that passes a test found: one that does, and none of a lower account does; or that none does.
+-- What the search for the lowest slip that passes a test found: one that does, and none of a lower
+-- account does; or that none does.
 record LowestOf (p : Transfer → Bool) (ts : List Transfer) (t : Transfer) : Type 0 where
   among : Among t ts
   passes : p t ≡ true

@@ -35,8 +35,8 @@ group o opens = opened-group o (opens .not-refused)
 abbrev pub RetainedStands : Account → Entry → Type 0
 RetainedStands a e = (t : Transfer) → e .retained ≡ Full t → (t .account ≡ a) × ((e .pending ≡ Full t) ⊎ (t .number ≤ e .current))
 
--- An account's entry: its acks and its waiting slip are of this account and of the next number, acks are from seats of the group, a slip with enough
--- recorded acks is the one that waits, and what is retained stands.
+-- An account's entry: its acks and its waiting slip are of this account and of the next number, acks are from seats of
+-- the group, a slip with enough recorded acks is the one that waits, and what is retained stands.
 pub record SoundEntry (o : Opening) (a : Account) (e : Entry) : Type 0 where
   pub acks-size : length (e .acks) ≡ 16
   pub acks-stand : (s : Seat) (t : Transfer) → ackFrom e s ≡ Full t → (s .0 < o .seats) × (t .account ≡ a) × (t .number ≡ e .current + 1)

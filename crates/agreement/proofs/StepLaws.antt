@@ -1,6 +1,6 @@
--- The laws of a step that the proofs about runs use, and all of them: what a call puts into an account's entry (`each-entry`), what it
--- does to balances, current numbers and waiting slips (`turn`), and what its reply means (`answer-acknowledge` and so on). Later
--- definitions of a step prove these again, and the rest stays.
+-- The laws of a step that the proofs about runs use, and all of them: what a call puts into an account's entry
+-- (`each-entry`), what it does to balances, current numbers and waiting slips (`turn`), and what its reply means
+-- (`answer-acknowledge` and so on). Later definitions of a step prove these again, and the rest stays.
 use Prim.Native.Nat.{_-_, _*_, _<_, _≤_, ℕ, _+_}
 use native.Mathlib.Omega.{arith}
 use mathlib.Core.List.{List}
@@ -73,7 +73,8 @@ pub record Recording (l : Ledger) (s : Seat) (t : Transfer) : Type 0 where
   pub eligible : Eligible l t
   pub recordable : Recordable l s t
 
--- P u that is not late means: an ack, with which at least n - f are recorded, nothing was put forward yet, and no slip has more of them than u.
+-- P u that is not late means: an ack, with which at least n - f are recorded, nothing was put forward yet, and
+-- no slip has more of them than u.
 pub record Proposes (l : Ledger) (m : Message) (u : Transfer) (next : Ledger) : Type 0 where
   pub sender : Seat
   pub slip : Transfer
@@ -172,8 +173,8 @@ puts-current {v} l m r t x (puts-accepted s c e f fit new full is) = ap (λ (y :
 puts-current {v} l m r t x (puts-ruled c e f fit is) = ap (λ (y : Entry). y .current) is ∙ retain-current v (entryOf l (t .account)) t
 puts-current l m r t x (puts-late s u since e f join is) = ap (λ (y : Entry). y .current) is
 
--- To show J of each account's entry after a call, from J of each before it: show it of what the call puts, and that it stays where
--- the balance changes and where a slip is booked.
+-- To show J of each account's entry after a call, from J of each before it: show it of what the call puts, and that it
+-- stays where the balance changes and where a slip is booked.
 module _ {v : Rules} (o : Opening) (l next : Ledger) (m : Message) (r : Reply) (g : Group o) (ok : Sound o l)
     (J : Account → Entry → Type 0)
     (on-balance : (a : Account) (e e′ : Entry) → SameButBalance e e′ → J a e → J a e′)

@@ -1,5 +1,5 @@
--- The paper's Theorem 1: the statement is `Theorem1` in specs/Undisputed.antt. What every honest seat acked is accepted wherever all their
--- acks arrived, and no other slip with its account and number is put forward or accepted.
+-- The paper's Theorem 1: the statement is `Theorem1` in specs/Undisputed.antt. What every honest seat acked is accepted
+-- wherever all their acks arrived, and no other slip with its account and number is put forward or accepted.
 use Prim.Native.Nat.{ℕ, zero, suc, _+_, _*_, _≤_, _<_}
 use native.Mathlib.Decide.{decLe}
 use native.Mathlib.Omega.{arith}
@@ -43,7 +43,8 @@ count-all : (p : ℕ → Bool) (n : ℕ) → ((i : ℕ) → p i ≡ true) → co
 count-all p zero all = refl
 count-all p (suc n) all = omega (arith, ap bit (all n), count-all p n all)
 
--- An ack of t from seat s has arrived: its number was booked, or it is recorded, or another slip with that number was accepted first.
+-- An ack of t from seat s has arrived: its number was booked, or it is recorded, or another slip with
+-- that number was accepted first.
 abbrev Arrived : Seat → Transfer → Entry → Type 0
 Arrived s t e = Held s t e ⊎ ((p : Transfer) × (p .account ≡ t .account) × (p .number ≡ t .number) × BookedOrWaits p e)
 

@@ -31,7 +31,8 @@ use Rattle.model.specs.Switches.{stepUnder}
 claimed : (run : Run) → Opens page × FewBad page bad × (atHonest page bad run ≡ true) × Obeys page run × Premises page bad run → Claim page bad run
 claimed run kept = demand3 page bad run (kept .0) (kept .1) (kept .2) (kept .3) (kept .4)
 
--- .. so of these: the witness; seats that switch on different days; seats that join in, all under the newest rules, and under all sets of rules.
+-- .. so of these: the witness; seats that switch on different days; seats that join in, all under the newest
+-- rules, and under all sets of rules.
 pub witness-claim : Claim page bad witness
 witness-claim = claimed witness witness-keeps
 
@@ -44,7 +45,8 @@ joined-claim = claimed joinedIn joined-keeps
 pub mixed-claim : Claim page bad mixed
 mixed-claim = claimed mixed mixed-keeps
 
--- Where every honest seat acked t, nothing else is put forward or accepted for its number, and seat 0 accepts it, by Theorem 1
+-- Where every honest seat acked t, nothing else is put forward or accepted for its number, and
+-- seat 0 accepts it, by Theorem 1
 pub undisputed-claim : Undisputed page bad undisputedRun t
 undisputed-claim =
     let kept = undisputed-keeps in
@@ -75,7 +77,8 @@ mark-tried = marks-stand page heldOn asItWas heldOn (acks 0 w) w (across-keeps .
 abbrev recorded : List AckSlot
 recorded = map (λ p. record { slot = p }) (Full t ∷ Full t ∷ Full t ∷ Full u ∷ Full u ∷ Full u ∷ Full w ∷ replicate 9 Empty)
 
--- Two calls, in two orders of the acks, are both answered P, and with the ack at hand they have the same acks: what is said of two such calls is said of these.
+-- Two calls, in two orders of the acks, are both answered P, and with the ack at hand they have the same acks: what is
+-- said of two such calls is said of these.
 pub same-acks-tried : (lateIn one wLast ≡ false) × (lateIn other tLast ≡ false) × (step one wLast .reply ≡ Propose t) × (step other tLast .reply ≡ Propose t) × SameAcks one wLast other tLast
 unfolding rulesAt ledgerAt noAcks equal conflict hasMost mostAcked lowestAffordable apply settleAtMost settle step stepUnder
 same-acks-tried =

@@ -1,4 +1,5 @@
--- The acks that K and P rest on, as votes of the seats: how they are counted, and that two tallies of one number agree off the bad seats.
+-- The acks that K and P rest on, as votes of the seats: how they are counted, and that two tallies of one
+-- number agree off the bad seats.
 use Prim.Native.Nat.{ℕ, _+_, _*_, _≤_, _<_}
 use native.Mathlib.Omega.{arith}
 use mathlib.Core.Path.{_≡_, refl, ap, sym, _∙_}
@@ -21,7 +22,8 @@ use Rattle.laws.proofs.Steps.{entryWithAck}
 abbrev pub vote : Entry → ℕ → Slot
 vote x i = ackFrom x (seatOf i)
 
--- The acks of one account and number: one place per seat, filled only for seats of the group, and honest seats' acks are their own.
+-- The acks of one account and number: one place per seat, filled only for seats of the group, and
+-- honest seats' acks are their own.
 pub record Tally (o : Opening) (bad : Seat → Bool) (run : Run) (a : Account) (m : ℕ) (x : Entry) : Type 0 where
   pub size : length (x .acks) ≡ 16
   pub stands : (s : Seat) (u : Transfer) → ackFrom x s ≡ Full u → (s .0 < o .seats) × (u .account ≡ a) × (u .number ≡ m)

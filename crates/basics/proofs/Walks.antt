@@ -1,5 +1,5 @@
--- What the walks by hand have in common: a call by the callee's contract, a struct behind a `&mut`, a local that is lent, and the way
--- from the walk to the function's statement.
+-- What the walks by hand have in common: a call by the callee's contract, a struct behind a `&mut`, a local that is
+-- lent, and the way from the walk to the function's statement.
 use mathlib.Core.Path.{_≡_, refl, sym, subst}
 use mathlib.Core.List.{List, [], _∷_, _++_}
 use Prim.Native.Nat.{ℕ}
@@ -108,7 +108,8 @@ module _ {M : Type 1} (𝓤 : URA M) (H : Heap 𝓤) (𝓜 : Model 𝓤 H) (𝓖
   unfolding tablesOf
   framed = fmOf 𝓤 H (W .laws) (tablesOf 𝓤 H 𝓜 (tables 𝓤 H 𝓜 𝓡 γ))
 
-  -- The walk is had for each choice of lifetimes, shares, arguments and ghost value, with the arguments' machine values written out.
+  -- The walk is had for each choice of lifetimes, shares, arguments and ghost value, with the
+  -- arguments' machine values written out.
   module _ (T : Ended) (hs : Stays (T .signature .params) (T .kept)) (c : Clauses 𝓤 T) (name : Name) (e : Fn) where
     abbrev S : Signature
     S = T .signature

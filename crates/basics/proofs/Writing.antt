@@ -1,4 +1,5 @@
--- Laws of writing: bytes behind bytes are written as one, the buffer keeps its length, and a buffer with enough room has the bytes in it.
+-- Laws of writing: bytes behind bytes are written as one, the buffer keeps its length, and a buffer with
+-- enough room has the bytes in it.
 use Prim.Native.Nat.{ℕ, suc, _+_, _≤_, _<_}
 use native.Mathlib.Nat.{zero-add}
 use native.Mathlib.Numerals.{add-one}
@@ -83,7 +84,8 @@ whole {before} {after} {xs} w h =
     let e = w .written ∙ placed before xs 0 (omega arith) in
     (ap (λ o. o .buffer) e ∙ rw zero-add, ap (λ o. o .filled) e ∙ omega arith)
 
--- What a loop that writes a whole piece by piece knows at each turn: some bytes are written, and with those that are left they are the whole.
+-- What a loop that writes a whole piece by piece knows at each turn: some bytes are written, and with those
+-- that are left they are the whole.
 pub record Pieces (before : List ℕ) (at : ℕ) (all left : List ℕ) (most : ℕ) (after : List ℕ) (r : ℕ) : Type 0 where
   pub done : List ℕ
   pub goes-on : done ++ left ≡ all

@@ -1,4 +1,5 @@
-// What the crates above share: transfers compared, places tested, quorums, the documents' codes and letters, bytes written into a lent buffer.
+// What the crates above share: transfers compared, places tested, quorums, the documents' codes and letters,
+// bytes written into a lent buffer.
 pub mod codes;
 pub mod output;
 pub mod quorums;

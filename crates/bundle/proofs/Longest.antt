@@ -1,5 +1,6 @@
--- A sound bundle has at most 18,123 bytes, 2 + 8 × 1,000 + 131 + 999 × 10: m is at most 1,000, entry 0 alone has a body of 131 bytes, every other
--- at most 10, and the bundle ends with its last body. So the first 18,124 bytes of an input, however long it is, have the check of the whole.
+-- A sound bundle has at most 18,123 bytes, 2 + 8 × 1,000 + 131 + 999 × 10: m is at most 1,000, entry 0 alone has a body
+-- of 131 bytes, every other at most 10, and the bundle ends with its last body. So the first 18,124 bytes of an input,
+-- however long it is, have the check of the whole.
 use Prim.Native.Nat.{ℕ, zero, suc, _+_, _*_, _≤_, _<_}
 use native.Mathlib.Decide.{decLe}
 use native.Mathlib.Omega.{arith}
@@ -92,7 +93,8 @@ count-right m e =
     let parts = neither (ltb m 1) (ltb 1_000 m) e in
     (ltb-false m 1 (parts .0), ltb-false 1_000 m (parts .1))
 
--- The check of a longer bundle goes by its count and its first wrong entry alone: with neither at fault, it does not end with its last body.
+-- The check of a longer bundle goes by its count and its first wrong entry alone: with neither at fault, it
+-- does not end with its last body.
 abbrev ofLong : Bool → Option ℕ → BundleReply
 ofLong true wrong = BundleRefused BadHeader 0
 ofLong false (some i) = BundleRefused BadContents i

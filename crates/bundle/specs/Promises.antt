@@ -45,13 +45,15 @@ readOf bytes i =
 abbrev pub valuesOfEntry : ContentsEntry → List ℕ
 valuesOfEntry c = c .kind ∷ c .seat ∷ c .start ∷ c .sum ∷ []
 
--- The reply's number and values, as `Replies` gives them of the other answers: 0, since a reading refuses nothing; how many pages are taken,
--- 1 or 0; the entry at which the reading goes on, or stays; and the values of a taken page's entry.
+-- The reply's number and values, as `Replies` gives them of the other answers: 0, since a reading refuses
+-- nothing; how many pages are taken, 1 or 0; the entry at which the reading goes on, or stays; and the
+-- values of a taken page's entry.
 abbrev pub valuesOfRead : Read → List ℕ
 valuesOfRead (Taken c at) = 0 ∷ 1 ∷ at .next ∷ valuesOfEntry c
 valuesOfRead (NoMore at) = 0 ∷ 0 ∷ at .next ∷ []
 
--- these of document 01's reading: below m entry i is taken and i + 1 is next; from there on none is, and the reading stays
+-- these of document 01's reading: below m entry i is taken and i + 1 is next; from there on
+-- none is, and the reading stays
 abbrev pub readValues : List ℕ → ℕ → List ℕ
 readValues bytes i =
     cond (ltb i (entryCount bytes)) (0 ∷ 1 ∷ (i + 1) ∷ valuesOfEntry (contentsAt bytes i)) (0 ∷ 0 ∷ i ∷ [])

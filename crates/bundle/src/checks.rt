@@ -57,7 +57,8 @@ pub fn is_wrong_entry(i: u16, start: u32, c: ContentsEntry) -> bool
     (c.start as u32) != start
 }
 
-// Goes through the contents with the place where each body starts: "the first at 2 + 8m, each next where the one before it ends".
+// Goes through the contents with the place where each body starts: "the first at 2 + 8m, each next
+// where the one before it ends".
 pub fn walk_contents(bytes: &[u8]) -> Walk
     ensures { λ r. ⌜ r ≡ walkOf (now (bytes .entry)) ⌝ }
 {

@@ -1,5 +1,5 @@
-// A bundle: its check, and its reading page by page, by a cursor. What a page holds is read by the crate `pages`; a reading that holds its
-// bundle is in the crate `reader`.
+// A bundle: its check, and its reading page by page, by a cursor. What a page holds is read by the crate `pages`; a
+// reading that holds its bundle is in the crate `reader`.
 use crate::checks::Walk;
 use crate::checks::first_wrong_sum;
 use crate::checks::is_bad_header;
@@ -26,8 +26,8 @@ pub enum Read {
     NoMore(Cursor),
 }
 
-// The check of a bundle: how many entries it has, or the refusal and the entry. Codes 13, 14, 15 and 16 in this order, the lowest
-// entry first.
+// The check of a bundle: how many entries it has, or the refusal and the entry. Codes 13, 14, 15 and 16 in this
+// order, the lowest entry first.
 pub fn check(bytes: &[u8]) -> BundleReply
     ensures { λ r. ⌜ CheckedAs (now (bytes .entry)) r ⌝ }
 {
@@ -47,7 +47,8 @@ pub fn check(bytes: &[u8]) -> BundleReply
     }
 }
 
-// "A reading of a bundle goes on from the page last taken. After the last page it replies that there are no more, and stays there."
+// "A reading of a bundle goes on from the page last taken. After the last page it replies that there
+// are no more, and stays there."
 pub fn read_next(bytes: &[u8], c: Cursor) -> Read
     ensures { λ r. ⌜ ReadAs (now (bytes .entry)) (c .next) r ⌝ }
 {

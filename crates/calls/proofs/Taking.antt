@@ -48,7 +48,8 @@ answered : (before : List ℕ) (m : Message) (r : Reply) (after : List ℕ) → 
 answered before m r after reply ledger kept =
     record { reply = reply; letter = ap letterOf reply; values = ap valuesOf reply; ledger = ledger; kept = kept }
 
--- A message that brings no late P, whose rules were tried: refused with the words as they were, or served by its effect.
+-- A message that brings no late P, whose rules were tried: refused with the words as they
+-- were, or served by its effect.
 module _ (ws : List ℕ) (m : Message) (in-time : lateIn (ledgerIn ws) m ≡ false) (q : Check) (q-is : q ≡ checkOf (firstRefusal (rulesIn (ledgerIn ws) m))) where
   pub refused : (r : Refusal) → q ≡ Failed r → Answered ws m (Refuse r) ws
   refused r found =

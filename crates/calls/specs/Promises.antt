@@ -18,8 +18,9 @@ use Rattle.layout.specs.Layout.{ledgerIn, entryIn}
 use Rattle.tally.specs.declared.Tally.{Tally}
 use Rattle.tally.specs.Results.{tallyOf}
 
--- A message: the reply, with its letter and its values, and the ledger after it. "A refusal replies its code and changes nothing": not one of the words.
--- "Each enum answer has a definition that gives this paper's number and values for each of its cases. The promises use that definition": `letter`, `values`.
+-- A message: the reply, with its letter and its values, and the ledger after it. "A refusal replies its code and
+-- changes nothing": not one of the words. "Each enum answer has a definition that gives this paper's number and values
+-- for each of its cases. The promises use that definition": `letter`, `values`.
 pub record Answered (before : List ℕ) (m : Message) (r : Reply) (after : List ℕ) : Type 0 where
   pub reply : r ≡ step (ledgerIn before) m .reply
   pub letter : letterOf r ≡ letterOf (step (ledgerIn before) m .reply)

@@ -59,8 +59,9 @@ pub fn acknowledge(words: &mut [u32], t: Transfer) -> Reply
     }
 }
 
-// A seat's ack of a transfer. Where it conflicts with the one that its account retains, the latest that was accepted, and nothing was proposed for that number
-// yet, the seat joins in and proposes the retained one, and the ack is not recorded (document 02, request 5). Else it is tried and recorded.
+// A seat's ack of a transfer. Where it conflicts with the one that its account retains, the latest that was accepted,
+// and nothing was proposed for that number yet, the seat joins in and proposes the retained one, and the ack is not
+// recorded (document 02, request 5). Else it is tried and recorded.
 pub fn receive_ack(words: &mut [u32], s: Seat, t: Transfer) -> Reply
     requires { ⌜ length (now words) ≡ bookWords ⌝ }
     ensures { λ r. ⌜ Answered (now (words .entry)) (Ack s t) r (now (words .exit)) ⌝ }
@@ -74,7 +75,8 @@ pub fn receive_ack(words: &mut [u32], s: Seat, t: Transfer) -> Reply
     }
 }
 
-// A seat's ack of a transfer, beside lines 35 to 37 of Algorithm 1 in document 000, with document 01's threshold in line 37.
+// A seat's ack of a transfer, beside lines 35 to 37 of Algorithm 1 in document 000, with
+// document 01's threshold in line 37.
 fn record_ack(words: &mut [u32], s: Seat, t: Transfer) -> Reply
     requires { ⌜ length (now words) ≡ bookWords ⌝ }
     ensures { λ r. ⌜ NotLate (now (words .entry)) s t r (now (words .exit)) ⌝ }

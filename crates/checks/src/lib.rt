@@ -153,8 +153,8 @@ pub fn ack_check(words: &[u32], s: Seat, t: Transfer) -> Check
     }
 }
 
-// The transfer that a late proposal carries, if an ack brings one: the retained one, where the ack passes 4 and 5, its transfer is another of that account and
-// number, and nothing was proposed for it.
+// The transfer that a late proposal carries, if an ack brings one: the retained one, where the ack passes 4 and 5, its
+// transfer is another of that account and number, and nothing was proposed for it.
 pub fn late_proposal(words: &[u32], s: Seat, t: Transfer) -> Slot
     requires { ⌜ length (now words) ≡ bookWords ⌝ }
     ensures { λ r. ⌜ r ≡ lateSlip (ledgerIn (now (words .entry))) (entryIn (now (words .entry)) (t .account)) s t ⌝ }

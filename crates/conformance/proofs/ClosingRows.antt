@@ -1,4 +1,5 @@
--- What the replies of a run at one seat and its closing rows tell of one another: the statement is `Accounted` in specs/Texts.antt.
+-- What the replies of a run at one seat and its closing rows tell of one another: the statement is
+-- `Accounted` in specs/Texts.antt.
 use Prim.Native.Nat.{ℕ, zero, suc, _+_, _≤_}
 use native.Mathlib.Omega.{arith}
 use mathlib.Core.Path.{_≡_, refl, ap, sym, _∙_}

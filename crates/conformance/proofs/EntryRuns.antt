@@ -40,7 +40,8 @@ module _ (bytes : List ℕ) (o : Opening) (s : Seat) where
   abbrev GoesOn : ℕ → ℕ → Run → Type 0
   GoesOn left i run = (xs : List Exchange) × AskedFrom bytes left i xs × Obeys o (runFrom s run xs)
 
-  -- Under the newest rules: after a message they are the seat's, if they were before it; and what it is replied, and leaves, is today's step.
+  -- Under the newest rules: after a message they are the seat's, if they were before it; and what it is
+  -- replied, and leaves, is today's step.
   abbrev Newest : Run → Type 0
   Newest run = rulesAt s run ≡ newest
 

@@ -83,8 +83,8 @@ wordsFor firstRules l = wordsOf heldBlockWords l
 wordsFor sinceRequest3 l = wordsOf heldBlockWords l
 wordsFor sinceRequest5 l = wordsOf blockWords l
 
--- A call that conforms is an operation on the words of its ledger, where those of both ledgers are these. A refusal leaves the ledger, and so
--- its words.
+-- A call that conforms is an operation on the words of its ledger, where those of both ledgers are these. A refusal
+-- leaves the ledger, and so its words.
 conforms-operated : (v : Rules) (l : Ledger) (c : Call) → ledgerUnder v (wordsFor v l) ≡ l
     → ledgerUnder (rulesAfter v c) (wordsFor (rulesAfter v c) (nextLedger v l c)) ≡ nextLedger v l c
     → Conforms v l c → Operated v (wordsFor v l) c (wordsFor (rulesAfter v c) (nextLedger v l c))

@@ -1,4 +1,5 @@
--- Every ledger that a run reaches can be told by its places: what stands in it passed the rules, so it has a value and a known recipient.
+-- Every ledger that a run reaches can be told by its places: what stands in it passed the rules, so it has
+-- a value and a known recipient.
 use Prim.Native.Nat.{_<_}
 use native.Mathlib.Omega.{arith}
 use mathlib.Core.Path.{_≡_, refl, ap, sym, _∙_}

@@ -1,5 +1,5 @@
--- A text is read in one way: the statement is `OneReading` in specs/Texts.antt. What is written can be read back, so what is written alike is
--- the same: numbers, then lines, then replies and rows.
+-- A text is read in one way: the statement is `OneReading` in specs/Texts.antt. What is written can be read back, so
+-- what is written alike is the same: numbers, then lines, then replies and rows.
 use Prim.Native.Nat.{ℕ, zero, suc, _+_, _*_, _-_, _/_, _%_, _<_, _≤_}
 use native.Mathlib.Omega.{arith}
 use mathlib.Core.Path.{_≡_, refl, ap, sym, _∙_}

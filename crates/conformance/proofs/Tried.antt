@@ -1,5 +1,5 @@
--- The links, tried. The runs that demand 3 is tried on are made by groups at work. Document 01's whole output is the text of a run, which
--- is written out here, and of every run of that bundle.
+-- The links, tried. The runs that demand 3 is tried on are made by groups at work. Document 01's whole output is the
+-- text of a run, which is written out here, and of every run of that bundle.
 use Prim.Native.Nat.{ℕ}
 use mathlib.Core.Path.{_≡_, refl, sym, _∙_}
 use mathlib.Core.List.{List, [], _∷_, _++_}
@@ -91,7 +91,8 @@ whole-tells s = rw (texts .0) at (every-text case 8 s (whole-sound .0) (whole-so
 pub only-text : (s : Seat) (xs : List Exchange) → RunOfBundle case s xs → textOfRun case s xs ≡ nineLines
 only-text s xs run = sym (every-run case 8 s xs (whole-sound .0) (whole-sound .1) run) ∙ texts .0
 
--- A balance is asked for before and after a booking: this run obeys, and has these rows, so that its replies and rows account for one another.
+-- A balance is asked for before and after a booking: this run obeys, and has these rows, so that its replies
+-- and rows account for one another.
 abbrev askedTwice : List Exchange
 askedTwice =
     Inquiry (accountOf 0) gets Balance 10
@@ -106,7 +107,8 @@ twice-obeys = (tt then refl then refl then refl, refl)
 pub twice-accounted : Accounted page (seatOf 0) askedTwice rows
 twice-accounted = rw (twice-obeys .1) at (accounted page (witness-keeps .0) (seatOf 0) askedTwice (twice-obeys .0))
 
--- What that says: two rows; the opening sum 13; one slip booked; the row of account 0; and its balance, each time as it was.
+-- What that says: two rows; the opening sum 13; one slip booked; the row of account 0; and
+-- its balance, each time as it was.
 pub accounted-says : Accounted page (seatOf 0) askedTwice rows
     → (2 is 2)
     × (13 is 13)

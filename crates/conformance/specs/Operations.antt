@@ -1,5 +1,6 @@
--- An operation that keeps its contract is a call of a run, at a seat under the newest rules. What a seat holds are words, and the ledger that they are is
--- the run's: under the rules before request 5 they are words of a book held from before, with its layout. The proofs are in proofs/Operations.antt.
+-- An operation that keeps its contract is a call of a run, at a seat under the newest rules. What a seat holds are
+-- words, and the ledger that they are is the run's: under the rules before request 5 they are words of a book held from
+-- before, with its layout. The proofs are in proofs/Operations.antt.
 use Prim.Native.Nat.{ℕ}
 use mathlib.Core.Path.{_≡_}
 use mathlib.Core.Bool.{Bool, true, false}
@@ -20,8 +21,8 @@ ledgerUnder firstRules words = heldIn words
 ledgerUnder sinceRequest3 words = heldIn words
 ledgerUnder sinceRequest5 words = ledgerIn words
 
--- A message as an operation answers it under a set of rules, on the words that it is lent: what these rules allow; the ledger after it; and a refusal leaves
--- each word.
+-- A message as an operation answers it under a set of rules, on the words that it is lent: what these rules allow; the
+-- ledger after it; and a refusal leaves each word.
 pub record Served (v : Rules) (words : List ℕ) (m : Message) (r : Reply) (next : List ℕ) : Type 0 where
   pub replied : MayReply v (ledgerUnder v words) m r
   pub ledger : ledgerUnder v next ≡ stepUnder v (ledgerUnder v words) m .next
@@ -31,8 +32,9 @@ pub record Served (v : Rules) (words : List ℕ) (m : Message) (r : Reply) (next
 abbrev pub ContractServes : Type 0
 ContractServes = (words : List ℕ) (m : Message) (r : Reply) (next : List ℕ) → Answered words m r next → Served newest words m r next
 
--- A call as an operation makes it: the words that it is lent, with what it was asked and replied, and the words after it. The waiting list is lent the words
--- to read: they stay. A seat that switches "goes on with the book it holds": with words of what its ledger becomes.
+-- A call as an operation makes it: the words that it is lent, with what it was asked and replied, and the words after
+-- it. The waiting list is lent the words to read: they stay. A seat that switches "goes on with the book it holds":
+-- with words of what its ledger becomes.
 abbrev pub Operated : Rules → List ℕ → Call → List ℕ → Type 0
 Operated v words (message m r) next = Served v words m r next
 Operated v words (waitingList before r after) next = MayList (ledgerUnder v words) before r after × (next ≡ words)
@@ -63,13 +65,15 @@ pub record OpenedUnder (v : Rules) (before : List ℕ) (o : Opening) (after : Li
 abbrev pub ContractOpens : Type 0
 ContractOpens = (before : List ℕ) (o : Opening) (after : List ℕ) → OpenedAs before o Opened after → OpenedUnder newest before o after
 
--- "each holds a book just opened from that page": what an opening left that was not refused, under the rules that the seat starts with, whatever a book's
--- words were before it. It is said of every seat; of one that makes no call nothing depends on what it holds.
+-- "each holds a book just opened from that page": what an opening left that was not refused, under the rules that the
+-- seat starts with, whatever a book's words were before it. It is said of every seat; of one that makes no call
+-- nothing depends on what it holds.
 abbrev pub OpenedAll : Opening → (Seat → Rules) → (Seat → List ℕ) → Type 0
 OpenedAll o from held = (s : Seat) → (before : List ℕ) × OpenedUnder (from s) before o (held s)
 
--- "Each call gets the book that the call before it at that seat left": an operation on the words that its seat holds, under the seat's rules; then the seat
--- holds the words after it. "nobody else writes to a book meanwhile": each other seat holds what it held.
+-- "Each call gets the book that the call before it at that seat left": an operation on the words that its seat holds,
+-- under the seat's rules; then the seat holds the words after it. "nobody else writes to a book meanwhile": each
+-- other seat holds what it held.
 pub record Called (v : Rules) (before : Seat → List ℕ) (e : Event) (after : Seat → List ℕ) : Type 0 where
   pub operated : Operated v (before (e .at)) (e .call) (after (e .at))
   pub others : (z : Seat) → sameSeat (e .at) z ≡ false → after z ≡ before z
@@ -87,7 +91,8 @@ pub record ObeysAndHolds (o : Opening) (held : Seat → List ℕ) (run : Run) : 
 abbrev pub WorksObeys : Type 0
 WorksObeys = (o : Opening) (held : Seat → List ℕ) (run : Run) → Works o held run → ObeysAndHolds o held run
 
--- And every run that obeys is one that such operations could make, on some words. Words are plain numbers here, also such as no 32 bits could hold.
+-- And every run that obeys is one that such operations could make, on some words. Words are plain numbers here, also
+-- such as no 32 bits could hold.
 abbrev pub ObeysWorks : Type 0
 ObeysWorks = (o : Opening) (run : Run) → Opens o → Obeys o run → (held : Seat → List ℕ) × Works o held run
 

@@ -1,4 +1,5 @@
--- The lines of a text that `daybook` writes are a run at one seat. The proofs are in proofs/Texts.antt and proofs/Reading.antt.
+-- The lines of a text that `daybook` writes are a run at one seat. The proofs are in
+-- proofs/Texts.antt and proofs/Reading.antt.
 use Prim.Native.Nat.{ℕ, zero, suc, _-_, _<_}
 use mathlib.Core.Path.{_≡_}
 use mathlib.Core.List.{List, [], _∷_, _++_, map}
@@ -24,7 +25,8 @@ pub record Exchange : Type 0 where
 abbrev pub eventOf : Seat → Exchange → Event
 eventOf s x = record { at = s; call = message (x .asked) (x .reply) }
 
--- the run that goes on with these exchanges at one seat, in their order; and the run of nothing else, with every seat under the newest rules from the start
+-- the run that goes on with these exchanges at one seat, in their order; and the run of nothing else, with every seat
+-- under the newest rules from the start
 abbrev pub runFrom : Seat → Run → List Exchange → Run
 runFrom s run [] = run
 runFrom s run (x ∷ xs) = runFrom s (run ▹ eventOf s x) xs
@@ -42,7 +44,8 @@ AskedFrom bytes zero i (x ∷ xs) = ⊥
 AskedFrom bytes (suc left) i [] = ⊥
 AskedFrom bytes (suc left) i (x ∷ xs) = (messageOf (pageAt bytes i) ≡ some (x .asked)) × AskedFrom bytes left (suc i) xs
 
--- A run of a bundle at seat s: each entry from 1 is one of its calls, and no other is; and it obeys, by the newest rules.
+-- A run of a bundle at seat s: each entry from 1 is one of its calls, and no other is; and
+-- it obeys, by the newest rules.
 pub record RunOfBundle (bytes : List ℕ) (s : Seat) (xs : List Exchange) : Type 0 where
   pub asked : AskedFrom bytes (entryCount bytes - 1) 1 xs
   pub obeys : Obeys (openingPage bytes) (runOf s xs)
@@ -60,7 +63,8 @@ lastRows o s xs = rowsOf (ledgerAt o s (runOf s xs))
 abbrev pub textOfRun : List ℕ → Seat → List Exchange → List ℕ
 textOfRun bytes s xs = replyLines 1 xs ++ rowLines 0 (lastRows (openingPage bytes) s xs)
 
--- A text is read in one way: replies and rows that have the same lines are the same, however many there are and whatever their numbers.
+-- A text is read in one way: replies and rows that have the same lines are the same, however many there
+-- are and whatever their numbers.
 abbrev pub OneReading : Type 0
 OneReading =
     (xs ys : List Exchange) (rows others : List Row)
@@ -71,7 +75,8 @@ OneReading =
 abbrev pub noRow : Row
 noRow = record { balance = 0; current = 0 }
 
--- What the replies of a run at one seat, and the rows of its last ledger, tell of one another and of the slate that is fed these calls.
+-- What the replies of a run at one seat, and the rows of its last ledger, tell of one another and of the
+-- slate that is fed these calls.
 pub record Accounted (o : Opening) (s : Seat) (xs : List Exchange) (rows : List Row) : Type 0 where
   -- there is a row for each of the k accounts
   pub row-each : length rows ≡ o .accounts
@@ -86,8 +91,8 @@ pub record Accounted (o : Opening) (s : Seat) (xs : List Exchange) (rows : List 
   pub told : (before after : List Exchange) (a : Account) (b : ℕ)
       → xs ≡ before ++ record { asked = Inquiry a; reply = Balance b } ∷ after → b ≡ slateAt o s (runOf s before) .balance a
 
--- What a text tells its reader: it is the text of a run of the bundle, of which all is true that is true of every run; and its replies and
--- rows, the only ones that have its lines (`OneReading`), account for one another.
+-- What a text tells its reader: it is the text of a run of the bundle, of which all is true that is true of every run;
+-- and its replies and rows, the only ones that have its lines (`OneReading`), account for one another.
 pub record TellsReader (bytes text : List ℕ) (s : Seat) : Type 0 where
   pub exchanges : List Exchange
   pub run : RunOfBundle bytes s exchanges

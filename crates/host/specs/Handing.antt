@@ -1,5 +1,6 @@
--- What a host hands over, a kind, a seat and a body, is met as a page of a bundle is. This is the one place that says what a wrong one gets: 14 for a kind that
--- cannot stand there (as a message 0 or above 5) and for a seat other than 0 where the kind has none, and then 15 for a body that is not as long as its kind's.
+-- What a host hands over, a kind, a seat and a body, is met as a page of a bundle is. This is the one place that says
+-- what a wrong one gets: 14 for a kind that cannot stand there (as a message 0 or above 5) and for a seat other than 0
+-- where the kind has none, and then 15 for a body that is not as long as its kind's.
 use Prim.Native.Nat.{ℕ}
 use mathlib.Core.Bool.{Bool, not}
 use mathlib.Core.List.{List, [], _∷_, _++_}
@@ -28,7 +29,8 @@ handedRules i p = (wrongPage i p, BadContents) ∷ (wrongBody p, BadEnd) ∷ []
 abbrev pub handedRefusal : Page → Option Refusal
 handedRefusal p = firstRefusal (handedRules 1 p)
 
--- What it is answered: that refusal, which changes nothing; else what its message is. (What stands for a page that is no message never shows.)
+-- What it is answered: that refusal, which changes nothing; else what its message is. (What stands for a page
+-- that is no message never shows.)
 abbrev pub answerBy : Option Refusal → Ledger → Message → Outcome
 answerBy none l m = step l m
 answerBy (some r) l m = record { reply = Refuse r; next = l }

@@ -16,7 +16,8 @@ use Rattle.layout.specs.Layout.{ledgerIn}
 use Rattle.ledger.specs.Promises.{codeIfAny}
 use Rattle.host.specs.Handing.{answer, openingRules}
 
--- An opening from a page's bytes: the code, 0 where there is none, and the ledger after it. "A refusal .. changes nothing": not one of the words.
+-- An opening from a page's bytes: the code, 0 where there is none, and the ledger after it. "A refusal .. changes
+-- nothing": not one of the words.
 pub record ToldOpening (before page : List ℕ) (r : ℕ) (after : List ℕ) : Type 0 where
   pub code : r ≡ codeIfAny (firstRefusal (openingRules page))
   pub ledger : ledgerIn after ≡ openLedgerBy (firstRefusal (openingRules page)) (freshLedger (openingOf page)) (ledgerIn before)
@@ -32,7 +33,8 @@ pub record AnsweredAs (before : List ℕ) (p : Page) (r : Reply) (after : List �
   pub ledger : ledgerIn after ≡ answer (ledgerIn before) p .next
   pub kept : (code : Refusal) → r ≡ Refuse code → after ≡ before
 
--- One message, of a kind, a seat and a body as a bundle has them: the words of the reply, and those of the book after it.
+-- One message, of a kind, a seat and a body as a bundle has them: the words of the reply,
+-- and those of the book after it.
 pub record ToldCall (before : List ℕ) (p : Page) (after replied : List ℕ) : Type 0 where
   pub told : replied ≡ replyWords (answer (ledgerIn before) p .reply)
   pub answered : AnsweredAs before p (answer (ledgerIn before) p .reply) after

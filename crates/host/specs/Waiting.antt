@@ -14,7 +14,8 @@ abbrev pub numberOf : ListReply → ℕ
 numberOf (Listed n) = n
 numberOf (ListRefused r) = 256 * codeOf r
 
--- A list of these accounts, given the refusal that it meets, if any: the number of its reply, and the buffer after it, given the buffer before it.
+-- A list of these accounts, given the refusal that it meets, if any: the number of its reply, and the buffer after
+-- it, given the buffer before it.
 pub record ToldList (q : Option Refusal) (accounts before : List ℕ) (r : ℕ) (after : List ℕ) : Type 0 where
   pub told : r ≡ numberOf (listReply q accounts)
   pub buffer : after ≡ listBuffer (listReply q accounts) accounts before

@@ -15,8 +15,8 @@ ghost use Rattle.basics.specs.Results.{checkOf};
 ghost use Rattle.host.specs.Handing.{handedRules};
 ghost use Rattle.host.specs.Messages.{AnsweredAs};
 
-// As entry i of a bundle: 14 for a kind that cannot stand there, or a seat other than 0 where the kind has none; 15 for a body that is not as long as its
-// kind's.
+// As entry i of a bundle: 14 for a kind that cannot stand there, or a seat other than 0 where the kind has none; 15 for
+// a body that is not as long as its kind's.
 pub fn check_handed(i: u16, kind: u8, seat: u8, body: &[u8]) -> Check
     ensures { λ r. ⌜ r ≡ checkOf (firstRefusal (handedRules i (record { kind = kind; seat = seat; body = now (body .entry) }))) ⌝ }
 {

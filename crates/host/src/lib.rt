@@ -1,6 +1,6 @@
-// What a host in Rust or C calls: the exported functions of the static library. Each takes any numbers and any bytes, and its
-// contract fixes the result by the documents' definitions. In C a slice is a pointer and a length, an array the pointer alone;
-// include/saplull.h states each of them for C.
+// What a host in Rust or C calls: the exported functions of the static library. Each takes any numbers and any bytes,
+// and its contract fixes the result by the documents' definitions. In C a slice is a pointer and a length, an array the
+// pointer alone; include/saplull.h states each of them for C.
 use crate::handing::answer;
 use crate::handing::check_handed;
 use basics::codes::code_of;
@@ -52,9 +52,10 @@ mod handing;
 // How many words a reply has: its letter, and the four values of the longest.
 pub const REPLY_WORDS: usize = 5;
 
-// A book is 1,380 words that the host lends and keeps: `ledger_open` opens it, `ledger_call` plays a message on it, `ledger_waiting` lists what
-// waits in it, `ledger_save` and `ledger_load` are for its disk. Words that are all 0 are a book that refuses every message. A book held from before
-// request 5 of document 02 is 1,252 words: `ledger_switch` takes it over.
+// A book is 1,380 words that the host lends and keeps: `ledger_open` opens it, `ledger_call` plays a message on it,
+// `ledger_waiting` lists what waits in it, `ledger_save` and `ledger_load` are for its disk. Words that are all 0
+// are a book that refuses every message. A book held from before request 5 of document 02 is 1,252 words:
+// `ledger_switch` takes it over.
 
 // How many words a book has.
 #[no_mangle]
@@ -64,8 +65,9 @@ pub extern "C" fn ledger_words() -> u32
     BOOK_WORDS as u32
 }
 
-// Opens the book from a page, a bundle's body of kind 0: n, f, k, 32 balances. Returns 0, and the book is the page's, whatever it was; or the code that
-// the page is refused by, 15 where it is not 131 bytes long, and each word is as it was.
+// Opens the book from a page, a bundle's body of kind 0: n, f, k, 32 balances. Returns 0, and the book is
+// the page's, whatever it was; or the code that the page is refused by, 15 where it is not 131 bytes
+// long, and each word is as it was.
 #[no_mangle]
 pub extern "C" fn ledger_open(words: &mut [u32; BOOK_WORDS], page: &[u8]) -> u8
     ensures { λ r. ⌜ ToldOpening (now (words .entry)) (now (page .entry)) r (now (words .exit)) ⌝ }
@@ -81,8 +83,8 @@ pub extern "C" fn ledger_open(words: &mut [u32; BOOK_WORDS], page: &[u8]) -> u8
     }
 }
 
-// Takes over a book held from before request 5: the book is what the held one becomes, whatever it was. The held one stays as it was; the two must not
-// overlap, as no lent buffers may.
+// Takes over a book held from before request 5: the book is what the held one becomes, whatever it was. The held one
+// stays as it was; the two must not overlap, as no lent buffers may.
 #[no_mangle]
 pub extern "C" fn ledger_switch(held: &[u32; HELD_WORDS], words: &mut [u32; BOOK_WORDS])
     ensures { λ _. ⌜ SwitchedAs (now (held .entry)) (now (words .exit)) ⌝ }
@@ -112,9 +114,10 @@ fn reply_words(r: Reply) -> [u32; REPLY_WORDS]
     }
 }
 
-// Plays one message on the book: kind, seat and body as a bundle has them. Writes the reply: the letter in ASCII, what it carries (K the count, P
-// account, number, value and recipient, B the balance, R the code), and zeros. R 14 where the kind is no message's, 0 or above 5, or where the seat is
-// not 0 and the kind has none; then R 15 where the body is not as long as its kind's. With every R each word of the book is as it was.
+// Plays one message on the book: kind, seat and body as a bundle has them. Writes the reply: the letter in ASCII, what
+// it carries (K the count, P account, number, value and recipient, B the balance, R the code), and zeros. R 14 where
+// the kind is no message's, 0 or above 5, or where the seat is not 0 and the kind has none; then R 15 where the body is
+// not as long as its kind's. With every R each word of the book is as it was.
 #[no_mangle]
 pub extern "C" fn ledger_call(
     words: &mut [u32; BOOK_WORDS],
@@ -138,8 +141,8 @@ fn number_of(reply: ListReply) -> u32
     }
 }
 
-// Writes the waiting list, the accounts at which a transfer waits in the book, lowest first, into the front of the list that is lent, 32 bytes
-// or more. Returns how many; or 256 times 17 where the list is shorter, and it is as it was.
+// Writes the waiting list, the accounts at which a transfer waits in the book, lowest first, into the front of the list
+// that is lent, 32 bytes or more. Returns how many; or 256 times 17 where the list is shorter, and it is as it was.
 #[no_mangle]
 pub extern "C" fn ledger_waiting(words: &[u32; BOOK_WORDS], list: &mut [u8]) -> u32
     ensures { λ r. ⌜ ToldList (listRefusal (now (list .entry))) (waitingAccounts (ledgerIn (now (words .entry)))) (now (list .entry)) r (now (list .exit)) ⌝ }
@@ -176,8 +179,9 @@ fn number_of_load(reply: LoadReply) -> u8
     }
 }
 
-// Loads a saved book. Returns 0, and the words are those that were saved, whatever they were; or, tried in this order, 101 for a wrong mark, 102 for a
-// format that is not known, 103 for a length that is not that format's, 104 for a wrong sum, and each word is as it was.
+// Loads a saved book. Returns 0, and the words are those that were saved, whatever they were; or, tried in this order,
+// 101 for a wrong mark, 102 for a format that is not known, 103 for a length that is not that format's, 104 for a wrong
+// sum, and each word is as it was.
 #[no_mangle]
 pub extern "C" fn ledger_load(words: &mut [u32; BOOK_WORDS], bytes: &[u8]) -> u8
     ensures { λ r. ⌜ ToldLoad (now (words .entry)) (now (bytes .entry)) r (now (words .exit)) ⌝ }
@@ -201,7 +205,8 @@ pub extern "C" fn ledger_is_enough(seats: u8, faults: u8, acks: u8) -> bool
     is_enough(seats, faults, acks)
 }
 
-// The text that `daybook` writes for these bytes, at the front of a buffer of 36,828 bytes, which every text fits; its length is returned.
+// The text that `daybook` writes for these bytes, at the front of a buffer of 36,828 bytes, which every
+// text fits; its length is returned.
 #[no_mangle]
 pub extern "C" fn daybook_text(bytes: &[u8], text: &mut [u8; TEXT_SIZE]) -> usize
     ensures { λ r. ⌜ Replayed (textOf (now (bytes .entry))) (now (text .entry)) (now (text .exit)) r ⌝ }
@@ -209,8 +214,8 @@ pub extern "C" fn daybook_text(bytes: &[u8], text: &mut [u8; TEXT_SIZE]) -> usiz
     replay(bytes, text)
 }
 
-// The waiting list of the ledger that a bundle leaves, lowest account first, in the front of the list that is lent: how many were written. Where it is
-// refused, 256 times the code: that of the bundle or of its opening, else 17.
+// The waiting list of the ledger that a bundle leaves, lowest account first, in the front of the list that is lent: how
+// many were written. Where it is refused, 256 times the code: that of the bundle or of its opening, else 17.
 #[no_mangle]
 pub extern "C" fn daybook_waiting(bytes: &[u8], list: &mut [u8]) -> u32
     ensures { λ r. ⌜ ToldList (refusalBehind (now (bytes .entry)) (now (list .entry))) (accountsBehind (now (bytes .entry))) (now (list .entry)) r (now (list .exit)) ⌝ }
@@ -235,7 +240,8 @@ fn number_of_check(reply: BundleReply) -> u32
     }
 }
 
-// The check of a bundle. Returns how many entries it has, 1 to 1,000; or 65,536 times the code, 13 to 16, and the entry.
+// The check of a bundle. Returns how many entries it has, 1 to 1,000; or 65,536 times the
+// code, 13 to 16, and the entry.
 #[no_mangle]
 pub extern "C" fn bundle_check(bytes: &[u8]) -> u32
     ensures { λ r. ⌜ r ≡ numberOfCheck (checkBundle (now (bytes .entry))) ⌝ }
@@ -264,11 +270,12 @@ fn number_of_write(reply: WriteReply) -> u32
     }
 }
 
-// Writes the bundle of an opening page and of messages into the front of the buffer that is lent; what stands behind it stays. A message is a record of
-// 12 bytes: kind, seat, and ten bytes of a body as a bundle has it (of a question's the account is read and no more). Returns the bundle's length, which
-// is below 65,536. Where it is refused, 65,536 times the code, and the entry, and the buffer is as it was: 18 for more than 999 whole records; 14 with
-// the entry of the lowest record (the first has entry 1) that has a kind of no message, or a seat where its kind has none; 15 where the last record is
-// not whole; 19 where the buffer is shorter than the bundle.
+// Writes the bundle of an opening page and of messages into the front of the buffer that is lent; what stands behind it
+// stays. A message is a record of 12 bytes: kind, seat, and ten bytes of a body as a bundle has it (of a question's the
+// account is read and no more). Returns the bundle's length, which is below 65,536. Where it is refused, 65,536 times
+// the code, and the entry, and the buffer is as it was: 18 for more than 999 whole records; 14 with the entry of the
+// lowest record (the first has entry 1) that has a kind of no message, or a seat where its kind has none; 15 where the
+// last record is not whole; 19 where the buffer is shorter than the bundle.
 #[no_mangle]
 pub extern "C" fn bundle_write(page: &[u8; PAGE_SIZE], records: &[u8], out: &mut [u8]) -> u32
     ensures { λ r. ⌜ ToldWriting (now (page .entry)) (now (records .entry)) (now (out .entry)) r (now (out .exit)) ⌝ }

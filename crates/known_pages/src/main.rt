@@ -1,5 +1,6 @@
-// Plays document 01's known pages, and those of document 02's requests 2, 3 and 5, on the compiled ledger and writes each reply as a line: the letter, then the values in two digits.
-// What it must write is the file `stdout` beside src/, taken from the documents.
+// Plays document 01's known pages, and those of document 02's requests 2, 3 and 5, on the compiled ledger and writes
+// each reply as a line: the letter, then the values in two digits. What it must write is the file `stdout` beside
+// src/, taken from the documents.
 use basics::codes::code_of;
 use basics::codes::letter_of;
 use layout::BOOK_WORDS;
@@ -139,7 +140,8 @@ fn split_four_one() {
     ack(&mut book, 5, t);
 }
 
-// "n 8, f 1, seven acks split 3, 3, 1", twice: by request 2 of document 02 P carries the slip of seats 0 to 2, be their acks the first or not.
+// "n 8, f 1, seven acks split 3, 3, 1", twice: by request 2 of document 02 P carries the slip of seats 0 to 2,
+// be their acks the first or not.
 fn split_three_three() {
     let t = transfer(0, 1, 4, 1);
     let u = transfer(0, 1, 5, 1);
@@ -162,7 +164,8 @@ fn split_three_three() {
     ack(&mut other, 6, transfer(0, 1, 4, 0));
 }
 
-// A home pays itself: its request and slip meet 20, after 5 and before 6, 7 and 11; acks of such a slip are taken, and it is booked.
+// A home pays itself: its request and slip meet 20, after 5 and before 6, 7 and 11; acks of such a
+// slip are taken, and it is booked.
 fn self_payment() {
     let t = transfer(0, 1, 4, 0);
     let mut book = [0u32; BOOK_WORDS];
@@ -182,8 +185,9 @@ fn self_payment() {
     question(&mut book, 0);
 }
 
-// A seat that has accepted t puts it forward when an ack of u comes, once: while it waits, in place of 8, and once it is booked, in place of 6. An equal ack, and a
-// ruling, bring nothing; nor does an ack of a number that was put forward while it waited.
+// A seat that has accepted t puts it forward when an ack of u comes, once: while it waits, in place of 8, and
+// once it is booked, in place of 6. An equal ack, and a ruling, bring nothing; nor does an ack of a number that
+// was put forward while it waited.
 fn late_proposal() {
     let t = transfer(0, 1, 4, 1);
     let u = transfer(0, 1, 5, 1);
@@ -203,7 +207,8 @@ fn late_proposal() {
     ack(&mut book, 1, u);
 }
 
-// "Balances 10 and 5, just opened: a first slip from account 0 of 10 gives A; one of 11 in its place gives 11; one of 16 gives 5."
+// "Balances 10 and 5, just opened: a first slip from account 0 of 10 gives A; one of 11 in its
+// place gives 11; one of 16 gives 5."
 fn funds() {
     let mut book = [0u32; BOOK_WORDS];
     opening(&mut book, 6, 1, 10, 5);

@@ -1,4 +1,5 @@
--- What is retained has no part in settling: whatever is retained, the same slips are booked, and the same entries are left but for that.
+-- What is retained has no part in settling: whatever is retained, the same slips are booked, and the same
+-- entries are left but for that.
 use Prim.Native.Nat.{ℕ, zero, suc, _+_}
 use mathlib.Core.Path.{_≡_, refl, ap, sym, _∙_}
 use mathlib.Core.List.{List, [], _∷_, map}

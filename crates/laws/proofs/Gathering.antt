@@ -1,4 +1,5 @@
--- The seats that are gathered for a slip: exactly those whose ack equals it, each once, lowest first, and no other list is.
+-- The seats that are gathered for a slip: exactly those whose ack equals it, each once,
+-- lowest first, and no other list is.
 use Prim.Native.Nat.{ℕ, _<_}
 use native.Mathlib.Omega.{arith}
 use mathlib.Core.Path.{_≡_, refl, ap}

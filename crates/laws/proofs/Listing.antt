@@ -1,4 +1,5 @@
--- The waiting list: its accounts are exactly those with a waiting slip, each once, lowest first, and no other list is; and what a list of any accounts keeps.
+-- The waiting list: its accounts are exactly those with a waiting slip, each once, lowest first, and no other list is;
+-- and what a list of any accounts keeps.
 use Prim.Native.Nat.{ℕ, _<_}
 use native.Mathlib.Decide.{decLt}
 use native.Mathlib.Nat.{zero-add}

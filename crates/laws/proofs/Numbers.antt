@@ -1,5 +1,5 @@
--- Numbers of so many bytes: written and read back, and read and written out, each one law over the width; and so for numbers of 4 bytes, one behind
--- another. A sum is a number of 4 bytes.
+-- Numbers of so many bytes: written and read back, and read and written out, each one law over the width; and so for
+-- numbers of 4 bytes, one behind another. A sum is a number of 4 bytes.
 use Prim.Native.Nat.{ℕ, zero, suc, _+_, _*_, _/_, _%_, _≤_, _<_}
 use native.Mathlib.Numerals.{add-one}
 use native.Mathlib.Omega.{arith}

@@ -1,5 +1,6 @@
--- Laws of the slip that is put forward (`mostAcked`): it has the most acks; of the slips that have it is the first by its lowest acknowledging seat,
--- and no other is; where nothing is recorded it is the slip of zeros; and it is told by the recorded acks, seat by seat, alone.
+-- Laws of the slip that is put forward (`mostAcked`): it has the most acks; of the slips that have it is the first by
+-- its lowest acknowledging seat, and no other is; where nothing is recorded it is the slip of zeros; and it is told by
+-- the recorded acks, seat by seat, alone.
 use Prim.Native.Nat.{ℕ, zero, suc, _≤_, _<_}
 use native.Mathlib.Decide.{decLe}
 use native.Mathlib.Omega.{arith}

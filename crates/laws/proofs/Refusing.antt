@@ -1,5 +1,5 @@
--- A refusal changes nothing, for every ledger and every call; and a call is refused exactly by the first rule that holds. Of messages, under every set of
--- rules at once; and today's step is the step under the newest.
+-- A refusal changes nothing, for every ledger and every call; and a call is refused exactly by the first rule that
+-- holds. Of messages, under every set of rules at once; and today's step is the step under the newest.
 use Prim.Native.Nat.{_+_}
 use native.Mathlib.Omega.{arith}
 use borrow.Author.Tests.{leb-false, ltb-false}
@@ -173,7 +173,8 @@ open-refused o r h l = go (firstRefusal (openRules o)) h
     go none h = impossible (cc)
     go (some q) h = refl
 
--- the ledger with no seats and no accounts, which words that are all 0 are, refuses every message: acks with 4, all others with 5
+-- the ledger with no seats and no accounts, which words that are all 0 are, refuses every message:
+-- acks with 4, all others with 5
 pub no-ledger-refuses : (m : Message) → (r : Refusal) × (step noLedger m ≡ refusal r noLedger)
 no-ledger-refuses m = (first m .0, sym (newest-step noLedger m) ∙ refuses newest noLedger m (first m .0) (first m .1) (first m .2))
   where

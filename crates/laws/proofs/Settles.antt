@@ -82,8 +82,8 @@ pub settle-some : (es : List Entry) (a : Account) → lowestAffordable es ≡ so
 unfolding settle settleAtMost
 settle-some es a e = rw (apply-waiting es a (lowest-affordable es a e .affords-it), e, settleAtMost)
 
--- To show P of what settling makes of any entries, show it where nothing is affordable, and where the lowest affordable account is
--- booked, from what settling makes of the rest.
+-- To show P of what settling makes of any entries, show it where nothing is affordable, and where the lowest affordable
+-- account is booked, from what settling makes of the rest.
 module _
     (P : List Entry → Settled → Type 0)
     (stop : (es : List Entry) → lowestAffordable es ≡ none → P es (record { applied = 0; entries = es }))
@@ -208,7 +208,8 @@ settle-entry b =
               late-same = done .late-same ∙ ap (λ (e : Entry). e .retainedProposed) first;
             })
 
--- what holds of each account's entry, and stays where the balance changes and where a slip is booked, holds of each after settling
+-- what holds of each account's entry, and stays where the balance changes and where a slip is
+-- booked, holds of each after settling
 pub settle-each : (I : Account → Entry → Type 0)
     → ((a : Account) (e e′ : Entry) → SameButBalance e e′ → I a e → I a e′)
     → ((a : Account) (e e′ : Entry) (t : Transfer) → e .pending ≡ Full t → Cleared t e e′ → I a e → I a e′)

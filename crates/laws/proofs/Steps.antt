@@ -1,5 +1,5 @@
--- What a call does, as one case per outcome with its evidence, for every set of rules, ledger and message. Proofs about runs use `happens` and the
--- laws after it in place of the definitions' text.
+-- What a call does, as one case per outcome with its evidence, for every set of rules, ledger and message. Proofs about
+-- runs use `happens` and the laws after it in place of the definitions' text.
 use Prim.Native.Nat.{ℕ, _+_, _<_}
 use native.Mathlib.Omega.{arith}
 use mathlib.Core.Path.{_≡_, refl, ap, sym, subst, _∙_}
@@ -51,7 +51,8 @@ eligible l t range next idle =
     let known = accounts-known l t range in
     record { in-range = range; account-known = known .0; recipient-known = known .1; is-next = next; not-waiting = idle }
 
--- an ack that 4, 9 and 10 do not refuse: its seat is one of the n, and the place of its ack holds no slip that is equal or conflicts
+-- an ack that 4, 9 and 10 do not refuse: its seat is one of the n, and the place of its ack holds no
+-- slip that is equal or conflicts
 pub record Recordable (l : Ledger) (s : Seat) (t : Transfer) : Type 0 where
   pub seat-known : s .0 < l .seats
   pub not-equal : holds t (ackFrom (entryOf l (t .account)) s) ≡ false
@@ -82,7 +83,8 @@ retained-or sinceRequest5 e t u h = inr (cc)
 abbrev pub waitingUnder : Rules → Entry → Transfer → Entry
 waitingUnder v e t = withPending (retainUnder v e t) t
 
--- What a late P rests on: an ack of slip t from seat s passes 4 and 5, its account retains u, a slip that conflicts with t, and nothing was put forward for it.
+-- What a late P rests on: an ack of slip t from seat s passes 4 and 5, its account retains u, a slip that conflicts
+-- with t, and nothing was put forward for it.
 pub record Joining (l : Ledger) (s : Seat) (t u : Transfer) : Type 0 where
   pub seat-known : s .0 < l .seats
   pub in-range : outOfRange l t ≡ false

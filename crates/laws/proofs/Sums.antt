@@ -121,7 +121,8 @@ every-weaken p q (x ∷ xs) h e =
     let parts = both (p x) (every p xs) e in
     rw (h x (parts .0)) (every-weaken p q xs h (parts .1))
 
--- What a search that found j says: j passes the test, is one of the `left` numbers from i on, and is the lowest that passes.
+-- What a search that found j says: j passes the test, is one of the `left` numbers from i on,
+-- and is the lowest that passes.
 pub record Found (p : ℕ → Bool) (left i j : ℕ) : Type 0 where
   pub passes : p j ≡ true
   pub above : i ≤ j

@@ -1,5 +1,5 @@
--- The sets of rules: that the first are document 01's; what acks and rulings meet, which does not differ between them; and what a switch does to a ledger:
--- nothing but what is retained changes.
+-- The sets of rules: that the first are document 01's; what acks and rulings meet, which does not differ between them;
+-- and what a switch does to a ledger: nothing but what is retained changes.
 use mathlib.Core.Path.{_≡_, refl}
 use mathlib.Core.Logic.{_⊎_, inl, inr}
 use mathlib.Core.List.{[], _∷_, _++_, map}

@@ -1,4 +1,5 @@
--- Laws of the layout: an account's entry is read off its block; and of stores in one account's block, what they make of the ledger.
+-- Laws of the layout: an account's entry is read off its block; and of stores in one account's
+-- block, what they make of the ledger.
 use Prim.Native.Nat.{ℕ, zero, suc, _+_, _*_, _≤_, _<_}
 use native.Mathlib.Nat.{add-zero, zero-add}
 use native.Mathlib.Decide.{ℕ-discrete, decLt}

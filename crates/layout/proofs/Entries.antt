@@ -85,7 +85,8 @@ pub acks-length : (ws : List ℕ) (a : Account) → a .0 < 32 → length (entryO
 unfolding entryBy
 acks-length ws a h = ap (λ e. length (e .acks)) (entry-in ws a h) ∙ table-length (ackIn (a .0) (block ws (a .0))) 16 0
 
--- a slip that stands in a place is of the block's account, has the place's number and a value, and its recipient's number is a byte
+-- a slip that stands in a place is of the block's account, has the place's number and a value, and
+-- its recipient's number is a byte
 pub slot-of-next : (a value number recipient : ℕ) (u : Transfer) → slotBy a value number recipient ≡ Full u
     → (u .account ≡ accountOf a) × (u .number ≡ number) × (0 < u .value) × (u .recipient .0 < 256)
 slot-of-next a value number recipient u = go (eqb value 0) refl

@@ -23,9 +23,10 @@ zeros = refl
 pub zeros-refuse : (m : Message) → (r : Refusal) × (step (ledgerIn (replicate bookWords 0)) m ≡ refusal r (ledgerIn (replicate bookWords 0)))
 zeros-refuse m = rw zeros (no-ledger-refuses m)
 
--- Account 0 was acked, has the ack of seat 15, and retains a slip, of any number, for which one was put forward; for account 1 a slip was put
--- forward, and one waits; account 31 has a balance. A number or a recipient where the value is 0 means nothing, and a mark is any word but 0. What is
--- retained stands at the end of each block, so it is left out in a book held from before.
+-- Account 0 was acked, has the ack of seat 15, and retains a slip, of any number, for which one was put forward; for
+-- account 1 a slip was put forward, and one waits; account 31 has a balance. A number or a recipient where the value
+-- is 0 means nothing, and a mark is any word but 0. What is retained stands at the end of each block, so it is left
+-- out in a book held from before.
 abbrev bookWith : List ℕ → List ℕ → ℕ → ℕ → ℕ → ℕ → List ℕ
 bookWith first second width n f k =
     7 ∷ 2 ∷ 1 ∷ 0 ∷ 0 ∷ 6 ∷ 8 ∷ set (replicate 16 0) 15 5 ++ set (replicate 16 0) 15 1 ++ first
@@ -100,7 +101,8 @@ held-entries :
 unfolding noAcks entryBy entriesIn ledgerIn heldEntriesIn heldIn
 held-entries = (refl, refl, refl)
 
--- and what it becomes at the switch: account 0, at which nothing waits, retains nothing; account 1 retains what waits, with its mark
+-- and what it becomes at the switch: account 0, at which nothing waits, retains nothing; account 1
+-- retains what waits, with its mark
 taken-over :
     (entryOf (switched sinceRequest3 (held 6 1 2)) (accountOf 0) .retained ≡ Empty)
     × (entryOf (switched sinceRequest3 (held 6 1 2)) (accountOf 1) .retained ≡ slipOf 1 5 12 31)

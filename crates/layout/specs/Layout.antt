@@ -1,6 +1,7 @@
--- The book as words: the ledger that they are, for every content of them. Words that are all 0 are a ledger with no seats and no accounts,
--- which refuses every message. What a place tells is not stored again: an ack stands in its account's block, and its number is that
--- account's next; a slip that was taken never has value 0, so a value of 0 is an empty place.
+-- The book as words: the ledger that they are, for every content of them. Words that are all 0 are a ledger
+-- with no seats and no accounts, which refuses every message. What a place tells is not stored again: an ack
+-- stands in its account's block, and its number is that account's next; a slip that was taken never has
+-- value 0, so a value of 0 is an empty place.
 use Prim.Native.Nat.{ℕ, zero, suc, _+_, _*_, _%_}
 use mathlib.Core.Bool.{Bool, not, cond}
 use mathlib.Core.List.{List, [], _∷_}
@@ -96,7 +97,8 @@ heldBlock ws a = blockOf heldBlockWords ws a
 abbrev pub mark : ℕ → Bool
 mark word = not (eqb word 0)
 
--- a place with the words of a slip's value, number and recipient, in the block of the account that pays. An account's number is a byte
+-- a place with the words of a slip's value, number and recipient, in the block of the account that
+-- pays. An account's number is a byte
 abbrev pub slotBy : ℕ → ℕ → ℕ → ℕ → Slot
 slotBy a value number recipient =
     cond (eqb value 0) Empty (Full (record { account = accountOf a; number = number; value = value; recipient = accountOf (recipient % 256) }))

@@ -1,5 +1,5 @@
--- The words of a ledger: for every ledger whose stored slips are as their places tell, words that are this ledger. The proof is in
--- proofs/Words.antt.
+-- The words of a ledger: for every ledger whose stored slips are as their places tell, words that are this ledger. The
+-- proof is in proofs/Words.antt.
 use Prim.Native.Nat.{ℕ, _+_, _-_, _*_, _/_, _%_, _≤_, _<_}
 use mathlib.Core.Path.{_≡_}
 use mathlib.Core.Bool.{cond}
@@ -30,8 +30,8 @@ abbrev pub recipientWord : Slot → ℕ
 recipientWord Empty = 0
 recipientWord (Full t) = t .recipient .0
 
--- the words of an account's block: those before the acks, in the order of their places; then the values of the 16 seats' acks, and their recipients; then
--- those of what is retained
+-- the words of an account's block: those before the acks, in the order of their places; then the values of the 16
+-- seats' acks, and their recipients; then those of what is retained
 abbrev pub firstWords : Entry → List ℕ
 firstWords e =
     e .balance

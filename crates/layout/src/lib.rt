@@ -1,5 +1,5 @@
-// The book (document 01) as plain words, in memory that the caller lends: where each thing stands. What the words mean is said in
-// specs/Layout.antt, for every content; only the crate `store` reads and writes them.
+// The book (document 01) as plain words, in memory that the caller lends: where each thing stands. What the words mean
+// is said in specs/Layout.antt, for every content; only the crate `store` reads and writes them.
 
 // Each of the 32 accounts has a block of words; the group's words stand behind the last block.
 pub const BLOCK: usize = 43;
@@ -21,7 +21,8 @@ pub const PENDING_RECIPIENT: usize = 6;
 pub const ACK_VALUES: usize = 7;
 
 pub const ACK_RECIPIENTS: usize = 23;
-// and the retained transfer, the latest that was accepted; where its value is 0, none is; and the mark: a transfer was proposed for its number.
+// and the retained transfer, the latest that was accepted; where its value is 0, none is; and the mark: a
+// transfer was proposed for its number.
 pub const RETAINED_VALUE: usize = 39;
 
 pub const RETAINED_NUMBER: usize = 40;
@@ -39,7 +40,8 @@ pub const ACCOUNTS: usize = SEATS + 2;
 pub const TOTAL: usize = SEATS + 3;
 // How many words a book has: 1,380.
 pub const BOOK_WORDS: usize = SEATS + 4;
-// A book held from before request 5 of document 02: its blocks end before the retained transfer, and it has 1,252 words.
+// A book held from before request 5 of document 02: its blocks end before the retained
+// transfer, and it has 1,252 words.
 pub const HELD_BLOCK: usize = RETAINED_VALUE;
 
 pub const HELD_SEATS: usize = 32 * HELD_BLOCK;

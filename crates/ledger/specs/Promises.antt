@@ -1,7 +1,7 @@
--- What the opening, the switch and the waiting list promise, by the documents' definitions in the model, of the ledger that the words are: for every content of the words
--- and every argument the reply, the ledger after it and each lent buffer. What a message promises is `Answered`, of crate calls.
--- "Each enum answer has a definition that gives this paper's number and values for each of its cases. The promises use that
--- definition": the fields `told`.
+-- What the opening, the switch and the waiting list promise, by the documents' definitions in the model, of the ledger
+-- that the words are: for every content of the words and every argument the reply, the ledger after it and each lent
+-- buffer. What a message promises is `Answered`, of crate calls. "Each enum answer has a definition that gives this
+-- paper's number and values for each of its cases. The promises use that definition": the fields `told`.
 use Prim.Native.Nat.{ℕ}
 use mathlib.Core.Path.{_≡_}
 use mathlib.Core.List.{List, [], _∷_}
@@ -40,7 +40,8 @@ abbrev pub listValues : Option Refusal → ℕ → List ℕ
 listValues none count = 0 ∷ count ∷ []
 listValues (some r) count = codeOf r ∷ []
 
--- A list of these accounts: the reply, given the refusal that it meets, if any, and the buffer after it, given the buffer before it.
+-- A list of these accounts: the reply, given the refusal that it meets, if any, and the buffer after
+-- it, given the buffer before it.
 pub record ListedBy (q : Option Refusal) (accounts before : List ℕ) (r : ListReply) (after : List ℕ) : Type 0 where
   pub lists : ListsBy q accounts before r after
   pub told : valuesOfList r ≡ listValues q (length accounts)

@@ -1,6 +1,6 @@
-// The ledger's operations, on a book that the caller lends: the opening, the switch, the five kinds of message, and the waiting list. Each is total: it takes any
-// words and any value of its types, and its contract says what it replies and leaves, by the documents' definitions. What a function promises is a
-// record of specs/Promises.antt.
+// The ledger's operations, on a book that the caller lends: the opening, the switch, the five kinds of message, and the
+// waiting list. Each is total: it takes any words and any value of its types, and its contract says what it replies and
+// leaves, by the documents' definitions. What a function promises is a record of specs/Promises.antt.
 use calls::messages;
 use layout::BOOK_WORDS;
 use layout::HELD_WORDS;
@@ -26,7 +26,8 @@ pub fn open(words: &mut [u32; BOOK_WORDS], page: Opening) -> OpenReply
     open_page(words, page)
 }
 
-// The switch of a book held from before request 5 of document 02: the words are the ledger that the held one becomes, whatever they were.
+// The switch of a book held from before request 5 of document 02: the words are the ledger that the held
+// one becomes, whatever they were.
 pub fn switch(held: &[u32; HELD_WORDS], words: &mut [u32; BOOK_WORDS])
     ensures { λ _. ⌜ SwitchedAs (now (held .entry)) (now (words .exit)) ⌝ }
 {
@@ -81,7 +82,8 @@ pub fn inquire(words: &[u32; BOOK_WORDS], a: Account) -> Reply
     messages::inquire(words, a)
 }
 
-// The waiting list: the accounts at which a transfer waits, lowest first, into the front of the buffer. The words stay the same.
+// The waiting list: the accounts at which a transfer waits, lowest first, into the front of the
+// buffer. The words stay the same.
 pub fn list_waiting(words: &[u32; BOOK_WORDS], buffer: &mut [u8]) -> ListReply
     ensures { λ r. ⌜ ListedAs (ledgerIn (now (words .entry))) (now (buffer .entry)) r (now (buffer .exit)) ⌝ }
 {

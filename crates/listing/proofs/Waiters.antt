@@ -1,4 +1,5 @@
--- What the loop over the accounts knows of the buffer: in front are those before `i` at which a slip waits, and at the end all of them.
+-- What the loop over the accounts knows of the buffer: in front are those before `i` at which a slip
+-- waits, and at the end all of them.
 use Prim.Native.Nat.{ℕ, suc, _+_, _≤_, _<_}
 use native.Mathlib.Nat.{zero-add}
 use native.Mathlib.Numerals.{add-one}

@@ -1,5 +1,5 @@
--- Document 01, "Known pages": its facts as the rows of one table, with document 02's cases beside them, and one theorem, computed, that all of them hold
--- of the definitions.
+-- Document 01, "Known pages": its facts as the rows of one table, with document 02's cases beside them, and one
+-- theorem, computed, that all of them hold of the definitions.
 use Prim.Native.Nat.{ℕ, zero, suc}
 use mathlib.Core.Bool.{true, false}
 use mathlib.Core.List.{List, [], _∷_, _++_}
@@ -63,9 +63,10 @@ marked =
     ∷ sums (replicate 7 255) 1_928_985_951
     ∷ []
 
--- Document 02, request 2: which slip is put forward. The case split 3, 3, 1; the same split, but the lower seats' acks come last; the ack at hand is of
--- the lowest seat. Then the acks alone, from seat 0 on: a tie of three slips and of four, the lowest seat's slip not being among the most acked; more acks
--- than a lower seat's slip has; places that are empty; and no acks.
+-- Document 02, request 2: which slip is put forward. The case split 3, 3, 1; the same split, but the lower seats'
+-- acks come last; the ack at hand is of the lowest seat. Then the acks alone, from seat 0 on: a tie of three slips
+-- and of four, the lowest seat's slip not being among the most acked; more acks than a lower seat's slip has;
+-- places that are empty; and no acks.
 pub tied : List Row
 tied =
     runs 8 1 (10 ∷ 3 ∷ [])
@@ -86,9 +87,10 @@ tied =
     ∷ putsForward (replicate 16 Empty) (slip 0 0 0 0)
     ∷ []
 
--- Document 02, request 3: a home pays itself. Requests and slips meet 20, after 5 and before 6, 7, 8, 12 and 11: a later number, none yet; no value; a value
--- above the balance, and above the opening sum; a recipient that there is not; a number that was acked, one that was booked, and one that waits. Acks and
--- rulings for such slips meet what all others meet, are put forward, and are booked: the balance stays, and the current number rises.
+-- Document 02, request 3: a home pays itself. Requests and slips meet 20, after 5 and before 6, 7, 8, 12 and 11: a
+-- later number, none yet; no value; a value above the balance, and above the opening sum; a recipient that there is
+-- not; a number that was acked, one that was booked, and one that waits. Acks and rulings for such slips meet what all
+-- others meet, are put forward, and are booked: the balance stays, and the current number rises.
 pub selfPaid : List Row
 selfPaid =
     runs 6 1 (10 ∷ 5 ∷ [])
@@ -111,9 +113,9 @@ selfPaid =
     (11 ∷ 4 ∷ [])
     ∷ []
 
--- The same under the first rules: requests and slips meet 5 6 7 8 11 and 5 6 7 8 12 11, whoever is the recipient. Then the seat switches, and goes on with
--- the ledger that it holds: a slip that it acked meets 20, another of that number 12, and the acks that it recorded count. Under the newest rules a switch
--- changes nothing.
+-- The same under the first rules: requests and slips meet 5 6 7 8 11 and 5 6 7 8 12 11, whoever is the recipient. Then
+-- the seat switches, and goes on with the ledger that it holds: a slip that it acked meets 20, another of that
+-- number 12, and the acks that it recorded count. Under the newest rules a switch changes nothing.
 pub switching : List Row
 switching =
     runsAcross firstRules 6 1 (10 ∷ 5 ∷ [])
@@ -132,10 +134,12 @@ switching =
     (10 ∷ 5 ∷ [])
     ∷ []
 
--- Document 02, request 5: a seat that has accepted joins in. With one seat, which accepts alone; behind 4 and 5, before 6, by an ack alone and once; before 8,
--- and used up when the slip is booked; used up by a P before the acceptance, of a number that is booked and of one that waits; the mark of the retained number
--- is not that of the next; a number below the retained one, which is booked or waits; used up by a P also where acks accepted; an ack that was recorded before the acceptance and comes again, never 9 or 10, also where acks
--- accepted; and that nothing but the mark changes: neither this seat's mark, nor the next number's, nor its acks, of which the late one is none.
+-- Document 02, request 5: a seat that has accepted joins in. With one seat, which accepts alone; behind 4 and 5,
+-- before 6, by an ack alone and once; before 8, and used up when the slip is booked; used up by a P before the
+-- acceptance, of a number that is booked and of one that waits; the mark of the retained number is not that of the
+-- next; a number below the retained one, which is booked or waits; used up by a P also where acks accepted; an ack that
+-- was recorded before the acceptance and comes again, never 9 or 10, also where acks accepted; and that nothing but the
+-- mark changes: neither this seat's mark, nor the next number's, nor its acks, of which the late one is none.
 pub late : List Row
 late =
     runs 1 0 (10 ∷ 3 ∷ []) (ackBy 0 t gives K 1 ∷ ackBy 0 t gives R 6 ∷ ackBy 0 u gives P t ∷ ackBy 0 u gives R 6 ∷ ackBy 0 w gives R 6 ∷ []) (6 ∷ 7 ∷ [])
@@ -179,9 +183,10 @@ late =
     (6 ∷ 7 ∷ [])
     ∷ []
 
--- The same across a switch. Under the rules since request 3, and under the first, an accepted number puts nothing forward. A seat that goes on retains what
--- waits: account 2's slip with nothing put forward, so P; account 3's with a P before its acceptance, so 8; and not account 0's, which is booked. What it
--- accepts from then on is retained. Under the newest rules a switch drops nothing.
+-- The same across a switch. Under the rules since request 3, and under the first, an accepted number puts nothing
+-- forward. A seat that goes on retains what waits: account 2's slip with nothing put forward, so P; account 3's with a
+-- P before its acceptance, so 8; and not account 0's, which is booked. What it accepts from then on is retained. Under
+-- the newest rules a switch drops nothing.
 pub takenOver : List Row
 takenOver =
     runsAcross sinceRequest3 6 1 (10 ∷ 3 ∷ 0 ∷ 0 ∷ [])
@@ -197,8 +202,9 @@ takenOver =
     ∷ runsAcross sinceRequest5 6 1 (10 ∷ 3 ∷ []) (Decision t gives K 1 ∷ []) (ackBy 0 u gives P t ∷ ackBy 0 u gives R 6 ∷ []) (6 ∷ 7 ∷ [])
     ∷ []
 
--- Document 02, request 4: which seats are gathered for a slip. The case split 3, 3, 1, each of its slips; a slip that nobody acked, and one that differs in
--- its number alone; places that are empty, seat 0's and seat 15's among them; every seat; and no acks.
+-- Document 02, request 4: which seats are gathered for a slip. The case split 3, 3, 1, each of its slips; a slip
+-- that nobody acked, and one that differs in its number alone; places that are empty, seat 0's and seat 15's among
+-- them; every seat; and no acks.
 pub gathering : List Row
 gathering =
     gathers (Full t ∷ Full t ∷ Full t ∷ Full u ∷ Full u ∷ Full u ∷ Full w ∷ []) t (0 ∷ 1 ∷ 2 ∷ [])
@@ -213,7 +219,8 @@ gathering =
     ∷ []
 
 -- Further cases, in document 01's order: daybook's whole output; a seat's second ack;
--- the mark cleared at booking; only the accepted slip put forward once one is accepted; 12 before 11; each code, and 5 to 8 under each kind of call.
+-- the mark cleared at booking; only the accepted slip put forward once one is accepted; 12 before 11; each code,
+-- and 5 to 8 under each kind of call.
 pub further : List Row
 further =
     runs 6 1 (10 ∷ 3 ∷ [])
@@ -258,8 +265,8 @@ abbrev from : ℕ → ℕ → List ℕ
 from zero i = []
 from (suc left) i = i ∷ from left (suc i)
 
--- Document 02, request 6: the waiting list. Nothing waits; accounts that come to wait highest first; one that waited and is booked;
--- every account; a buffer longer than 32 bytes; and one that is too short, where something waits.
+-- Document 02, request 6: the waiting list. Nothing waits; accounts that come to wait highest first; one that waited
+-- and is booked; every account; a buffer longer than 32 bytes; and one that is too short, where something waits.
 pub waitingLists : List Row
 waitingLists =
     lists (10 ∷ []) [] (replicate 32 9) (0 ∷ 0 ∷ []) (replicate 32 9)
@@ -277,7 +284,8 @@ waitingLists =
 abbrev body : List ℕ
 body = 0 ∷ 1 ∷ 0 ∷ 0 ∷ 0 ∷ 4 ∷ 0 ∷ 0 ∷ 0 ∷ 1 ∷ []
 
--- A bundle of two pages: an opening page of zeros, and an ack of t from seat 4, its contents entry with this start and sum.
+-- A bundle of two pages: an opening page of zeros, and an ack of t from seat 4, its contents
+-- entry with this start and sum.
 abbrev twoPages : List ℕ → List ℕ → List ℕ
 twoPages start sum =
     (2 ∷ 0 ∷ [])
@@ -299,7 +307,8 @@ wrongSum = replicate 4 0
 abbrev sound : List ℕ
 sound = twoPages rightStart rightSum
 
--- A bundle with a page of each kind: the slips are t, the question is for account 1. Six entries, so the bodies start at 50.
+-- A bundle with a page of each kind: the slips are t, the question is for account 1. Six
+-- entries, so the bodies start at 50.
 abbrev allKinds : List ℕ
 allKinds =
     (6 ∷ 0 ∷ [])
@@ -320,8 +329,8 @@ allKinds =
 abbrev onePage : List ℕ
 onePage = (1 ∷ 0 ∷ 0 ∷ 0 ∷ 10 ∷ 0 ∷ 0 ∷ 0 ∷ 0 ∷ 0 ∷ []) ++ replicate 131 0
 
--- Sound bundles, a message of each kind, an opening page, and a reading to the end; then for each code bundles that it refuses, one
--- of them with the later codes at fault too, so that their order shows.
+-- Sound bundles, a message of each kind, an opening page, and a reading to the end; then for each code bundles that it
+-- refuses, one of them with the later codes at fault too, so that their order shows.
 pub format : List Row
 format =
     checks sound (0 ∷ 2 ∷ [])
@@ -354,8 +363,8 @@ format =
     ∷ counts 1_001 true
     ∷ []
 
--- Document 02, request 1: the same bundles written; a page that an opening refuses, an ack of a seat that there is not, numbers of several bytes;
--- what the writer replies at its limits, 18 before 19; and what it leaves in a buffer.
+-- Document 02, request 1: the same bundles written; a page that an opening refuses, an ack of a seat that there is not,
+-- numbers of several bytes; what the writer replies at its limits, 18 before 19; and what it leaves in a buffer.
 pub writing : List Row
 writing =
     writes emptyPage [] onePage

@@ -75,13 +75,15 @@ pub data Row : Type 0 where
   opens : Opening → List ℕ → Row
   -- n, f, balances; the messages with their answers; the balances at the end
   runs : ℕ → ℕ → List ℕ → List Asked → List ℕ → Row
-  -- the same under a set of rules, and then, on the ledger that is held after a switch from these to the next, under those
+  -- the same under a set of rules, and then, on the ledger that is held after a switch from
+  -- these to the next, under those
   runsAcross : Rules → ℕ → ℕ → List ℕ → List Asked → List Asked → List ℕ → Row
   -- each seat's ack, seat by seat from 0, and the slip that is put forward
   putsForward : List Slot → Transfer → Row
   -- each seat's ack, seat by seat from 0, a slip, and the seats that are gathered for it
   gathers : List Slot → Transfer → List ℕ → Row
-  -- balances; the messages with their answers; then a waiting list: the buffer, the values of its answer, and the buffer after it
+  -- balances; the messages with their answers; then a waiting list: the buffer, the values of its
+  -- answer, and the buffer after it
   lists : List ℕ → List Asked → List ℕ → List ℕ → List ℕ → Row
   -- bytes and their sum
   sums : List ℕ → ℕ → Row

@@ -1,4 +1,5 @@
--- What no answer of the known pages shows, computed: which acks conflict, what an opening leaves, what is retained; and what two statements say at single places.
+-- What no answer of the known pages shows, computed: which acks conflict, what an opening leaves, what is retained; and
+-- what two statements say at single places.
 use Prim.Native.Nat.{ℕ, _<_}
 use mathlib.Core.Path.{_≡_, refl}
 use mathlib.Core.Bool.{Bool, true, false}

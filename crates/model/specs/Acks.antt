@@ -1,5 +1,5 @@
--- Document 01, "Ack": the running tally of one number, read off the acks that are recorded for it; and document 02, request 2: the slip that is put
--- forward.
+-- Document 01, "Ack": the running tally of one number, read off the acks that are recorded for it; and document 02,
+-- request 2: the slip that is put forward.
 use Prim.Native.Nat.{ℕ, _+_, _*_, _-_}
 use mathlib.Core.Bool.{Bool, true, false, not, _&&_}
 use mathlib.Core.List.{List}
@@ -50,8 +50,8 @@ conflictsWithAny acks (Full t) = any (λ a. conflicts t (a .slot)) acks
 abbrev pub twoConflict : List AckSlot → Bool
 twoConflict acks = any (λ a. conflictsWithAny acks (a .slot)) acks
 
--- "if at least n - f seats' acks are recorded, two of them conflict, and nothing was put forward for this number". How many are recorded is handed in, as the
--- count is to `enough`: the tally has both
+-- "if at least n - f seats' acks are recorded, two of them conflict, and nothing was put forward for this number". How
+-- many are recorded is handed in, as the count is to `enough`: the tally has both
 abbrev pub mustPropose : ℕ → ℕ → ℕ → Entry → Bool
 mustPropose n f recorded e = leb (n - f) recorded && twoConflict (e .acks) && not (e .proposed)
 
@@ -79,7 +79,7 @@ abbrev pub slipOf : List AckSlot → Option ℕ → Transfer
 slipOf acks none = slipIn Empty
 slipOf acks (some s) = slipIn (ackAt acks s)
 
--- "Among the slips with the most acks the one put forward is now the first by its lowest acknowledging seat": going through the seats from 0, the slip
--- of the first whose slip has the most acks
+-- "Among the slips with the most acks the one put forward is now the first by its lowest acknowledging seat": going
+-- through the seats from 0, the slip of the first whose slip has the most acks
 unfoldable pub mostAcked : List AckSlot → Transfer
 mostAcked acks = slipOf acks (firstWhere (λ s. holdsMost acks (ackAt acks s)) (length acks) 0)

@@ -92,8 +92,8 @@ wrongEntry i start c =
     ltb 5 (c .kind) || misplaced i (c .kind) || (not (eqb (c .kind) 3) && not (eqb (c .seat) 0))
     || not (eqb (c .start) start)
 
--- 14, of a page by itself: as entry i its entry would be wrong, wherever its body starts. So kind 0 behind entry 0, another kind there, a kind above 5,
--- or a seat where the kind has none.
+-- 14, of a page by itself: as entry i its entry would be wrong, wherever its body starts. So kind 0 behind entry 0,
+-- another kind there, a kind above 5, or a seat where the kind has none.
 abbrev pub wrongPage : ℕ → Page → Bool
 wrongPage i p = wrongEntry i 0 (record { kind = p .kind; seat = p .seat; start = 0; sum = 0 })
 
@@ -150,7 +150,8 @@ pub data Reading : Type 0 where
   taken : Page → ℕ → Reading
   noMore : ℕ → Reading
 
--- "A reading of a bundle goes on from the page last taken. After the last page it replies that there are no more, and stays there."
+-- "A reading of a bundle goes on from the page last taken. After the last page it replies that there
+-- are no more, and stays there."
 abbrev pub readNext : List ℕ → ℕ → Reading
 readNext bytes i = cond (ltb i (entryCount bytes)) (taken (pageAt bytes i) (i + 1)) (noMore i)
 

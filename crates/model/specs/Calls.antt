@@ -1,6 +1,7 @@
--- Document 01, "What each message does": for each kind of call the reply and the ledger after it; and document 02, request 5: the late P. A message is
--- about one account. What it comes to is said of that account's entry (`turnBy`), which is then stored; and where its slip is accepted, settling begins
--- (`finished`). `step` is by today's rules; how earlier rules differ is in Switches.antt.
+-- Document 01, "What each message does": for each kind of call the reply and the ledger after it; and document 02,
+-- request 5: the late P. A message is about one account. What it comes to is said of that account's entry (`turnBy`),
+-- which is then stored; and where its slip is accepted, settling begins (`finished`). `step` is by today's rules; how
+-- earlier rules differ is in Switches.antt.
 use Prim.Native.Nat.{ℕ}
 use mathlib.Core.Path.{_≡_}
 use mathlib.Core.Bool.{Bool, false, cond, not, _&&_, _||_}
@@ -36,13 +37,14 @@ pub record Effect : Type 0 where
 abbrev pub replies : Reply → Entry → Effect
 replies r e = record { due = replied r; entry = e }
 
--- "its slip is accepted: reply K": "An accepted slip waits". And "The book retains for each account the latest accepted slip, waiting or booked, and whether
--- anything was put forward for its number": in place of what it retained before
+-- "its slip is accepted: reply K": "An accepted slip waits". And "The book retains for each account the latest accepted
+-- slip, waiting or booked, and whether anything was put forward for its number": in place of what it retained before
 abbrev pub waits : Entry → Transfer → Effect
 waits e t = record { due = accepts; entry = withPending (withRetained e t) t }
 
--- "If twice the count of acks equal to this slip exceeds n + 3f, the slip is accepted: reply K. Otherwise, if .. reply P ..
--- Otherwise reply N": what follows from the account's entry in which the ack is recorded. P carries the most acked slip
+-- "If twice the count of acks equal to this slip exceeds n + 3f, the slip is accepted: reply K.
+-- Otherwise, if .. reply P .. Otherwise reply N": what follows from the account's entry in which the ack
+-- is recorded. P carries the most acked slip
 abbrev pub tallied : Ledger → Entry → Transfer → Effect
 tallied l e t =
     cond
@@ -71,8 +73,8 @@ abbrev pub unlessRefused : Option Refusal → Entry → Effect → Effect
 unlessRefused none e x = x
 unlessRefused (some r) e x = replies (Refuse r) e
 
--- "If an ack that passes 4 and 5 carries that account and number and a different slip, and nothing was put forward": of the slip that the account's entry
--- retains. No other message does this
+-- "If an ack that passes 4 and 5 carries that account and number and a different slip, and nothing was put forward": of
+-- the slip that the account's entry retains. No other message does this
 abbrev pub mustJoin : Ledger → Entry → Message → Bool
 mustJoin l e (Request t) = false
 mustJoin l e (Circulated t) = false
@@ -80,11 +82,13 @@ mustJoin l e (Ack s t) = not (unknownSeat l s || outOfRange l t) && (conflicts t
 mustJoin l e (Decision t) = false
 mustJoin l e (Inquiry a) = false
 
--- "the reply is P with the retained slip and not 6 or 8. The ack is not recorded." The mark is set: "It happens at most once for a number"
+-- "the reply is P with the retained slip and not 6 or 8. The ack is not recorded." The mark is set: "It
+-- happens at most once for a number"
 abbrev pub joins : Entry → Effect
 joins e = replies (Propose (slipIn (e .retained))) (withRetainedProposed e)
 
--- Any message at the entry of its account: whether the seat joins in by a late P, and else by the rules that the message meets.
+-- Any message at the entry of its account: whether the seat joins in by a late P, and else by
+-- the rules that the message meets.
 abbrev pub turnBy : Bool → List Rule → Ledger → Entry → Message → Effect
 turnBy late rules l e m = cond late (joins e) (unlessRefused (firstRefusal rules) e (effect l e m))
 
@@ -137,7 +141,8 @@ abbrev pub listBuffer : ListReply → List ℕ → List ℕ → List ℕ
 listBuffer (Listed n) accounts before = accounts ++ drop n before
 listBuffer (ListRefused r) accounts before = before
 
--- What a list of these accounts replies, given the refusal that it meets, if any, and leaves in a buffer that held this before. The ledger stays the same.
+-- What a list of these accounts replies, given the refusal that it meets, if any, and leaves in a buffer that held this
+-- before. The ledger stays the same.
 pub record ListsBy (q : Option Refusal) (accounts before : List ℕ) (r : ListReply) (after : List ℕ) : Type 0 where
   pub reply : r ≡ listReply q accounts
   pub buffer : after ≡ listBuffer r accounts before

@@ -1,4 +1,5 @@
--- Document 02, request 4: the seats whose number is compared, {p ∈ Π | acks[t.sender][p] = t} in line 37 of Algorithm 1 in document 000.
+-- Document 02, request 4: the seats whose number is compared, {p ∈ Π | acks[t.sender][p] = t} in line 37
+-- of Algorithm 1 in document 000.
 use Prim.Native.Nat.{ℕ}
 use mathlib.Core.Path.{_≡_}
 use mathlib.Core.Bool.{Bool}

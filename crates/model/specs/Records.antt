@@ -1,5 +1,5 @@
--- The ledger and an account's entry: how they are made, read and changed. In the model no other file builds one of the two
--- records; words are read as such in crate layout.
+-- The ledger and an account's entry: how they are made, read and changed. In the model no other file builds one of the
+-- two records; words are read as such in crate layout.
 use Prim.Native.Nat.{ℕ}
 use mathlib.Core.Path.{_≡_}
 use mathlib.Core.Bool.{Bool, true, false}

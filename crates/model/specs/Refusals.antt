@@ -1,5 +1,5 @@
--- Document 01, "Refusal codes": the tests, and for each kind of call their order. "Codes rise, save that 12 comes before 11." And document 02, request 3:
--- "20 for such a request or slip, after 5 and before 6."
+-- Document 01, "Refusal codes": the tests, and for each kind of call their order. "Codes rise, save that 12 comes
+-- before 11." And document 02, request 3: "20 for such a request or slip, after 5 and before 6."
 use Prim.Native.Nat.{ℕ, _+_}
 use mathlib.Core.Bool.{Bool, false, cond, _||_}
 use mathlib.Core.List.{List, [], _∷_, _++_}

@@ -1,6 +1,7 @@
--- Document 02, request 3 and later: seats "switch on different days". The sets of rules in the order of time; what a held ledger becomes at a switch; and
--- the step under earlier rules, told by how it differs from today's. A request that changes the rules adds a set, and says here what those before it lack;
--- which reply was left free by earlier rules is said where runs are (`freeSlip`, in Runs.antt of runs).
+-- Document 02, request 3 and later: seats "switch on different days". The sets of rules in the order of time; what a
+-- held ledger becomes at a switch; and the step under earlier rules, told by how it differs from today's. A request
+-- that changes the rules adds a set, and says here what those before it lack; which reply was left free by earlier
+-- rules is said where runs are (`freeSlip`, in Runs.antt of runs).
 use Prim.Native.Nat.{ℕ}
 use mathlib.Core.Bool.{Bool, false, cond}
 use mathlib.Core.List.{List, [], _∷_, map}
@@ -40,12 +41,14 @@ abbrev pub retainsFrom : Slot → Entry → Entry
 retainsFrom Empty e = withNoneRetained e
 retainsFrom (Full t) e = withRetained e t
 
--- "A book held from before retains its waiting slips with their marks, and no booked ones": what an account's entry becomes
+-- "A book held from before retains its waiting slips with their marks, and no booked ones":
+-- what an account's entry becomes
 abbrev pub retainsWaiting : Entry → Entry
 retainsWaiting e = retainsFrom (e .pending) e
 
--- What the ledger becomes that a seat holds when it switches from these rules to the next: "At this and every later switch a seat goes on with the book it
--- holds, marks included". To request 5 it takes over what it retains from now on.
+-- What the ledger becomes that a seat holds when it switches from these rules to the next: "At this
+-- and every later switch a seat goes on with the book it holds, marks included". To request 5 it takes
+-- over what it retains from now on.
 abbrev pub switched : Rules → Ledger → Ledger
 switched firstRules l = l
 switched sinceRequest3 l = withEntries l (map retainsWaiting (l .entries))
@@ -56,8 +59,8 @@ abbrev pub withoutCode : ℕ → List Rule → List Rule
 withoutCode code [] = []
 withoutCode code (r ∷ rs) = cond (eqb (codeOf (r .1)) code) (withoutCode code rs) (r ∷ withoutCode code rs)
 
--- What a message meets under a set of rules, given what it meets today. Under the first rules, 20 is left out: "Requests and slips whose recipient is the
--- payer were accepted so far".
+-- What a message meets under a set of rules, given what it meets today. Under the first rules, 20 is left out:
+-- "Requests and slips whose recipient is the payer were accepted so far".
 abbrev pub rulesUnder : Rules → List Rule → List Rule
 rulesUnder firstRules rules = withoutCode 20 rules
 rulesUnder sinceRequest3 rules = rules
@@ -80,7 +83,8 @@ lateMet v l m = lateUnder v (lateIn l m)
 abbrev pub retainsAs : Entry → Effect → Effect
 retainsAs e x = record { due = x .due; entry = withRetainedOf (x .entry) e }
 
--- What a message comes to under a set of rules, given the entry before it and what it comes to today: before request 5 nothing new is retained.
+-- What a message comes to under a set of rules, given the entry before it and what it comes to today: before
+-- request 5 nothing new is retained.
 abbrev pub effectUnder : Rules → Entry → Effect → Effect
 effectUnder firstRules e x = retainsAs e x
 effectUnder sinceRequest3 e x = retainsAs e x

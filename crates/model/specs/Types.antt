@@ -1,5 +1,5 @@
--- The types of src/ with their constructors, by one name each; then the types of the ledger, which are definitions: no code holds them, since
--- the ledger lies as words, see crate layout.
+-- The types of src/ with their constructors, by one name each; then the types of the ledger, which are definitions: no
+-- code holds them, since the ledger lies as words, see crate layout.
 use Prim.Native.Nat.{ℕ}
 use mathlib.Core.Bool.{Bool}
 use mathlib.Core.List.{List}

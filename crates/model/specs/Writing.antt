@@ -1,4 +1,5 @@
--- Document 02, request 1: the bundle that a writer makes of an opening page and a list of messages, and what the writer replies.
+-- Document 02, request 1: the bundle that a writer makes of an opening page and a list of
+-- messages, and what the writer replies.
 use Prim.Native.Nat.{ℕ, zero, suc, _+_, _*_, _/_, _%_, _<_}
 use mathlib.Core.List.{List, [], _∷_, _++_, map}
 use lib.Dec.{ltb}
@@ -26,7 +27,8 @@ abbrev pub transferBytes : Transfer → List ℕ
 transferBytes t =
     (t .account .0 ∷ []) ++ numberBytes 4 (t .number) ++ numberBytes 4 (t .value) ++ (t .recipient .0 ∷ [])
 
--- "Kinds 1 to 4 are request, slip, ack, ruling". "Kind 5 is a balance question: account." "each with its seat if it is an ack"
+-- "Kinds 1 to 4 are request, slip, ack, ruling". "Kind 5 is a balance question: account." "each
+-- with its seat if it is an ack"
 abbrev pub messagePage : Message → Page
 messagePage (Request t) = record { kind = 1; seat = 0; body = transferBytes t }
 messagePage (Circulated t) = record { kind = 2; seat = 0; body = transferBytes t }

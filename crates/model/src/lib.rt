@@ -1,5 +1,5 @@
-// The types of the credit ledger's calls and of its bundles. What they mean is said in specs/, and what a ledger is too: no code holds one.
-// A comment names document 01's word where ours is another.
+// The types of the credit ledger's calls and of its bundles. What they mean is said in specs/, and what a ledger is
+// too: no code holds one. A comment names document 01's word where ours is another.
 
 // A seat's number, from 0. A type of its own, so that it never stands where an account's number is wanted.
 pub struct Seat(pub u8);

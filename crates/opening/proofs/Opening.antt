@@ -1,4 +1,5 @@
--- What the functions of an opening share: the typing of its 32 balances, and what an opening promises where it is refused and where it is not.
+-- What the functions of an opening share: the typing of its 32 balances, and what an opening promises where it
+-- is refused and where it is not.
 use Prim.Native.Nat.{ℕ, _*_, _≤_}
 use native.Mathlib.Omega.{arith}
 use mathlib.Core.Path.{_≡_, refl, sym, _∙_}

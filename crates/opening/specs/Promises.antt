@@ -20,7 +20,8 @@ pub record FreshLedger (page : Opening) (total : ℕ) (after : List ℕ) : Type 
   pub fresh : page .seats ≤ 16 → page .faults ≤ 16 → page .accounts ≤ 32 → total ≡ sumOf (λ b. b) (page .balances)
       → ledgerIn after ≡ freshLedger page
 
--- An opening: the reply, and the ledger after it. "A refusal replies its code and changes nothing": not one of the words.
+-- An opening: the reply, and the ledger after it. "A refusal replies its code and changes
+-- nothing": not one of the words.
 pub record Opens (before : List ℕ) (page : Opening) (r : OpenReply) (after : List ℕ) : Type 0 where
   pub reply : r ≡ openReply page
   pub ledger : ledgerIn after ≡ openLedger page (ledgerIn before)

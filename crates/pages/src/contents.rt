@@ -37,8 +37,8 @@ pub fn contents_at(bytes: &[u8], i: u16) -> ContentsEntry
     }
 }
 
-// "What a page shows is that body's own bytes in the bundle": a part of the caller's slice. Where the slice ends before the body
-// does, what is there of it.
+// "What a page shows is that body's own bytes in the bundle": a part of the caller's slice. Where the slice ends before
+// the body does, what is there of it.
 pub fn body<'a>(bytes: &'a [u8], c: ContentsEntry) -> &'a [u8]
     ensures { λ r. ⌜ now r ≡ pageOf (now (bytes .entry)) c .body ⌝ }
 {

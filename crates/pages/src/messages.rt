@@ -55,7 +55,8 @@ pub fn transfer_of(body: &[u8]) -> Transfer
     }
 }
 
-// The message that a body holds, by its kind. Kind 0 is the opening page and no message, nor is a kind above 5. The seat is an ack's alone.
+// The message that a body holds, by its kind. Kind 0 is the opening page and no message, nor is a kind
+// above 5. The seat is an ack's alone.
 pub fn message_from(kind: u8, seat: u8, body: &[u8]) -> Asked
     ensures { λ r. ⌜ asks r ≡ messageOf (record { kind = kind; seat = seat; body = now (body .entry) }) ⌝ }
 {

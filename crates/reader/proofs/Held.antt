@@ -1,4 +1,5 @@
--- A reading that holds its bundle, as the walks over it need it: its type and laws at a lifetime, and what it owns taken apart.
+-- A reading that holds its bundle, as the walks over it need it: its type and laws at a
+-- lifetime, and what it owns taken apart.
 use mathlib.Core.Path.{_≡_}
 use mathlib.Core.List.{[], _∷_}
 use lib.ListN.{length}

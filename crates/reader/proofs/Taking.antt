@@ -1,5 +1,5 @@
--- A local reading is lent to `take`: what a function that holds one in a local has before and after the call. The loan's lifetime is
--- made for the call, within the bundle's.
+-- A local reading is lent to `take`: what a function that holds one in a local has before and after the call. The
+-- loan's lifetime is made for the call, within the bundle's.
 use mathlib.Core.Path.{_≡_, refl}
 use Prim.Native.Nat.{ℕ}
 use mathlib.Core.List.{List, [], _∷_}
@@ -76,7 +76,8 @@ module _ {M : Type 1} (𝓤 : URA M) (H : Heap 𝓤) (A : Atoms 𝓤) (W : Given
       -- [what the reply owns; the tokens; the last value; the lender's part; the rest of a's token; Γ]
       move t (1 ∷ []) $ use1 W (‵ (flft (a ∷ κ) ql) ⊛ ‵ (flft κ qr) ⊛ ‵ ftrue) (id⊢ 𝓤 _) $ split t $ move t (1 ∷ []) $ split t $ move t (2 ∷ []) $
       use1 W (‵ (flft (a ∷ []) ql) ⊛ ‵ (flft κ ql)) (W .lfts .lft-unmeet (a ∷ []) κ ql) $ split t $ move t (1 ∷ 2 ∷ []) $ use2 W (‵ (flft κ q)) (W .lfts .lft-join κ q) $
-      -- [κ's token; the loan's of a; true; what the reply owns; the last value; the lender's part; the rest of a's token; Γ]
+      -- [κ's token; the loan's of a; true; what the reply owns; the last value; the lender's
+      -- part; the rest of a's token; Γ]
       move t (1 ∷ 6 ∷ []) $ use2 W (‵ (flft (a ∷ []) fullShare)) (apply∗ 𝓤 (A .lft (a ∷ []) ql) (A .lft (a ∷ []) fullShare)) $ lft-end t tt $
       use1 W (‵ (fdead (a ∷ κ))) (W .lfts .dead-incl (a ∷ κ) (a ∷ []) (meet-⊑-left (a ∷ []) κ)) $ move t (4 ∷ []) $ fsplit t $ move t (2 ∷ 6 ∷ 0 ∷ []) $
       regains (D (α₁ κ)) (L (α₁ κ)) t tt (T′.mir erased) refl (ws .0) l (λ is′.

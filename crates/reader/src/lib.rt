@@ -1,5 +1,5 @@
-// A reading of a bundle that holds the bundle: few thin functions over the cursor's. A struct that holds a reference has its proofs
-// by hand, so other crates read by `read_page` and `opening_body`, which take plain parameters.
+// A reading of a bundle that holds the bundle: few thin functions over the cursor's. A struct that holds a reference
+// has its proofs by hand, so other crates read by `read_page` and `opening_body`, which take plain parameters.
 use bundle::Cursor;
 use bundle::Read;
 use bundle::read_next;
@@ -35,14 +35,16 @@ fn body_before<'a>(bundle: &'a [u8], next: u16) -> &'a [u8]
     body(bundle, contents_at(bundle, next - 1))
 }
 
-// A reading that has taken no page yet. It reads a bundle that `check` found sound; of other bytes it reads what is there.
+// A reading that has taken no page yet. It reads a bundle that `check` found sound; of
+// other bytes it reads what is there.
 pub fn start<'a>(bundle: &'a [u8]) -> Reader<'a>
     ensures { λ r. ⌜ (r .bundle ≡ bundle .entry) × (r .next ≡ 0) ⌝ }
 {
     Reader { bundle, next: 0 }
 }
 
-// "A reading of a bundle goes on from the page last taken. After the last page it replies that there are no more, and stays there."
+// "A reading of a bundle goes on from the page last taken. After the last page it replies that there
+// are no more, and stays there."
 pub fn take<'r, 'a>(r: &'r mut Reader<'a>) -> Read
     ensures { λ p. ⌜ ReadAs (now (now (r .entry) .bundle)) (now (r .entry) .next) p × (now (r .exit) ≡ goneOn (now (r .entry)) p) ⌝ }
 {

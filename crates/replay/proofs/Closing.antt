@@ -1,5 +1,5 @@
--- What the loop over the accounts knows at each turn: the lines that are written, followed by those of the accounts that are left, are
--- all closing lines.
+-- What the loop over the accounts knows at each turn: the lines that are written, followed by those of the accounts
+-- that are left, are all closing lines.
 use Prim.Native.Nat.{ℕ, suc, _+_, _*_, _-_, _≤_, _<_}
 use native.Mathlib.Nat.{sub-zero}
 use native.Mathlib.Numerals.{add-one}

@@ -1,4 +1,5 @@
--- As much of an input as the longest bundle has, and one byte more, gives the text of the whole: a longer bundle is refused, and by its front.
+-- As much of an input as the longest bundle has, and one byte more, gives the text of the whole: a longer
+-- bundle is refused, and by its front.
 use Prim.Native.Nat.{ℕ, _<_}
 use mathlib.Core.Path.{_≡_, refl, ap, sym, _∙_}
 use mathlib.Core.List.{List}

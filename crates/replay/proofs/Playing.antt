@@ -1,5 +1,5 @@
--- What the loop over the entries knows at each turn: the lines that are written, followed by those of the entries that are left, are the lines of all of
--- them.
+-- What the loop over the entries knows at each turn: the lines that are written, followed by those of the entries that
+-- are left, are the lines of all of them.
 use Prim.Native.Nat.{ℕ, suc, _+_, _*_, _-_, _≤_, _<_}
 use native.Mathlib.Numerals.{add-one}
 use native.Mathlib.Omega.{arith}

@@ -60,7 +60,8 @@ funds =
 pub zeros : List ℕ
 zeros = (1 ∷ 0 ∷ 0 ∷ 0 ∷ 10 ∷ 0 ∷ 0 ∷ 0 ∷ 0 ∷ 0 ∷ []) ++ replicate 131 0
 
--- Each bundle's text, computed: the whole output; refused messages; a refused opening; a changed byte of the first case's slip; no bytes.
+-- Each bundle's text, computed: the whole output; refused messages; a refused opening; a changed byte of
+-- the first case's slip; no bytes.
 pub texts : (textOf case ≡ nineLines)
     × (textOf funds ≡ bytesOf "1 R 5\n2 R 11\n3 A\n= 0 10 0\n= 1 5 0\n")
     × (textOf zeros ≡ bytesOf "F 1 0\n")

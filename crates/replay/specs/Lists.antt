@@ -16,7 +16,8 @@ use Rattle.model.specs.Calls.{waitingAccounts}
 use Rattle.ledger.specs.Promises.{ListedBy}
 use Rattle.replay.specs.Text.{ledgerFrom, openingPage, opened}
 
--- the accounts at which a slip waits once the bundle's entries are played on this ledger; and on the one that its page opens
+-- the accounts at which a slip waits once the bundle's entries are played on this ledger; and
+-- on the one that its page opens
 abbrev pub accountsFrom : List ℕ → Ledger → List ℕ
 accountsFrom bytes l = waitingAccounts (ledgerFrom bytes (entryCount bytes - 1) 1 l)
 
@@ -32,7 +33,8 @@ abbrev pub bundleRefusalOr : Option Refusal → BundleReply → Option Refusal
 bundleRefusalOr later (BundleRefused r i) = some r
 bundleRefusalOr later (Sound m) = later
 
--- the refusal that the list behind a sound bundle meets: its opening's, else 17; and behind any bundle: that of the bundle first
+-- the refusal that the list behind a sound bundle meets: its opening's, else 17; and behind any
+-- bundle: that of the bundle first
 abbrev pub soundRefusal : List ℕ → List ℕ → Option Refusal
 soundRefusal bytes before = openingRefusalOr (listRefusal before) (opened bytes)
 

@@ -17,8 +17,8 @@ use Rattle.model.specs.Bundles.{pageAt, messageOf, openingOf, checkBundle}
 use Rattle.layout.specs.Layout.{tableFrom}
 use Rattle.text.specs.Lines.{refusalLine, replyLine, accountLine}
 
--- "one line per entry from 1: entry, reply letter, and what it carries". A page with no message, which no sound bundle has behind
--- page 0, adds nothing.
+-- "one line per entry from 1: entry, reply letter, and what it carries". A page with no message, which no sound bundle
+-- has behind page 0, adds nothing.
 abbrev pub entryLine : ℕ → Ledger → Option Message → List ℕ
 entryLine i l none = []
 entryLine i l (some m) = replyLine i (step l m .reply)
@@ -72,7 +72,8 @@ openingPage bytes = openingOf (pageAt bytes 0 .body)
 abbrev pub opened : List ℕ → OpenReply
 opened bytes = openReply (openingPage bytes)
 
--- the text of an opening's answer. "`F code entry` for a bundle or opening that is refused (entry 0 for codes 1, 2, 3 ..)"
+-- the text of an opening's answer. "`F code entry` for a bundle or opening that is refused
+-- (entry 0 for codes 1, 2, 3 ..)"
 abbrev pub openedText : List ℕ → ℕ → OpenReply → List ℕ
 openedText bytes m (OpenRefused r) = refusalLine (codeOf r) 0
 openedText bytes m Opened = playedText bytes (m - 1) (freshLedger (openingPage bytes))

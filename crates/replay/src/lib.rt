@@ -36,13 +36,15 @@ ghost use Rattle.ledger.specs.Promises.{ListedBy};
 ghost use Rattle.replay.specs.Lists.{accountsFrom, SoundList, ListOf};
 ghost use Rattle.replay.specs.Promises.{closingMost, Replayed, ReplayedInput, Wrote, PlayedAll};
 
-// The longest text: 999 lines of a proposed transfer, 36 bytes each, and 32 lines of an account, 27 bytes each: 36,828 bytes.
+// The longest text: 999 lines of a proposed transfer, 36 bytes each, and 32 lines of an
+// account, 27 bytes each: 36,828 bytes.
 pub const TEXT_SIZE: usize = 36 * 999 + 27 * 32;
 
 // How much of its input `daybook` reads: one byte more than the longest bundle has, 18,124 bytes.
 pub const INPUT_SIZE: usize = 2 + 8 * 1_000 + 131 + 999 * 10 + 1;
 
-// The entries behind the opening page, in their order, as messages to the book; how much of the buffer's front is written is replied.
+// The entries behind the opening page, in their order, as messages to the book; how much of the
+// buffer's front is written is replied.
 fn play(bytes: &[u8], words: &mut [u32; BOOK_WORDS], out: &mut [u8]) -> usize
     requires { ⌜ entryCount (now bytes) ≤ 1_000 ⌝ }
     ensures { λ r. ⌜ PlayedAll (now (bytes .entry)) (now (words .entry)) (now (words .exit)) (now (out .entry)) (now (out .exit)) r ⌝ }
@@ -126,8 +128,8 @@ pub fn replay(bytes: &[u8], out: &mut [u8; TEXT_SIZE]) -> usize
     }
 }
 
-// The text for an input of which the buffer holds as many first bytes as it has room for, or the whole if it is shorter. A count above the buffer's
-// size counts as that size.
+// The text for an input of which the buffer holds as many first bytes as it has room for, or the whole if it is
+// shorter. A count above the buffer's size counts as that size.
 pub fn replay_input(input: &[u8; INPUT_SIZE], read: usize, out: &mut [u8; TEXT_SIZE]) -> usize
     ensures { λ r. ⌜ ReplayedInput (now (input .entry)) read (now (out .entry)) (now (out .exit)) r ⌝ }
 {
@@ -163,7 +165,8 @@ fn list_sound(bytes: &[u8], buffer: &mut [u8]) -> ListReply
     }
 }
 
-// The waiting list, lowest account first, asked behind a bundle's last entry. A bundle or an opening that is refused has no list: its own code is replied.
+// The waiting list, lowest account first, asked behind a bundle's last entry. A bundle or an opening that is refused
+// has no list: its own code is replied.
 pub fn list_after(bytes: &[u8], buffer: &mut [u8]) -> ListReply
     ensures { λ r. ⌜ ListOf (now (bytes .entry)) (now (buffer .entry)) r (now (buffer .exit)) ⌝ }
 {

@@ -1,4 +1,5 @@
--- The waiting list in a run: the one with the lowest account first is one of those that may be; their order is free, and nothing else.
+-- The waiting list in a run: the one with the lowest account first is one of those that may be; their
+-- order is free, and nothing else.
 use Prim.Native.Nat.{ℕ, zero, suc, _+_, _≤_, _<_}
 use native.Mathlib.Nat.{le-of-suc-le-suc, not-suc-le-zero}
 use native.Mathlib.Omega.{arith}

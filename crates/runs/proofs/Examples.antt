@@ -1,6 +1,6 @@
--- The statement of demand 3, tried on runs. One run keeps all premises and has in it what they are about, so the statement is not
--- empty. Other runs lack one premise each, and two accepted slips conflict in them, so each premise is needed. Further runs show what
--- the premises leave free, and what slates say. All is computed.
+-- The statement of demand 3, tried on runs. One run keeps all premises and has in it what they are about, so the
+-- statement is not empty. Other runs lack one premise each, and two accepted slips conflict in them, so each premise is
+-- needed. Further runs show what the premises leave free, and what slates say. All is computed.
 use Prim.Native.Nat.{ℕ, zero, suc, _≤_}
 use native.Mathlib.Omega.{arith}
 use mathlib.Core.Path.{_≡_, refl}
@@ -105,9 +105,9 @@ no-claim o bad run t u differ yes-t yes-u claim =
     (other .2) (that-slip u (accepted (other .1 .call)) (other .3))
     (apart .account) (apart .number))
 
--- A run that keeps the premises. A home sends t to some seats and u to another. Seat 0 accepts t by acks, the bad seat's among them. At
--- seat 1 the acks conflict, since the bad seat acks u there, and t is put forward. The ruling for t reaches seats 1, 2 and 3. Then v is
--- accepted at seat 4, where it waits: this far first.
+-- A run that keeps the premises. A home sends t to some seats and u to another. Seat 0 accepts t by acks, the bad
+-- seat's among them. At seat 1 the acks conflict, since the bad seat acks u there, and t is put forward. The ruling for
+-- t reaches seats 1, 2 and 3. Then v is accepted at seat 4, where it waits: this far first.
 abbrev pub waits : Run
 waits =
     today
@@ -175,8 +175,8 @@ takes s t e = sameSeat (e .at) (seatOf s) && passes (equal t) (accepted (e .call
 abbrev isRuling : Event → Bool
 isRuling e = passes (λ t. true) (ruled (e .call))
 
--- The witness has what the premises are about: seats ack slips that conflict, t is put forward, accepted by an ack at seat 0 and by a
--- ruling at seat 2.
+-- The witness has what the premises are about: seats ack slips that conflict, t is put forward, accepted by an ack at
+-- seat 0 and by a ruling at seat 2.
 pub witness-has :
     (happened (acksThat t) witness && happened (acksThat u) witness && conflict t u ≡ true)
     × (happened (putsForward t) witness ≡ true)
@@ -185,8 +185,8 @@ pub witness-has :
 unfolding equal conflict
 witness-has = (refl, refl, refl, refl)
 
--- Runs in which one premise is missing, and all else is as it is in the witness. Each is a run at honest seats that obeys the
--- definitions, and demand 3's claim fails in it.
+-- Runs in which one premise is missing, and all else is as it is in the witness. Each is a run at honest seats that
+-- obeys the definitions, and demand 3's claim fails in it.
 abbrev Fails : (Seat → Bool) → Run → Type 0
 Fails bad run = (atHonest page bad run ≡ true) × Obeys page run × (Claim page bad run → ⊥)
 
@@ -202,8 +202,8 @@ acceptT r = r ▹ ack 0 0 t Note ▹ ack 0 1 t Note ▹ ack 0 2 t Note ▹ ack 0
 abbrev putForwardT : Run → Run
 putForwardT r = r ▹ ack 1 0 t Note ▹ ack 1 1 t Note ▹ ack 1 2 t Note ▹ ack 1 4 u Note ▹ ack 1 5 u (Propose t)
 
--- "An ack that names an honest seat as its sender carries a slip that an earlier call at that sender acked." Here acks of u name seats
--- that acked t, though seat 4 did ack u.
+-- "An ack that names an honest seat as its sender carries a slip that an earlier call at that sender acked." Here acks
+-- of u name seats that acked t, though seat 4 did ack u.
 abbrev forged : Run
 forged = acceptT split ▹ ack 1 0 u Note ▹ ack 1 1 u Note ▹ ack 1 2 u Note ▹ ack 1 3 u Note ▹ ack 1 4 u (Accept 1)
 
@@ -264,7 +264,8 @@ put-forward-needed = (
   λ keeps. false≢true (keeps .rulings-rightful),
 )
 
--- "If all slips so put forward before it are equal, the ruling is for that slip." Here all are t, and the ruling is for u.
+-- "If all slips so put forward before it are equal, the ruling is for that slip." Here all
+-- are t, and the ruling is for u.
 abbrev otherRuling : Run
 otherRuling = acceptT (putForwardT split ▹ ruling 4 u (Accept 1))
 
@@ -312,7 +313,8 @@ few-bad-needed = (
   λ few. two-above-one few,
 )
 
--- "A silent book would satisfy demand 3 alone, so that demand is about books obeying demand 2." Here books accept on one ack.
+-- "A silent book would satisfy demand 3 alone, so that demand is about books obeying
+-- demand 2." Here books accept on one ack.
 abbrev invented : Run
 invented = today ▹ ack 0 5 t (Accept 1) ▹ ack 1 5 u (Accept 1)
 
@@ -329,8 +331,8 @@ obeying-needed = (
   λ obeys. accepts-not-notes (obeys .1),
 )
 
--- What the premises leave free. Slips that differ are put forward, t at seat 1 and u at seat 2, so the ruling may be for a third slip.
--- A ruling for another account is another matter: there w is put forward.
+-- What the premises leave free. Slips that differ are put forward, t at seat 1 and u at seat 2, so the ruling may be
+-- for a third slip. A ruling for another account is another matter: there w is put forward.
 abbrev z : Transfer
 z = slip 0 1 4 0
 
@@ -448,7 +450,8 @@ pub slate-runs-obey : Obeys poor oneMore × Obeys three chain × Obeys page toIt
 unfolding rulesAt ledgerAt noAcks equal conflict hasMost mostAcked lowestAffordable apply settleAtMost settle stepUnder
 slate-runs-obey = (tt then refl then refl then refl, tt then refl then refl then refl then refl, tt then refl)
 
--- .. and what the slates say, of seat 1 too, which is not called. In the witness v has left at seat 4 and has not come to seat 0.
+-- .. and what the slates say, of seat 1 too, which is not called. In the witness v has left at
+-- seat 4 and has not come to seat 0.
 pub slate-facts :
     (slate poor 0 oneWaits ≡ (0, 0) ∷ (5, 0) ∷ [])
     × (slate poor 0 bothBooked ≡ (0, 1) ∷ (5, 1) ∷ [])

@@ -1,5 +1,5 @@
--- The whole-run facts, Theorem 1 and demand 3, tried on runs: what their definitions say at single places, computed, and that they
--- say something of the runs of Examples.antt and of a few more.
+-- The whole-run facts, Theorem 1 and demand 3, tried on runs: what their definitions say at single places, computed,
+-- and that they say something of the runs of Examples.antt and of a few more.
 use Prim.Native.Nat.{ℕ, zero, suc, _≤_, _<_}
 use mathlib.Core.Path.{_≡_, refl}
 use mathlib.Core.Bool.{Bool, true, false, Bool·beq, false≢true}
@@ -28,9 +28,9 @@ use Rattle.laws.proofs.Equality.{conflict-sound}
 use Rattle.runs.proofs.Found.{happened-found, that-slip}
 use Rattle.runs.proofs.Examples.{page, t, u, v, bad, today, asked, acks, ack, ruling, _then_, waits, witness, putsForward, free, refusedRuling, poor, oneWaits, bothBooked, oneMore, three, chain, bothWait, slate}
 
--- One more run: every honest seat acks t. At seat 0 the bad seat's ack of u comes first; the acks of seats 0 to 3 make five with it,
--- which conflict, and t is put forward; then the bad seat acks t too, and is refused. Seat 1 gets two acks and one of them again, the
--- others are lost: this far first.
+-- One more run: every honest seat acks t. At seat 0 the bad seat's ack of u comes first; the acks of seats 0 to 3 make
+-- five with it, which conflict, and t is put forward; then the bad seat acks t too, and is refused. Seat 1 gets two
+-- acks and one of them again, the others are lost: this far first.
 abbrev oneLacks : Run
 oneLacks =
     today
@@ -51,9 +51,9 @@ rightlyK o before e = Bool·beq (answeredK (e .call)) (mustAccept (rulesAt (e .a
 abbrev must : Run → Event → Bool
 must before e = mustAccept (rulesAt (e .at) before) (ledgerAt page (e .at) before) (e .call)
 
--- A call accepts exactly if it is an ack that makes enough or a ruling, and is not refused. So it is at every call of these runs. At
--- single ones: an ack that makes enough; one that would, from a seat whose ack is recorded, but is refused; one of another slip; one
--- that does not make enough; a ruling, and a refused one.
+-- A call accepts exactly if it is an ack that makes enough or a ruling, and is not refused. So it is at every call of
+-- these runs. At single ones: an ack that makes enough; one that would, from a seat whose ack is recorded, but is
+-- refused; one of another slip; one that does not make enough; a ruling, and a refused one.
 pub accepts-tried :
     (throughout (rightlyK page) witness ≡ true)
     × (throughout (rightlyK page) undisputedRun ≡ true)
@@ -68,17 +68,17 @@ pub accepts-tried :
 unfolding rulesAt ledgerAt noAcks equal conflict hasMost mostAcked lowestAffordable apply settleAtMost settle stepUnder
 accepts-tried = (refl, refl, refl, refl, refl, refl, refl, refl, refl, refl)
 
--- Of a slip at a seat, after a run: it was accepted there; twice its recorded acks exceed n + 3f; a ruling that is not refused named it;
--- it waits.
+-- Of a slip at a seat, after a run: it was accepted there; twice its recorded acks exceed n + 3f; a ruling that is
+-- not refused named it; it waits.
 abbrev reasons : Opening → ℕ → Transfer → Run → Bool × Bool × Bool × Bool
 reasons o s t run =
     let e = entryOf (ledgerAt o (seatOf s) run) (t .account) in
     (acceptedBy (seatOf s) t run, enough (o .seats) (o .faults) (acksFor t (e .acks)), ruledFor (seatOf s) t run, holds t (e .pending))
 
--- A slip with its account's next number has been accepted exactly if it has acks enough or a ruling that is not refused named it, and
--- then it waits. In this order: one that waits by acks; one that waits by a ruling; one with four acks of five, put forward; one that
--- only a refused ruling named; one accepted at another seat, by acks, and by a ruling. A slip that is booked is not of the next number:
--- it was accepted, and nothing of it is left.
+-- A slip with its account's next number has been accepted exactly if it has acks enough or a ruling that is not refused
+-- named it, and then it waits. In this order: one that waits by acks; one that waits by a ruling; one with four acks of
+-- five, put forward; one that only a refused ruling named; one accepted at another seat, by acks, and by a ruling. A
+-- slip that is booked is not of the next number: it was accepted, and nothing of it is left.
 pub accepted-tried :
     (reasons page 4 v waits ≡ (true, true, false, true))
     × (reasons poor 0 (slip 0 1 5 1) oneWaits ≡ (true, false, true, true))
@@ -113,7 +113,8 @@ each-honest P p0 p1 p2 p3 p4 s fair = go (s .0) fair
     go (suc (suc (suc (suc (suc zero))))) h = impossible (cc)
     go (suc (suc (suc (suc (suc (suc i)))))) h = impossible (cc (le-ltb (suc (suc (suc (suc (suc (suc i)))))) 6 (omega arith)))
 
--- It is a run as Theorem 1 means it: it keeps the premises, every honest seat acked t, and all their acks reached seat 0.
+-- It is a run as Theorem 1 means it: it keeps the premises, every honest seat acked t, and
+-- all their acks reached seat 0.
 pub undisputed-keeps :
     (atHonest page bad undisputedRun ≡ true)
     × Obeys page undisputedRun
@@ -147,8 +148,8 @@ pub undisputed-says : Undisputed page bad undisputedRun t → AllReached page ba
 unfolding equal
 undisputed-says h = h .accepted-there oneLacks (seatOf 0) (sooner at-end) refl
 
--- Where fewer acks accept than there are honest seats, the last of their acks are refused, and have arrived all the same: n 3, f 0. Seat 1
--- is ahead, and its ack of the next number comes to seat 0 too early, and is lost.
+-- Where fewer acks accept than there are honest seats, the last of their acks are refused, and have arrived all the
+-- same: n 3, f 0. Seat 1 is ahead, and its ack of the next number comes to seat 0 too early, and is lost.
 abbrev pub threeSeats : Opening
 threeSeats = pageWith 3 0 (10 ∷ 3 ∷ [])
 
@@ -195,8 +196,8 @@ late-keeps = (
   each-of-three (λ s. reached (seatOf 0) s t lateAck ≡ true) refl refl refl,
 )
 
--- Which acks have arrived: seat 3's at seat 0, and not at seat 1, where it was lost; of t, not of u. The bad seat's ack of u has, and its
--- ack of t after it, though refused. The late ack has, the early one has not.
+-- Which acks have arrived: seat 3's at seat 0, and not at seat 1, where it was lost; of t, not of u. The bad seat's ack
+-- of u has, and its ack of t after it, though refused. The late ack has, the early one has not.
 pub reached-tried :
     (reached (seatOf 0) (seatOf 3) t undisputedRun ≡ true)
     × (reached (seatOf 1) (seatOf 3) t undisputedRun ≡ false)
@@ -208,8 +209,8 @@ pub reached-tried :
 unfolding equal
 reached-tried = (refl, refl, refl, refl, refl, refl, refl)
 
--- Theorem 1 needs every honest seat's ack of t. In this run of Examples.antt, which keeps the premises, seats 0 to 2 ack t, seats 3 and 4
--- ack u, and u is put forward.
+-- Theorem 1 needs every honest seat's ack of t. In this run of Examples.antt, which keeps the premises, seats 0 to 2
+-- ack t, seats 3 and 4 ack u, and u is put forward.
 pub all-acks-needed : (ackedBy (seatOf 0) t free ≡ true) × (AllAcked page bad t free → ⊥) × (Undisputed page bad free t → ⊥)
 unfolding equal conflict
 all-acks-needed = (
@@ -223,8 +224,9 @@ all-acks-needed = (
       (apart .account) (apart .number)),
 )
 
--- What the statements say at single places. Each part is the statement's own field there, computed: whatever else a field would say
--- does not fit. A seat alone, n 1 and f 0: one ack accepts. It books two slips of account 0, is asked for a balance, and books v.
+-- What the statements say at single places. Each part is the statement's own field there, computed: whatever else a
+-- field would say does not fit. A seat alone, n 1 and f 0: one ack accepts. It books two slips of account 0, is
+-- asked for a balance, and books v.
 abbrev pub single : Opening
 single = pageWith 1 0 (10 ∷ 3 ∷ [])
 
@@ -255,8 +257,8 @@ alone-keeps = (
   refl,
 )
 
--- Demand 3: of t and t2, whose numbers differ, nothing; the book's balance and current number; the balance told; and nothing of the
--- two places, where the counts of account 1 differ.
+-- Demand 3: of t and t2, whose numbers differ, nothing; the book's balance and current number; the balance told; and
+-- nothing of the two places, where the counts of account 1 differ.
 pub claim-says : Claim single nobody alone
     → (1 is 2 → t ≡ t2)
     × (8 is 8)
@@ -282,8 +284,9 @@ counts-differ = (refl, λ same. zero-not-one (same (accountOf 1) (lit< tt)))
     zero-not-one : 0 is 1 → ⊥
     zero-not-one e = impossible (cc)
 
--- The facts of every run: current numbers rise; K's count is the rise, and with A there is none; of t and t2, which one seat acked, nothing, since their numbers
--- differ; nothing of t, which was accepted, has no acks left and waits no more, since its number is not the next; and nothing of number 0.
+-- The facts of every run: current numbers rise; K's count is the rise, and with A there is none; of t and t2, which one
+-- seat acked, nothing, since their numbers differ; nothing of t, which was accepted, has no acks left and waits no
+-- more, since its number is not the next; and nothing of number 0.
 pub facts-say : Facts single alone
     → (0 ≤ 2)
     × (3 is 3)
@@ -316,8 +319,8 @@ facts-say-too = (
   λ f. f .sums today (seatOf 0) at-end .1,
 )
 
--- .. and the accounts: behind the two all is 0; of the second, which has 5 and has booked one slip, that is not said; and the two have the
--- opening sum.
+-- .. and the accounts: behind the two all is 0; of the second, which has 5 and has booked one slip, that is not said;
+-- and the two have the opening sum.
 pub accounts-say : Facts single alone
     → (2 ≤ 2 → (0 is 0) × (0 is 0))
     × (2 ≤ 1 → (5 is 0) × (1 is 0))
@@ -329,8 +332,8 @@ accounts-say f = (
   f .accounts-sum alone (seatOf 0) at-end,
 )
 
--- Two seats, n 2 and f 0: two acks accept, and two that conflict put forward. Seat 0 accepts t. Afterwards seat 1 puts t forward, and then
--- accepts it by a ruling. For the next number seat 0 puts t2 forward.
+-- Two seats, n 2 and f 0: two acks accept, and two that conflict put forward. Seat 0 accepts t. Afterwards seat 1 puts
+-- t forward, and then accepts it by a ruling. For the next number seat 0 puts t2 forward.
 abbrev pub twoSeats : Opening
 twoSeats = pageWith 2 0 (10 ∷ 3 ∷ [])
 
@@ -347,8 +350,8 @@ pub disputed-obeys : Obeys twoSeats disputed
 unfolding rulesAt ledgerAt noAcks equal conflict hasMost mostAcked lowestAffordable apply settleAtMost settle stepUnder
 disputed-obeys = tt then refl then refl then refl then refl then refl then refl then refl
 
--- After it accepted a slip, a seat puts forward only this one for its number. It is not said of another seat, nor of the next number, nor of what came before.
--- (Runs that break it are in LateTried.antt.)
+-- After it accepted a slip, a seat puts forward only this one for its number. It is not said of another seat, nor of
+-- the next number, nor of what came before. (Runs that break it are in LateTried.antt.)
 pub proposals-say :
     (Facts twoSeats disputed → seatOf 0 ≡ seatOf 1 → (t ≡ t) × (2 ≤ 2))
     × (Facts twoSeats disputed → 1 is 2 → (t ≡ t2) × (2 ≤ 2))
@@ -366,7 +369,8 @@ proposals-say = (
       after (sooner (sooner (sooner at-end))) refl refl refl refl refl,
 )
 
--- The order of a waiting list in a run: of accounts 0 and 1, which wait at seat 1, each stands once, and another does not; of their places nothing is said.
+-- The order of a waiting list in a run: of accounts 0 and 1, which wait at seat 1, each stands once, and another does
+-- not; of their places nothing is said.
 pub order-says : InAnyOrder (ledgerAt page (seatOf 1) bothWait) (1 ∷ 0 ∷ []) → (1 is 1) × (1 is 1) × (0 is 0)
 unfolding rulesAt ledgerAt waitingAccounts noAcks equal conflict hasMost mostAcked lowestAffordable apply settleAtMost settle stepUnder
 order-says h = (h 0, h 1, h 2)

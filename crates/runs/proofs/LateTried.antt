@@ -1,5 +1,5 @@
--- Document 02, request 5, tried: runs with late P's, from a number that is booked and from one that waits, that keep the premises, and what is said of them.
--- All is computed.
+-- Document 02, request 5, tried: runs with late P's, from a number that is booked and from one that waits, that keep
+-- the premises, and what is said of them. All is computed.
 use Prim.Native.Nat.{ℕ, _-_, _≤_, _<_}
 use native.Mathlib.Omega.{arith}
 use mathlib.Core.Path.{_≡_, refl, ap}
@@ -41,7 +41,8 @@ fourAcks s x r = r ▹ ack s 0 x Note ▹ ack s 1 x Note ▹ ack s 2 x Note ▹ 
 abbrev fiveAcks : ℕ → Transfer → Reply → Run → Run
 fiveAcks s x reply r = fourAcks s x r ▹ ack s 5 x reply
 
--- Seats 0 to 3 ack t, and seat 4 acks u. Seats 0 to 3 accept t and book it; seat 4, where its own ack conflicts, puts t forward.
+-- Seats 0 to 3 ack t, and seat 4 acks u. Seats 0 to 3 accept t and book it; seat 4, where its own
+-- ack conflicts, puts t forward.
 abbrev accepts : Run → Run
 accepts r =
     fourAcks 4 t (fiveAcks 3 t (Accept 1) (fiveAcks 2 t (Accept 1) (fiveAcks 1 t (Accept 1) (fiveAcks 0 t (Accept 1)
@@ -56,9 +57,10 @@ late a b c d r = r ▹ ack 0 4 u a ▹ ack 1 4 u b ▹ ack 2 4 u c ▹ ack 3 4 u
 abbrev waitsAt4 : Run → Run
 waitsAt4 r = fiveAcks 4 v (Accept 0) (r ▹ acks 0 v ▹ acks 1 v ▹ acks 2 v ▹ acks 3 v)
 
--- All seats are under the newest rules: seats 0 to 3, which have booked t, join in and put it forward late, so that all n - f honest seats have put it
--- forward. At seat 4 v is put forward late, while it waits, by an ack of the bad seat, which had acked v there; and no second time. Then the council rules for
--- t: seat 4 books it by the ruling, and so v; v' meets 6 then, and the ruling does at seat 0.
+-- All seats are under the newest rules: seats 0 to 3, which have booked t, join in and put it forward late, so that all
+-- n - f honest seats have put it forward. At seat 4 v is put forward late, while it waits, by an ack of the bad seat,
+-- which had acked v there; and no second time. Then the council rules for t: seat 4 books it by the ruling, and so v;
+-- v' meets 6 then, and the ruling does at seat 0.
 abbrev beforeRuling : Run
 beforeRuling =
     waitsAt4 (late (Propose t) (Propose t) (Propose t) (Propose t) (accepts today))
@@ -83,9 +85,10 @@ joined-obeys =
     then refl then refl then refl then refl then refl
     then refl then refl then refl then refl then refl
 
--- The same ack is answered differently by seats of different rules: seat 0 joins in; seat 1, which switched twice before it accepted, does too; seat 2, under
--- the first rules, and seat 3, under those since request 3, reply 6. Seat 4 starts under the first rules and switches twice while v waits: before the second
--- switch, its late ack meets 8; after it, it puts v forward. Seat 3 switches when t is booked, so it retains nothing, and replies 6 still.
+-- The same ack is answered differently by seats of different rules: seat 0 joins in; seat 1, which switched twice
+-- before it accepted, does too; seat 2, under the first rules, and seat 3, under those since request 3, reply 6. Seat 4
+-- starts under the first rules and switches twice while v waits: before the second switch, its late ack meets 8; after
+-- it, it puts v forward. Seat 3 switches when t is booked, so it retains nothing, and replies 6 still.
 abbrev mixedStart : Run
 mixedStart = start (λ s. cond (eqb (s .0) 0) newest (cond (eqb (s .0) 3) sinceRequest3 firstRules)) ▹ switches 1 ▹ switches 1
 
@@ -140,8 +143,9 @@ mixed-keeps = (
   record { acks-genuine = refl; rulings-rightful = refl },
 )
 
--- What the first has in it. Before the ruling each of the five honest seats put t forward, and n - f is 5; four of them had accepted it, and seat 4 had not. v is
--- put forward too, and nothing else. Seat 4 takes t by the ruling, at which it is booked, and v with it; in the end all slates have booked t.
+-- What the first has in it. Before the ruling each of the five honest seats put t forward, and n - f is 5; four of them
+-- had accepted it, and seat 4 had not. v is put forward too, and nothing else. Seat 4 takes t by the ruling, at which
+-- it is booked, and v with it; in the end all slates have booked t.
 pub joined-has :
     (proposedFor (seatOf 0) t beforeRuling && proposedFor (seatOf 1) t beforeRuling && proposedFor (seatOf 2) t beforeRuling
     && proposedFor (seatOf 3) t beforeRuling && proposedFor (seatOf 4) t beforeRuling ≡ true)
@@ -170,8 +174,9 @@ pub mixed-has :
 unfolding rulesAt slateAt leaveAll leaveAtMost equal
 mixed-has = (refl, refl, refl, refl, refl, refl)
 
--- What seats hold, at the end of the two: seat 0 retains t with its mark, seat 4 both slips, each with its mark; in the second run seat 3, which switched when t
--- was booked, retains nothing, nor does seat 2; and seat 4, which accepted t after its switch, has t.
+-- What seats hold, at the end of the two: seat 0 retains t with its mark, seat 4 both slips, each with its mark; in
+-- the second run seat 3, which switched when t was booked, retains nothing, nor does seat 2; and seat 4, which
+-- accepted t after its switch, has t.
 pub held :
     (entryOf (ledgerAt page (seatOf 0) joinedIn) (accountOf 0) .retained ≡ Full t)
     × (entryOf (ledgerAt page (seatOf 0) joinedIn) (accountOf 0) .retainedProposed ≡ true)
@@ -185,8 +190,9 @@ pub held :
 unfolding rulesAt ledgerAt noAcks equal conflict hasMost mostAcked lowestAffordable apply settleAtMost settle stepUnder
 held = (refl, refl, refl, refl, refl, refl, refl, refl, refl)
 
--- What the facts of every run say here, each part the statement's own field at one place, computed. A seat alone, n 1 and f 0: an ack of t accepts it, and one
--- of u, which is enough too, brings t as a late P and accepts nothing. A slip t2 with the next number follows.
+-- What the facts of every run say here, each part the statement's own field at one place, computed. A seat alone, n 1
+-- and f 0: an ack of t accepts it, and one of u, which is enough too, brings t as a late P and accepts nothing. A slip
+-- t2 with the next number follows.
 abbrev t2 : Transfer
 t2 = slip 0 2 1 1
 
@@ -229,8 +235,9 @@ pub late-says-earlier : Facts single (asItWas ▹ ack 0 0 t (Accept 1)) → 2 �
 unfolding rulesAt ledgerAt noAcks equal conflict hasMost mostAcked lowestAffordable apply settleAtMost settle stepUnder
 late-says-earlier f = f .latest-retained asItWas (asItWas ▹ ack 0 0 t (Accept 1)) (ack 0 0 t (Accept 1)) t at-end at-end refl
 
--- The same where the slip waits: at seat 4 v, before the ruling, with its late P; in the second run seat 4 had accepted v under the first rules. At a seat under
--- those nothing is retained, what waits neither; under the newest that is not said.
+-- The same where the slip waits: at seat 4 v, before the ruling, with its late P; in the second run seat 4
+-- had accepted v under the first rules. At a seat under those nothing is retained, what waits neither;
+-- under the newest that is not said.
 pub late-says-waiting :
     (Facts page beforeRuling → (accountOf 1 ≡ accountOf 1) × (true ≡ true) × (1 is 1))
     × (Facts page beforeRuling → true ≡ true)
@@ -252,7 +259,8 @@ late-says-waiting = (
   λ f. f .none-retained joinedIn (seatOf 0) (accountOf 0) at-end,
 )
 
--- In place of what it comes: of 6 at seat 0, where t is booked, and of 8 at seat 4, where v waits; at a seat under earlier rules it does not come.
+-- In place of what it comes: of 6 at seat 0, where t is booked, and of 8 at seat 4, where v waits; at a seat under
+-- earlier rules it does not come.
 pub in-place-says :
     (Facts page (accepts today) → true ≡ true → (some PastNumber ≡ some PastNumber) ⊎ (some PastNumber ≡ some AlreadyAccepted))
     × (Facts page atSwitch → true ≡ true → (some AlreadyAccepted ≡ some PastNumber) ⊎ (some AlreadyAccepted ≡ some AlreadyAccepted))
@@ -268,8 +276,9 @@ in-place-says = (
 abbrev usedUp : Run
 usedUp = today ▹ ack 0 0 t Note ▹ ack 0 1 u (Propose t) ▹ ruling 0 u (Accept 1)
 
--- What the next numbers' marks say there: at seat 0 nothing was put forward for account 1's; at seat 4 t was for account 0's; of account 1's there, where v waits,
--- nothing is said. And what the mark of a retained slip says, where another was put forward before the acceptance: t, and then the ruling is for u.
+-- What the next numbers' marks say there: at seat 0 nothing was put forward for account 1's; at seat 4 t was for
+-- account 0's; of account 1's there, where v waits, nothing is said. And what the mark of a retained slip says, where
+-- another was put forward before the acceptance: t, and then the ruling is for u.
 pub marks-say :
     (Facts page beforeRuling → false ≡ false)
     × (Facts page beforeRuling → true ≡ true)
@@ -283,8 +292,8 @@ marks-say = (
   λ f. f .retained-marked usedUp (seatOf 0) (accountOf 0) u at-end refl,
 )
 
--- A run as Theorem 1 means it, in which one of the honest seats joins in: every honest seat has acked t, and the bad seat's ack of u comes to seat 1 when t is
--- booked there. Nothing but t is put forward.
+-- A run as Theorem 1 means it, in which one of the honest seats joins in: every honest seat has acked t, and the bad
+-- seat's ack of u comes to seat 1 when t is booked there. Nothing but t is put forward.
 abbrev pub joinedUndisputed : Run
 joinedUndisputed = undisputedRun ▹ ack 1 1 t Note ▹ ack 1 2 t Note ▹ ack 1 3 t (Accept 1) ▹ ack 1 5 u (Propose t)
 
@@ -301,8 +310,8 @@ joined-undisputed = (
   each-honest (λ s. ackedBy s t joinedUndisputed ≡ true) refl refl refl refl refl,
 )
 
--- Late P's are not alike on equal acks: seat 0 has accepted t, and another in its place u; the ack of a third slip, which is the only one that either has then,
--- brings t and u.
+-- Late P's are not alike on equal acks: seat 0 has accepted t, and another in its place u; the ack of a third slip,
+-- which is the only one that either has then, brings t and u.
 abbrev tThere : Ledger
 tThere = ledgerAt single (seatOf 0) (today ▹ ack 0 0 t (Accept 1))
 
@@ -324,12 +333,14 @@ pub alike-unless-late : PutForwardAlike → true ≡ false → true ≡ false �
 unfolding rulesAt ledgerAt noAcks equal conflict hasMost mostAcked lowestAffordable apply settleAtMost settle step stepUnder
 alike-unless-late alike one other = alike tThere uThere third third t u one other refl refl (λ s. refl)
 
--- What does not differ from the rules before is not said where a late P is due: there 6 is replied. And the mark is set there.
+-- What does not differ from the rules before is not said where a late P is due: there 6 is
+-- replied. And the mark is set there.
 pub late-alone-says : LateAlone tThere third → (true ≡ false → Propose t ≡ Refuse PastNumber) × (true ≡ true)
 unfolding rulesAt ledgerAt noAcks equal conflict hasMost mostAcked lowestAffordable apply settleAtMost settle stepUnder
 late-alone-says f = (λ none. f .otherwise none .0, ap (λ (l : Ledger). entryOf l (accountOf 0) .retainedProposed) (f .late refl .1))
 
--- A run in which a seat puts another slip forward than the one that it accepted, or does it under earlier rules, or puts forward twice, breaks the facts.
+-- A run in which a seat puts another slip forward than the one that it accepted, or does it under earlier rules, or
+-- puts forward twice, breaks the facts.
 pub late-breaks :
     (Facts twoSeats (today ▹ ruling 0 t (Accept 1) ▹ ack 0 1 u (Propose u)) → ⊥)
     × (Facts twoSeats (asItWas ▹ ruling 0 t (Accept 1) ▹ ack 0 1 u (Propose t)) → ⊥)

@@ -1,5 +1,5 @@
--- Document 02, request 3, tried: a run in which seats switch on different days keeps the premises; what is said of a mark, and of what is alike; and
--- running an old bundle again, which is no switch. All is computed.
+-- Document 02, request 3, tried: a run in which seats switch on different days keeps the premises; what is said of a
+-- mark, and of what is alike; and running an old bundle again, which is no switch. All is computed.
 use Prim.Native.Nat.{ℕ, _≤_, _<_}
 use mathlib.Core.Path.{_≡_, refl, ap}
 use mathlib.Core.Logic.{inl, inr}
@@ -51,9 +51,10 @@ noRoom s = record { at = seatOf s; call = waitingList [] (ListRefused ShortBuffe
 abbrev pub switches : ℕ → Event
 switches s = record { at = seatOf s; call = switch }
 
--- Seat 0 switches before it could ack w, which it then refuses. Seats 1 to 4 ack w, and then seat 1 switches: the mark stands, the same slip meets 20 and
--- another of that number 12. Acks of w from seats 1 to 4 and from the bad seat reach each honest seat, five are enough, and w is booked: at seats 0 and 1,
--- which have switched, at seat 3, which switches between these acks, and at seats 2 and 4, which have not.
+-- Seat 0 switches before it could ack w, which it then refuses. Seats 1 to 4 ack w, and then seat 1 switches: the mark
+-- stands, the same slip meets 20 and another of that number 12. Acks of w from seats 1 to 4 and from the bad seat reach
+-- each honest seat, five are enough, and w is booked: at seats 0 and 1, which have switched, at seat 3, which switches
+-- between these acks, and at seats 2 and 4, which have not.
 abbrev booked : Run
 booked =
     asItWas
@@ -66,8 +67,9 @@ booked =
     ▹ ack 3 1 w Note ▹ ack 3 2 w Note ▹ ack 3 3 w Note ▹ switches 3 ▹ ack 3 4 w Note ▹ ack 3 5 w (Accept 1)
     ▹ ack 4 1 w Note ▹ ack 4 2 w Note ▹ ack 4 3 w Note ▹ ack 4 4 w Note ▹ ack 4 5 w (Accept 1)
 
--- Of the next number, seats 0 and 1 ack x, seats 3 and 4 ack y, and the bad seat z. Seat 1 switches once more, to the rules since request 5: it refuses a home
--- that pays itself, and puts x forward, the first by its lowest seat: this far first.
+-- Of the next number, seats 0 and 1 ack x, seats 3 and 4 ack y, and the bad seat z. Seat 1 switches once
+-- more, to the rules since request 5: it refuses a home that pays itself, and puts x forward, the first by
+-- its lowest seat: this far first.
 abbrev forward : Run
 forward =
     booked
@@ -75,7 +77,8 @@ forward =
     ▹ switches 1 ▹ asked 1 (Circulated (slip 0 2 4 0)) (Refuse SelfPayment)
     ▹ ack 1 0 x Note ▹ ack 1 1 x Note ▹ ack 1 3 y Note ▹ ack 1 4 y Note ▹ ack 1 5 z (Propose x)
 
--- .. Seat 4 never switches, whatever else it is asked, and puts y forward. Seat 2 switches between these acks. The council rules for x, at all five.
+-- .. Seat 4 never switches, whatever else it is asked, and puts y forward. Seat 2 switches between these acks. The
+-- council rules for x, at all five.
 abbrev pub across : Run
 across =
     forward
@@ -119,8 +122,8 @@ abbrev acceptedByAll : Transfer → Run → Bool
 acceptedByAll v run =
     happened (takes 0 v) run && happened (takes 1 v) run && happened (takes 2 v) run && happened (takes 3 v) run && happened (takes 4 v) run
 
--- It has in it what the request is about: all five honest seats accept w, which no ruling names, and x; both x and y were put forward; who had switched when
--- w was booked, and who in the end; and all five slates say the same.
+-- It has in it what the request is about: all five honest seats accept w, which no ruling names, and x; both x and y
+-- were put forward; who had switched when w was booked, and who in the end; and all five slates say the same.
 pub across-has :
     (acceptedByAll w across ≡ true)
     × (happened (λ e. passes (equal w) (ruled (e .call))) across ≡ false)
@@ -146,7 +149,8 @@ pub across-slates :
 unfolding slateAt leaveAll leaveAtMost equal
 across-slates = (refl, refl, refl, refl, refl, refl)
 
--- Each seat starts under rules of its own choice: of two that get the same slip, seat 0 refuses it under the newest, and seat 1 acks it under the first.
+-- Each seat starts under rules of its own choice: of two that get the same slip, seat 0 refuses it under the newest,
+-- and seat 1 acks it under the first.
 abbrev ownChoice : Run
 ownChoice = start (λ s. cond (eqb (s .0) 0) newest firstRules) ▹ asked 0 (Circulated w) (Refuse SelfPayment) ▹ acks 1 w
 
@@ -154,8 +158,8 @@ pub own-choice : Obeys page ownChoice
 unfolding rulesAt ledgerAt noAcks equal conflict lowestAffordable apply settleAtMost settle stepUnder
 own-choice = tt then refl then refl
 
--- "running an old bundle again is no switch, since a slip acked in it could now meet 20 and leave no mark." The old bundle has the slip w. One seat played
--- it under the first rules, and switched; another plays it again under today's.
+-- "running an old bundle again is no switch, since a slip acked in it could now meet 20 and leave no mark." The old
+-- bundle has the slip w. One seat played it under the first rules, and switched; another plays it again under today's.
 abbrev pub heldOn : Run
 heldOn = asItWas ▹ acks 0 w ▹ switches 0 ▹ switches 0
 
@@ -180,8 +184,9 @@ pub no-switch :
 unfolding rulesAt ledgerAt noAcks equal conflict lowestAffordable apply settleAtMost settle step stepUnder
 no-switch = (refl, refl, λ same. false≢true (ap mark same), refl, refl)
 
--- What is said of a mark that stands, at this one: w meets 20 there, and t 12, since request 3; under the first rules w meets 12, of which nothing is said. Once
--- its number is booked a mark is gone, and nothing is said of it: a seat alone acks w and accepts it.
+-- What is said of a mark that stands, at this one: w meets 20 there, and t 12, since request 3; under the first
+-- rules w meets 12, of which nothing is said. Once its number is booked a mark is gone, and nothing is said of it: a
+-- seat alone acks w and accepts it.
 pub mark-says : MarkStands page (seatOf 0) heldOn w
     → (true ≡ true)
     × (Refuse SelfPayment ≡ Refuse SelfPayment)
@@ -216,7 +221,8 @@ pub newest-last : (rulesAt (seatOf 0) (asItWas ▹ switches 0) ≡ sinceRequest3
 unfolding rulesAt
 newest-last = (refl, refl, refl)
 
--- No more is alike between the sets of rules than is said: the reply to a slip is not. (Nor is the slip of a tied P: `ties-differ` in Ties.antt.)
+-- No more is alike between the sets of rules than is said: the reply to a slip is not. (Nor is the slip of a tied
+-- P: `ties-differ` in Ties.antt.)
 pub slips-differ : Alike (freshLedger page) (Circulated w) → ⊥
 unfolding noAcks equal conflict stepUnder
 slips-differ alike = go (acksWith (freshLedger page) (Circulated w)) (alike Acknowledge (Refuse SelfPayment) refl refl .0)

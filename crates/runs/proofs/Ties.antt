@@ -26,7 +26,8 @@ eight = pageWith 8 1 (10 ∷ 3 ∷ [])
 abbrev w : Transfer
 w = slip 0 1 4 0
 
--- Acks of t from seats 0 to 2, of u from 3 to 5 and of w from 6 reach seat 1, those of t first and w's last, and seat 2, those of u first and one of t last.
+-- Acks of t from seats 0 to 2, of u from 3 to 5 and of w from 6 reach seat 1, those of t first and w's last, and
+-- seat 2, those of u first and one of t last.
 abbrev tFirst : Run → Run
 tFirst run = run ▹ ack 1 0 t Note ▹ ack 1 1 t Note ▹ ack 1 2 t Note ▹ ack 1 3 u Note ▹ ack 1 4 u Note ▹ ack 1 5 u Note
 

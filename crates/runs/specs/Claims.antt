@@ -20,7 +20,8 @@ pub record Claim (o : Opening) (bad : Seat → Bool) (run : Run) : Type 0 where
       → Within (p ▹ e) run → accepted (e .call) ≡ some t
       → Within (q ▹ d) run → accepted (d .call) ≡ some u
       → t .account ≡ u .account → t .number ≡ u .number → t ≡ u
-  -- "At the start and after each call, the balances and current numbers in each honest book are its slate's balances and counts"
+  -- "At the start and after each call, the balances and current numbers in each honest book are
+  -- its slate's balances and counts"
   pub balances : (p : Run) (s : Seat) (a : Account) → Within p run → honest o bad s ≡ true
       → entryOf (ledgerAt o s p) a .balance ≡ slateAt o s p .balance a
   pub counts : (p : Run) (s : Seat) (a : Account) → Within p run → honest o bad s ≡ true
@@ -28,16 +29,16 @@ pub record Claim (o : Opening) (bad : Seat → Bool) (run : Run) : Type 0 where
   -- "and the balance in each reply B is the slate's for that account."
   pub told : (p : Run) (e : Event) (a : Account) (b : ℕ) → Within (p ▹ e) run → e .call ≡ message (Inquiry a) (Balance b)
       → b ≡ slateAt o (e .at) p .balance a
-  -- "Look at one honest seat at any place in the run and at another at any place, the same or not. If their counts are equal in every
-  -- account, so are their balances."
+  -- "Look at one honest seat at any place in the run and at another at any place, the same or not. If their counts are
+  -- equal in every account, so are their balances."
   pub equal-counts : (p q : Run) (s z : Seat)
       → Within p run → honest o bad s ≡ true
       → Within q run → honest o bad z ≡ true
       → SameCounts o s p z q
       → (a : Account) → slateAt o s p .balance a ≡ slateAt o z q .balance a
 
--- Demand 3: for every opening page that is not refused, every choice of at most f bad seats, and every run at honest seats that obeys
--- the definitions and keeps the premises.
+-- Demand 3: for every opening page that is not refused, every choice of at most f bad seats, and every run at honest
+-- seats that obeys the definitions and keeps the premises.
 abbrev pub Demand3 : Type 0
 Demand3 =
     (o : Opening) (bad : Seat → Bool) (run : Run)

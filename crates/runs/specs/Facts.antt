@@ -1,5 +1,5 @@
--- What holds of every run that obeys the definitions, premises or not: the whole-run facts of demand 2. The proof is `always` in
--- Always.antt of the crate agreement.
+-- What holds of every run that obeys the definitions, premises or not: the whole-run facts of demand 2. The proof is
+-- `always` in Always.antt of the crate agreement.
 use Prim.Native.Nat.{ℕ, _+_, _≤_, _<_}
 use mathlib.Core.Path.{_≡_}
 use mathlib.Core.Logic.{_⊎_}
@@ -34,8 +34,8 @@ countOf Note = 0
 countOf (Balance b) = 0
 countOf (Refuse q) = 0
 
--- the call is not refused, and it is a ruling, or an ack that is recorded, since it brings no late P, and with which twice the recorded acks of its slip
--- exceed n + 3f: under the rules of its seat
+-- the call is not refused, and it is a ruling, or an ack that is recorded, since it brings no late P, and with which
+-- twice the recorded acks of its slip exceed n + 3f: under the rules of its seat
 abbrev pub mustAccept : Rules → Ledger → Call → Bool
 mustAccept v l (message (Request t) r) = false
 mustAccept v l (message (Circulated t) r) = false
@@ -78,7 +78,8 @@ pub record Facts (o : Opening) (run : Run) : Type 0 where
   -- so the balances of the k accounts, which `daybook` prints, add up to the opening sum
   pub accounts-sum : (p : Run) (s : Seat) → Within p run
       → sumBalances (take (o .accounts) (ledgerAt o s p .entries)) ≡ sumOf (λ b. b) (o .balances)
-  -- each balance is the slate's, in plain numbers, so no sum ever reached the modulus; and each current number is the slate's count
+  -- each balance is the slate's, in plain numbers, so no sum ever reached the modulus; and each
+  -- current number is the slate's count
   pub plain : (p : Run) (s : Seat) (a : Account) → Within p run
       → (entryOf (ledgerAt o s p) a .balance ≡ slateAt o s p .balance a) × (entryOf (ledgerAt o s p) a .current ≡ slateAt o s p .count a)
   -- current numbers never fall
@@ -90,19 +91,23 @@ pub record Facts (o : Opening) (run : Run) : Type 0 where
   -- a seat acks at most one slip per account and number
   pub acked-once : (p q : Run) (e d : Event) (t u : Transfer) → Within (p ▹ e) run → Within (q ▹ d) run → e .at ≡ d .at
       → acked (e .call) ≡ some t → acked (d .call) ≡ some u → t .account ≡ u .account → t .number ≡ u .number → t ≡ u
-  -- after it accepted a slip, a seat puts forward for that number only the accepted slip, and under the rules before request 5 nothing
+  -- after it accepted a slip, a seat puts forward for that number only the accepted slip, and under the
+  -- rules before request 5 nothing
   pub only-accepted-proposed : (p q : Run) (e d : Event) (t u : Transfer) → Within (p ▹ e) q → Within (q ▹ d) run → e .at ≡ d .at
       → accepted (e .call) ≡ some t → proposed (d .call) ≡ some u → t .account ≡ u .account → t .number ≡ u .number
       → (t ≡ u) × (rank sinceRequest5 ≤ rank (rulesAt (d .at) q))
-  -- "It happens at most once for a number": a seat puts forward at most one slip for an account and number, and at most one time, late or not
+  -- "It happens at most once for a number": a seat puts forward at most one slip for an account and number,
+  -- and at most one time, late or not
   pub proposed-once : (p q : Run) (e d : Event) (t u : Transfer) → Within (p ▹ e) run → Within (q ▹ d) run → e .at ≡ d .at
       → proposed (e .call) ≡ some t → proposed (d .call) ≡ some u → t .account ≡ u .account → t .number ≡ u .number
       → (t ≡ u) × (p ≡ q) × (e ≡ d)
-  -- what is retained was accepted there: "the latest accepted slip, waiting or booked", so its number is current + 1 if it waits, and else current
+  -- what is retained was accepted there: "the latest accepted slip, waiting or booked", so its number is
+  -- current + 1 if it waits, and else current
   pub retained-stands : (p : Run) (s : Seat) (a : Account) (t : Transfer) → Within p run → entryOf (ledgerAt o s p) a .retained ≡ Full t
       → (t .account ≡ a) × (acceptedBy s t p ≡ true)
       × (t .number ≡ entryOf (ledgerAt o s p) a .current + bit (isWaiting (entryOf (ledgerAt o s p) a)))
-  -- its mark says "whether anything was put forward for its number" there, late or not; and the next number's, where nothing waits, whether something was for that
+  -- its mark says "whether anything was put forward for its number" there, late or not; and the next number's, where
+  -- nothing waits, whether something was for that
   pub retained-marked : (p : Run) (s : Seat) (a : Account) (t : Transfer) → Within p run → entryOf (ledgerAt o s p) a .retained ≡ Full t
       → entryOf (ledgerAt o s p) a .retainedProposed ≡ proposedFor s t p
   pub next-marked : (p : Run) (s : Seat) (t : Transfer) → Within p run
@@ -119,14 +124,16 @@ pub record Facts (o : Opening) (run : Run) : Type 0 where
   -- before request 5 nothing is retained
   pub none-retained : (p : Run) (s : Seat) (a : Account) → Within p run → rank (rulesAt s p) < rank sinceRequest5
       → RetainsNothing (entryOf (ledgerAt o s p) a)
-  -- "the reply is P with the retained slip and not 6 or 8": a late P comes in place of one of these, and of nothing else
+  -- "the reply is P with the retained slip and not 6 or 8": a late P comes in place of
+  -- one of these, and of nothing else
   pub in-place : (p : Run) (s : Seat) (m : Message) → Within p run → lateMet (rulesAt s p) (ledgerAt o s p) m ≡ true
       → (firstRefusal (rulesMet (rulesAt s p) (ledgerAt o s p) m) ≡ some PastNumber)
       ⊎ (firstRefusal (rulesMet (rulesAt s p) (ledgerAt o s p) m) ≡ some AlreadyAccepted)
-  -- a call accepts exactly if it is an ack that is recorded and makes enough or a ruling, and is not refused: no other call does
+  -- a call accepts exactly if it is an ack that is recorded and makes enough or a ruling, and is
+  -- not refused: no other call does
   pub accepts-exactly : (p : Run) (e : Event) → Within (p ▹ e) run → answeredK (e .call) ≡ mustAccept (rulesAt (e .at) p) (ledgerAt o (e .at) p) (e .call)
-  -- at any place, a slip with its account's next number has been accepted exactly if twice its recorded acks exceed n + 3f or a ruling
-  -- that is not refused named it
+  -- at any place, a slip with its account's next number has been accepted exactly if twice its recorded acks exceed
+  -- n + 3f or a ruling that is not refused named it
   pub accepted-exactly : (p : Run) (s : Seat) (t : Transfer) → Within p run
       → t .number ≡ entryOf (ledgerAt o s p) (t .account) .current + 1
       → acceptedBy s t p

@@ -53,12 +53,13 @@ abbrev pub allEqual : List Transfer → Bool
 allEqual [] = true
 allEqual (u ∷ us) = every (equal u) us
 
--- "Before the first of them, some call put forward a slip with that account and number. If all slips so put forward before it are
--- equal, the ruling is for that slip."
+-- "Before the first of them, some call put forward a slip with that account and number. If all slips so put forward
+-- before it are equal, the ruling is for that slip."
 abbrev pub founded : Transfer → List Transfer → Bool
 founded t slips = someSlip slips && implies (allEqual slips) (every (equal t) slips)
 
--- "All rulings for one account and number carry the same slip, whichever seats they reach." And the first of them is founded
+-- "All rulings for one account and number carry the same slip, whichever seats they reach."
+-- And the first of them is founded
 abbrev pub rightful : Run → Option Transfer → Bool
 rightful before none = true
 rightful before (some t) = not (ruledOtherwise t before) && (ruledOn t before || founded t (proposals t before))

@@ -1,4 +1,5 @@
--- Document 02, request 2, "Tied slips should be put forward alike", beside demand 3. The proofs are in Proposals.antt of the crate agreement.
+-- Document 02, request 2, "Tied slips should be put forward alike", beside demand 3. The proofs are in
+-- Proposals.antt of the crate agreement.
 use mathlib.Core.Path.{_≡_}
 use mathlib.Core.Bool.{false}
 use Rattle.laws.specs.Types.{Seat, Transfer, Ledger, Message, Propose}
@@ -10,8 +11,9 @@ use Rattle.model.specs.Calls.{lateIn, step}
 abbrev pub SameAcks : Ledger → Message → Ledger → Message → Type 0
 SameAcks l m k q = (s : Seat) → ackAt (acksWith l m) (s .0) ≡ ackAt (acksWith k q) (s .0)
 
--- Two calls that are answered P by today's definitions, not late, at two seats or one, and whose ledgers have the same acks, carry the same slip: in whatever
--- order the acks arrived, and whatever else the ledgers hold. (A late P carries what its seat accepted.)
+-- Two calls that are answered P by today's definitions, not late, at two seats or one, and whose ledgers have the
+-- same acks, carry the same slip: in whatever order the acks arrived, and whatever else the ledgers hold. (A late P
+-- carries what its seat accepted.)
 abbrev pub PutForwardAlike : Type 0
 PutForwardAlike =
     (l k : Ledger) (m q : Message) (t u : Transfer)

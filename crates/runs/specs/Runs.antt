@@ -1,5 +1,6 @@
--- Document 01, "A run, as demand 3 means it": calls, runs, the ledger of a seat at any place of a run, and what a call did. And document 02, request 3: a
--- seat that switches to newer rules, on a day of its own, and the rules of a seat at any place; later requests add to the rules.
+-- Document 01, "A run, as demand 3 means it": calls, runs, the ledger of a seat at any place of a run, and what a call
+-- did. And document 02, request 3: a seat that switches to newer rules, on a day of its own, and the rules of a seat at
+-- any place; later requests add to the rules.
 use Prim.Native.Nat.{ℕ, zero, suc, _+_, _≤_}
 use mathlib.Core.Path.{_≡_}
 use mathlib.Core.Bool.{Bool, true, false, cond, not, _&&_, _||_}
@@ -34,8 +35,8 @@ FewBad o bad = countBelow (λ i. bad (seatOf i)) (o .seats) ≤ o .faults
 abbrev pub honest : Opening → (Seat → Bool) → Seat → Bool
 honest o bad s = ltb (s .0) (o .seats) && not (bad s)
 
--- A call with what it was answered: a message and its reply; a waiting list: what the lent buffer held, the reply, and what the
--- buffer held after it; or the seat switches to the newer rules, which nothing answers.
+-- A call with what it was answered: a message and its reply; a waiting list: what the lent buffer held, the reply, and
+-- what the buffer held after it; or the seat switches to the newer rules, which nothing answers.
 pub data Call : Type 0 where
   message : Message → Reply → Call
   waitingList : List ℕ → ListReply → List ℕ → Call
@@ -46,14 +47,15 @@ pub record Event : Type 0 where
   pub at : Seat
   pub call : Call
 
--- "A run is any list of calls": nothing yet, with the rules under which each seat starts; or a run and one more event after it.
+-- "A run is any list of calls": nothing yet, with the rules under which each seat starts; or a
+-- run and one more event after it.
 infixl 20 _▹_
 pub data Run : Type 0 where
   start : (Seat → Rules) → Run
   _▹_ : Run → Event → Run
 
--- A place in a run: its end, or a place in the run before its last event. `Within (p ▹ e) r`: e is an event of r, and p is all that
--- came before it.
+-- A place in a run: its end, or a place in the run before its last event. `Within (p ▹ e) r`: e is an event of r,
+-- and p is all that came before it.
 pub data Within : Run → Run → Type 0 where
   at-end : {r : Run} → Within r r
   sooner : {p r : Run} {e : Event} → Within p r → Within p (r ▹ e)
@@ -86,15 +88,15 @@ unfoldable pub rulesAt : Seat → Run → Rules
 rulesAt s (start from) = from s
 rulesAt s (r ▹ e) = cond (sameSeat (e .at) s) (rulesAfter (rulesAt s r) (e .call)) (rulesAt s r)
 
--- the ledger that a call leaves, under the rules of its seat. A waiting list leaves it as it is; after a switch the seat goes on with what the ledger that it
--- held becomes
+-- the ledger that a call leaves, under the rules of its seat. A waiting list leaves it as it is; after a switch the
+-- seat goes on with what the ledger that it held becomes
 abbrev pub nextLedger : Rules → Ledger → Call → Ledger
 nextLedger v l (message m r) = stepUnder v l m .next
 nextLedger v l (waitingList before r after) = l
 nextLedger v l switch = switched v l
 
--- the ledger of seat s after a run: "each holds a book just opened from that page", and "Each call gets the book that the call before it at that
--- seat left, at first the opened one"
+-- the ledger of seat s after a run: "each holds a book just opened from that page", and "Each call gets the book that
+-- the call before it at that seat left, at first the opened one"
 unfoldable pub ledgerAt : Opening → Seat → Run → Ledger
 ledgerAt o s (start from) = freshLedger o
 ledgerAt o s (r ▹ e) = cond (sameSeat (e .at) s) (nextLedger (rulesAt s r) (ledgerAt o s r) (e .call)) (ledgerAt o s r)
@@ -117,13 +119,15 @@ acksWith l (Ack s t) = withAck (entryOf l (t .account)) s t .acks
 acksWith l (Decision t) = entryOf l (t .account) .acks
 acksWith l (Inquiry a) = entryOf l a .acks
 
--- the slip of a P that is left free: under the first rules, under which a seat that has taken request 2 alone is too, any; since request 3, none
+-- the slip of a P that is left free: under the first rules, under which a seat that has taken request 2 alone is
+-- too, any; since request 3, none
 abbrev pub freeSlip : Rules → Reply → Option Transfer
 freeSlip firstRules r = proposal r
 freeSlip sinceRequest3 r = none
 freeSlip sinceRequest5 r = none
 
--- a reply that may stand for the one that is due, given its slip that is left free, if any, and the acks: P with any of the slips with the most acks
+-- a reply that may stand for the one that is due, given its slip that is left free, if any, and the acks: P with any
+-- of the slips with the most acks
 abbrev pub StandsFor : Reply → Option Transfer → List AckSlot → Reply → Type 0
 StandsFor due none acks r = r ≡ due
 StandsFor due (some t) acks r = (u : Transfer) × (r ≡ Propose u) × (hasMost acks u ≡ true)
@@ -136,8 +140,8 @@ MayReply v l m r = StandsFor (stepUnder v l m .reply) (freeSlip v (stepUnder v l
 abbrev pub InAnyOrder : Ledger → List ℕ → Type 0
 InAnyOrder l accounts = (a : ℕ) → count (eqb a) accounts ≡ bit (waitsAt l a)
 
--- What a waiting list may reply and leave in the buffer: the order is free under every set of rules, since seats take request 6 of document 02 on
--- different days, and no rules tell which have.
+-- What a waiting list may reply and leave in the buffer: the order is free under every set of rules, since seats take
+-- request 6 of document 02 on different days, and no rules tell which have.
 abbrev pub MayList : Ledger → List ℕ → ListReply → List ℕ → Type 0
 MayList l before r after = (accounts : List ℕ) × InAnyOrder l accounts × Lists accounts before r after
 

@@ -1,4 +1,5 @@
--- Document 01: "A seat's slate is fed the opening page and the seat's calls with their replies, nothing else." Plain numbers, no modulus.
+-- Document 01: "A seat's slate is fed the opening page and the seat's calls with their replies, nothing
+-- else." Plain numbers, no modulus.
 use Prim.Native.Nat.{ℕ, zero, suc, _+_, _-_}
 use mathlib.Core.Bool.{Bool, cond}
 use mathlib.Core.List.{List, [], _∷_}
@@ -52,7 +53,8 @@ leave s t =
       waiting = without t (s .waiting);
     }
 
--- "while some waiting slip's value is at most its payer's balance, the one with the lowest account leaves": at most n of them
+-- "while some waiting slip's value is at most its payer's balance, the one with the lowest
+-- account leaves": at most n of them
 unfoldable pub leaveAtMost : ℕ → Slate → Slate
 leaveAtMost zero s = s
 leaveAtMost (suc n) s = elim (lowest (covered s) (s .waiting)) [ none ↦ s | some t ↦ leaveAtMost n (leave s t) ]
@@ -64,7 +66,8 @@ leaveAll s = leaveAtMost (length (s .waiting)) s
 abbrev pub join : Slate → Transfer → Slate
 join s t = record { balance = s .balance; count = s .count; waiting = t ∷ s .waiting }
 
--- "At a call answered K, the call's slip joins the waiting ones. Then .." "Any other call, refused or not, leaves the slate as it is."
+-- "At a call answered K, the call's slip joins the waiting ones. Then .." "Any other call, refused or
+-- not, leaves the slate as it is."
 abbrev pub nextSlate : Slate → Option Transfer → Slate
 nextSlate s none = s
 nextSlate s (some t) = leaveAll (join s t)

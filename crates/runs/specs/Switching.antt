@@ -1,5 +1,6 @@
--- Document 02, request 3: "That two honest books cannot part holds across the switch." Demand 3 itself is of runs in which seats switch; what makes it true
--- stands here, and how little each switch changes. The proofs are in Switching.antt of the crate agreement.
+-- Document 02, request 3: "That two honest books cannot part holds across the switch." Demand 3 itself is of runs in
+-- which seats switch; what makes it true stands here, and how little each switch changes. The proofs are in
+-- Switching.antt of the crate agreement.
 use Prim.Native.Nat.{_≤_, _<_}
 use mathlib.Core.Path.{_≡_}
 use mathlib.Core.Logic.{_⊎_}
@@ -21,14 +22,16 @@ SameSaveTies acks q r =
     (q ≡ r)
     ⊎ ((t : Transfer) × (u : Transfer) × (q ≡ Propose t) × (r ≡ Propose u) × (hasMost acks t ≡ true) × (hasMost acks u ≡ true))
 
--- between the first rules and those since request 3 no reply to this message differs, save the slip that P carries on a tie, and no ledger after it
+-- between the first rules and those since request 3 no reply to this message differs, save the slip that P carries
+-- on a tie, and no ledger after it
 abbrev pub Alike : Ledger → Message → Type 0
 Alike l m =
     (q r : Reply) → MayReply firstRules l m q → MayReply sinceRequest3 l m r
     → SameSaveTies (acksWith l m) q r × (stepUnder firstRules l m .next ≡ stepUnder sinceRequest3 l m .next)
 
--- "Acks and rulings for such slips are still taken, in old bundles as in new ones, because seats that switch on different days would otherwise book
--- different numbers": whatever slip they are for, and whatever the ledger. So are questions.
+-- "Acks and rulings for such slips are still taken, in old bundles as in new ones, because seats that
+-- switch on different days would otherwise book different numbers": whatever slip they are for, and
+-- whatever the ledger. So are questions.
 pub record TakenAlike (l : Ledger) : Type 0 where
   pub acks : (s : Seat) (t : Transfer) → Alike l (Ack s t)
   pub rulings : (t : Transfer) → Alike l (Decision t)
@@ -38,8 +41,9 @@ pub record TakenAlike (l : Ledger) : Type 0 where
 abbrev pub forgotten : Ledger → Ledger
 forgotten l = withEntries l (map withNoneRetained (l .entries))
 
--- Request 5: "6 and 8 are unchanged otherwise", and so is all else. Whatever the ledger, between the rules since request 3 and those since request 5 the late P
--- alone differs, and what is retained: a message that brings none has the same reply and leaves the same; and a late P sets the mark, and leaves all else as it was.
+-- Request 5: "6 and 8 are unchanged otherwise", and so is all else. Whatever the ledger, between the rules since
+-- request 3 and those since request 5 the late P alone differs, and what is retained: a message that brings none has
+-- the same reply and leaves the same; and a late P sets the mark, and leaves all else as it was.
 pub record LateAlone (l : Ledger) (m : Message) : Type 0 where
   pub otherwise : lateIn l m ≡ false
       → (stepUnder sinceRequest5 l m .reply ≡ stepUnder sinceRequest3 l m .reply)
@@ -59,14 +63,16 @@ NewestStays =
     → (rulesAt z (run ▹ record { at = s; call = switch }) ≡ rulesAt z run)
     × (ledgerAt o z (run ▹ record { at = s; call = switch }) ≡ ledgerAt o z run)
 
--- "a seat goes on with the book it holds, marks included". A slip t that a seat acked, at a later place of the run, where its number is not booked:
+-- "a seat goes on with the book it holds, marks included". A slip t that a seat acked, at a later place of the run,
+-- where its number is not booked:
 pub record MarkStands (o : Opening) (s : Seat) (place : Run) (t : Transfer) : Type 0 where
   -- the mark stands
   pub marked : entryOf (ledgerAt o s place) (t .account) .acked ≡ true
   -- so after "this and every later switch" the same slip meets 20 if it pays its payer, since 20 comes before 12
   pub same-slip : (v : Rules) → rank sinceRequest3 ≤ rank v → paysItself t ≡ true
       → stepUnder v (ledgerAt o s place) (Circulated t) .reply ≡ Refuse SelfPayment
-  -- and any slip of that account and number, in range and to another recipient than the payer, meets 12, where none waits
+  -- and any slip of that account and number, in range and to another recipient than the
+  -- payer, meets 12, where none waits
   pub other-slip : (v : Rules) → rank sinceRequest3 ≤ rank v → (u : Transfer) → u .account ≡ t .account → u .number ≡ t .number → paysItself u ≡ false
       → outOfRange (ledgerAt o s place) u ≡ false → entryOf (ledgerAt o s place) (t .account) .pending ≡ Empty
       → stepUnder v (ledgerAt o s place) (Circulated u) .reply ≡ Refuse AlreadyAcked

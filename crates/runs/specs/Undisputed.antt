@@ -37,8 +37,8 @@ reached z s t run = happened (λ e. sameSeat (e .at) z && brings s t (e .call)) 
 abbrev pub AllReached : Opening → (Seat → Bool) → Seat → Transfer → Run → Type 0
 AllReached o bad z t run = (s : Seat) → honest o bad s ≡ true → reached z s t run ≡ true
 
--- A slip t that every honest seat acked: where acks of it from all of them arrived, none too early, it has been accepted; and nowhere is
--- another slip with its account and number put forward or accepted.
+-- A slip t that every honest seat acked: where acks of it from all of them arrived, none too early, it has been
+-- accepted; and nowhere is another slip with its account and number put forward or accepted.
 pub record Undisputed (o : Opening) (bad : Seat → Bool) (run : Run) (t : Transfer) : Type 0 where
   pub accepted-there : (p : Run) (z : Seat) → Within p run → honest o bad z ≡ true → AllReached o bad z t p → acceptedBy z t p ≡ true
   pub none-other-proposed : (q : Run) (d : Event) (u : Transfer) → Within (q ▹ d) run → proposed (d .call) ≡ some u

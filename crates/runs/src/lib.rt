@@ -1,1 +1,2 @@
-// No code: the runs of a whole group, and what is claimed of them, stand in specs/, and single runs that try it in proofs/.
+// No code: the runs of a whole group, and what is claimed of them, stand in specs/, and
+// single runs that try it in proofs/.

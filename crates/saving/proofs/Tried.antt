@@ -1,4 +1,5 @@
--- The definitions on small inputs: a book whose words are all 0, and each answer of a load where a later test would hold too.
+-- The definitions on small inputs: a book whose words are all 0, and each answer of a load
+-- where a later test would hold too.
 use Prim.Native.Nat.{ℕ, zero, suc, _+_, _<_}
 use native.Mathlib.Omega.{arith}
 use mathlib.Core.Path.{_≡_, refl}

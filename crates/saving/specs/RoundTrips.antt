@@ -25,7 +25,8 @@ pub record LoadsBack (words : List ℕ) : Type 0 where
 abbrev pub SaveThenLoad : Type 0
 SaveThenLoad = (words : List ℕ) → BookWords words → LoadsBack words
 
--- Bytes that are loaded are the saved form of the words that they give: so no others are, and no two files are of one book.
+-- Bytes that are loaded are the saved form of the words that they give: so no others are,
+-- and no two files are of one book.
 pub record SavesBack (bytes words : List ℕ) : Type 0 where
   pub book : BookWords words
   pub same : saved words ≡ bytes

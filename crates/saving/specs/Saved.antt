@@ -1,4 +1,5 @@
--- A book as bytes that its host keeps: "a mark, the number of its format, the words, and document 01's sum over all bytes before it", little-endian.
+-- A book as bytes that its host keeps: "a mark, the number of its format, the words, and document 01's sum over all
+-- bytes before it", little-endian.
 use Prim.Native.Nat.{ℕ, _+_, _*_}
 use mathlib.Core.Path.{_≡_}
 use mathlib.Core.Bool.{Bool, not, cond}
@@ -51,7 +52,8 @@ wrongLength bytes = not (eqb (length bytes) savedSize)
 abbrev pub wrongSum : List ℕ → Bool
 wrongSum bytes = not (eqb (number4 bytes sumAt) (bodySum (take sumAt bytes)))
 
--- "a wrong mark, an unknown format, a length that is not that format's, a wrong sum, in this order, each with its own answer"
+-- "a wrong mark, an unknown format, a length that is not that format's, a wrong sum, in this
+-- order, each with its own answer"
 unfoldable pub loadReply : List ℕ → LoadReply
 loadReply bytes =
     cond (wrongMark bytes) WrongMark

@@ -1,5 +1,6 @@
-// A book as bytes that its host keeps, on a disk or wherever it likes, and goes on from after a restart. What the bytes are is said in
-// specs/Saved.antt: a mark, the number of the format, the words, and document 01's sum over all bytes before it, little-endian.
+// A book as bytes that its host keeps, on a disk or wherever it likes, and goes on from after a restart. What the
+// bytes are is said in specs/Saved.antt: a mark, the number of the format, the words, and document 01's sum over all
+// bytes before it, little-endian.
 use bundle::sums::body_sum;
 use layout::BOOK_WORDS;
 use pages::numbers::number4_at;
@@ -84,7 +85,8 @@ fn take_words(bytes: &[u8], words: &mut [u32])
     }
 }
 
-// Loads a saved book: the words are those that were saved, whatever they were; or it is refused, and they are as they were.
+// Loads a saved book: the words are those that were saved, whatever they were; or it is
+// refused, and they are as they were.
 pub fn load(words: &mut [u32; BOOK_WORDS], bytes: &[u8]) -> LoadReply
     ensures { λ r. ⌜ LoadedAs (now (words .entry)) (now (bytes .entry)) r (now (words .exit)) ⌝ }
 {

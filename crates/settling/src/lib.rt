@@ -1,4 +1,5 @@
-// Settling, where the ledger lies: while some waiting transfer is affordable, the one with the lowest account is applied.
+// Settling, where the ledger lies: while some waiting transfer is affordable, the one with
+// the lowest account is applied.
 use model::Account;
 use model::Slot;
 use model::Transfer;
@@ -49,7 +50,8 @@ fn lowest_affordable(words: &[u32]) -> Found
     Found::Nothing
 }
 
-// "Booking takes the value from the payer, .. sets current to the slip's number, and clears the account's acks and marks."
+// "Booking takes the value from the payer, .. sets current to the slip's number, and clears
+// the account's acks and marks."
 fn debit(words: &mut [u32], a: Account, t: Transfer)
     requires { ⌜ length (now words) ≡ bookWords ⌝ }
     requires { ⌜ a .0 < 32 ⌝ }
@@ -74,7 +76,8 @@ fn credit(words: &mut [u32], a: Account, value: u32)
     put_balance(words, a, wrapping_add_u32(balance_of(words, a), value));
 }
 
-// Applies (books) the transfer that waits at an account: payer first, then recipient, who may be the payer. There is no account behind the 32nd.
+// Applies (books) the transfer that waits at an account: payer first, then recipient, who may be the payer. There
+// is no account behind the 32nd.
 fn apply_at(words: &mut [u32], a: Account)
     requires { ⌜ length (now words) ≡ bookWords ⌝ }
     requires { ⌜ a .0 < 32 ⌝ }
@@ -93,8 +96,9 @@ fn apply_at(words: &mut [u32], a: Account)
     }
 }
 
-// "While some waiting slip's value is at most its payer's balance, the one with the lowest account is booked. .. Settling calls itself
-// again on the waiting slips that are left, one fewer each time": that number falls at each call. How many were booked is replied.
+// "While some waiting slip's value is at most its payer's balance, the one with the lowest account is booked. ..
+// Settling calls itself again on the waiting slips that are left, one fewer each time": that number falls at each call.
+// How many were booked is replied.
 pub fn settle_all(words: &mut [u32]) -> u32
     requires { ⌜ length (now words) ≡ bookWords ⌝ }
     ensures { λ r. ⌜ Settles (now (words .entry)) (now (words .exit)) r ⌝ }

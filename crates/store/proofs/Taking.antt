@@ -1,4 +1,5 @@
--- A block copied word by word from a book held from before: nothing yet, one word more, and what the whole copy makes of the entry; and the group's words.
+-- A block copied word by word from a book held from before: nothing yet, one word more, and what the whole copy makes
+-- of the entry; and the group's words.
 use Prim.Native.Nat.{ℕ, _+_, _*_, _<_}
 use native.Mathlib.Decide.{ℕ-discrete, decLt}
 use native.Mathlib.Omega.{arith}

@@ -29,8 +29,9 @@ abbrev pub numbered : ℕ → Slot → Slot
 numbered n Empty = Empty
 numbered n (Full t) = Full (withNumber t n)
 
--- The slip's value and recipient are in the seat's places. A place says that its slip is of its account and the next number, and that it is there by a
--- value other than 0: so the slip is recorded if its number is the next and it has a value. (Every slip that is taken is so.)
+-- The slip's value and recipient are in the seat's places. A place says that its slip is of its account and the next
+-- number, and that it is there by a value other than 0: so the slip is recorded if its number is the next and it has a
+-- value. (Every slip that is taken is so.)
 pub record AckStored (before : List ℕ) (s : Seat) (t : Transfer) (after : List ℕ) : Type 0 where
   pub words : Changes before (t .account .0) (put (put (block before (t .account .0)) (ackValuesPlace + s .0) (t .value)) (ackRecipientsPlace + s .0) (t .recipient .0)) after
   pub recorded : t .number ≡ entryIn before (t .account) .current + 1 → 0 < t .value
@@ -41,8 +42,8 @@ pub record PendingStored (before : List ℕ) (t : Transfer) (after : List ℕ) :
   pub words : Changes before (t .account .0) (put (put (put (block before (t .account .0)) pendingValuePlace (t .value)) pendingNumberPlace (t .number)) pendingRecipientPlace (t .recipient .0)) after
   pub waits : 0 < t .value → ledgerIn after ≡ withEntry (ledgerIn before) (t .account) (withPending (entryIn before (t .account)) t)
 
--- The slip's value, number and recipient are in the places of what is retained, with the word of the next number's mark: it is retained if it has a
--- value.
+-- The slip's value, number and recipient are in the places of what is retained, with the word of the next number's
+-- mark: it is retained if it has a value.
 pub record RetainedStored (before : List ℕ) (t : Transfer) (after : List ℕ) : Type 0 where
   pub words : Changes before (t .account .0) (put (put (put (put (block before (t .account .0)) retainedValuePlace (t .value)) retainedNumberPlace (t .number)) retainedRecipientPlace (t .recipient .0)) retainedProposedPlace (block before (t .account .0) proposedPlace)) after
   pub retained : 0 < t .value → ledgerIn after ≡ withEntry (ledgerIn before) (t .account) (withRetained (entryIn before (t .account)) t)

@@ -1,5 +1,6 @@
-// The ledger's words, read and stored. No other crate computes an index of them. Each function asks for a book's length, for an account
-// below 32 and a seat below 16, and for nothing of the ledger's content; what it promises is said of the ledger that the words are.
+// The ledger's words, read and stored. No other crate computes an index of them. Each function asks for a book's
+// length, for an account below 32 and a seat below 16, and for nothing of the ledger's content; what it promises is
+// said of the ledger that the words are.
 use layout::ACCOUNTS;
 use layout::ACK_RECIPIENTS;
 use layout::ACK_VALUES;
@@ -192,7 +193,8 @@ pub fn is_retained_proposed(words: &[u32], a: Account) -> bool
     word(words, a, RETAINED_PROPOSED) != 0
 }
 
-// A seat's ack for the account's next number, if any is recorded, told with a number: the next, as the caller has found it.
+// A seat's ack for the account's next number, if any is recorded, told with a number: the
+// next, as the caller has found it.
 pub fn ack_from(words: &[u32], a: Account, s: Seat, next: u32) -> Slot
     requires { ⌜ length (now words) ≡ bookWords ⌝ }
     requires { ⌜ (a .0 < 32) × (s .0 < 16) ⌝ }
@@ -299,7 +301,8 @@ pub fn put_none_retained(words: &mut [u32], a: Account)
     clear(words, a, RETAINED_VALUE, BLOCK);
 }
 
-// A number was booked: it is the current one, and the account's acks, marks and what waited are cleared. What is retained stays.
+// A number was booked: it is the current one, and the account's acks, marks and what waited are
+// cleared. What is retained stays.
 pub fn put_booked(words: &mut [u32], a: Account, number: u32)
     requires { ⌜ length (now words) ≡ bookWords ⌝ }
     requires { ⌜ a .0 < 32 ⌝ }
@@ -309,7 +312,8 @@ pub fn put_booked(words: &mut [u32], a: Account, number: u32)
     put_word(words, a, CURRENT, number);
 }
 
-// The words of an account's block in a book held from before, which ends before what is retained, are those of its block now.
+// The words of an account's block in a book held from before, which ends before what is
+// retained, are those of its block now.
 fn copy_block(held: &[u32], words: &mut [u32], a: Account)
     requires { ⌜ length (now held) ≡ heldBookWords ⌝ }
     requires { ⌜ length (now words) ≡ bookWords ⌝ }

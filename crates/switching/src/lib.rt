@@ -1,4 +1,5 @@
-// The switch to the rules since request 5 of document 02, where the ledger lies: a book held from before is taken over into one of today's layout.
+// The switch to the rules since request 5 of document 02, where the ledger lies: a book held from before is taken
+// over into one of today's layout.
 use model::Account;
 use model::Slot;
 use store::pending_of;

@@ -42,7 +42,8 @@ module _ (acks : List AckSlot) (number : ℕ) where
   one-slip : {c : ℕ} (i : ℕ) (u : Transfer) → ackAt acks i ≡ Full u → acksFor u acks ≤ c → (w : Transfer) → ackAt acks i ≡ Full w → acksFor w acks ≤ c
   one-slip i u at few w full = let same : w ≡ u = cc (at, full) in rw same few
 
-  -- The leader of the seats before i: nobody, where none of them acked; or the first by its seat of the slips with the most acks among theirs.
+  -- The leader of the seats before i: nobody, where none of them acked; or the first by its seat of the slips
+  -- with the most acks among theirs.
   pub data Led (i : ℕ) (best : Leader) : Type 0 where
     nobody : ((k : ℕ) → k < i → ackAt acks k ≡ Empty) → best ≡ noLeader → Led i best
     leads : (seat : ℕ) (v : Transfer) → ackAt acks seat ≡ Full v → best ≡ leading v → NoMore (acksFor v acks) i

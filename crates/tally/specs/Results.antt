@@ -45,19 +45,22 @@ atNext e t = withNumber t (e .current + 1)
 abbrev pub seatsOf : Tally → List ℕ
 seatsOf y = map (λ s. s .0) (take (y .equal) (y .gathered))
 
--- What is gathered for a slip, told as one of its account's next number; where it is, "exactly those seats, each once, lowest first".
+-- What is gathered for a slip, told as one of its account's next number; where it is, "exactly those
+-- seats, each once, lowest first".
 pub record Gathers (ws : List ℕ) (t : Transfer) (y : Tally) : Type 0 where
   pub tally : y ≡ tallyOf (atNext (entryIn ws (t .account)) t) (entryIn ws (t .account) .acks)
   pub exactly : t .number ≡ entryIn ws (t .account) .current + 1 → ExactlyGathered t (entryIn ws (t .account) .acks) (seatsOf y)
 
--- Whether a slip is to be put forward, told by a tally: at least n - f acks are recorded, fewer are equal to the tally's slip than are recorded, and
--- nothing was put forward. Of a tally for one of the recorded slips this is the model's test.
+-- Whether a slip is to be put forward, told by a tally: at least n - f acks are recorded, fewer are equal
+-- to the tally's slip than are recorded, and nothing was put forward. Of a tally for one of the recorded
+-- slips this is the model's test.
 pub record Decides (ws : List ℕ) (a : Account) (y : Tally) (r : Bool) : Type 0 where
   pub told : r ≡ (leb (ledgerIn ws .seats - ledgerIn ws .faults) (y .recorded) && ltb (y .equal) (y .recorded) && not (entryIn ws a .proposed))
   pub decided : (t : Transfer) → t .account ≡ a → t .number ≡ entryIn ws a .current + 1 → y ≡ tallyOf t (entryIn ws a .acks) → 0 < y .equal
       → r ≡ mustPropose (ledgerIn ws .seats) (ledgerIn ws .faults) (y .recorded) (entryIn ws a)
 
--- Of the leader so far and the slip in a place, if any, the one with more of the acks; on a tie the leader. Slips are told with this number.
+-- Of the leader so far and the slip in a place, if any, the one with more of the acks; on a tie the leader.
+-- Slips are told with this number.
 abbrev pub leaderOf : List AckSlot → ℕ → Leader → Slot → Leader
 leaderOf acks number best Empty = best
 leaderOf acks number best (Full u) =

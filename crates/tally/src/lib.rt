@@ -1,5 +1,5 @@
-// The acks that are recorded for an account's next number, and what follows from them. Their places tell no number: a transfer is compared as one of
-// the next.
+// The acks that are recorded for an account's next number, and what follows from them. Their places tell no number: a
+// transfer is compared as one of the next.
 use basics::slots::is_full;
 use basics::slots::is_held;
 use model::Account;
@@ -85,8 +85,8 @@ fn plus_ack(before: Tally, t: Transfer, p: Seat, s: Slot) -> Tally
     y
 }
 
-// Goes through the seats from 0 and gathers those whose ack for the account's next number equals the transfer: the running tally, which each recorded ack
-// brings up to date.
+// Goes through the seats from 0 and gathers those whose ack for the account's next number equals the transfer: the
+// running tally, which each recorded ack brings up to date.
 pub fn gather(words: &[u32], t: Transfer) -> Tally
     requires { ⌜ length (now words) ≡ bookWords ⌝ }
     requires { ⌜ t .account .0 < 32 ⌝ }
@@ -109,8 +109,8 @@ pub fn gather(words: &[u32], t: Transfer) -> Tally
     y
 }
 
-// At least n - f acks are recorded, two conflict, and nothing was put forward for this number. All are of one number, so that two which are not equal
-// conflict: two conflict where fewer are equal to one of them than are recorded.
+// At least n - f acks are recorded, two conflict, and nothing was put forward for this number. All are of one number,
+// so that two which are not equal conflict: two conflict where fewer are equal to one of them than are recorded.
 pub fn must_propose(words: &[u32], a: Account, y: Tally) -> bool
     requires { ⌜ length (now words) ≡ bookWords ⌝ }
     requires { ⌜ a .0 < 32 ⌝ }
@@ -125,7 +125,8 @@ pub fn must_propose(words: &[u32], a: Account, y: Tally) -> bool
     y.equal < y.recorded
 }
 
-// How many of the acks that are recorded for an account's next number are equal to the transfer, where only the number is wanted.
+// How many of the acks that are recorded for an account's next number are equal to the transfer,
+// where only the number is wanted.
 fn acks_for(words: &[u32], t: Transfer) -> u8
     requires { ⌜ length (now words) ≡ bookWords ⌝ }
     requires { ⌜ t .account .0 < 32 ⌝ }
@@ -147,7 +148,8 @@ pub struct Leader {
     pub acks: u8,
 }
 
-// Of the leader and the transfer that a seat acked for t's account, if any, told with t's number, the one with more acks; on a tie the leader.
+// Of the leader and the transfer that a seat acked for t's account, if any, told with t's number, the one with
+// more acks; on a tie the leader.
 fn better(words: &[u32], best: Leader, t: Transfer, s: Seat) -> Leader
     requires { ⌜ length (now words) ≡ bookWords ⌝ }
     requires { ⌜ (t .account .0 < 32) × (s .0 < 16) ⌝ }
@@ -170,8 +172,8 @@ fn better(words: &[u32], best: Leader, t: Transfer, s: Seat) -> Leader
     }
 }
 
-// The most acked transfer of t's account, told with t's number: going through the seats from 0, the first of those with the most acks. Where nothing is
-// recorded its account, value and recipient are 0.
+// The most acked transfer of t's account, told with t's number: going through the seats from 0, the first of those with
+// the most acks. Where nothing is recorded its account, value and recipient are 0.
 pub fn most_acked(words: &[u32], t: Transfer) -> Transfer
     requires { ⌜ length (now words) ≡ bookWords ⌝ }
     requires { ⌜ t .account .0 < 32 ⌝ }

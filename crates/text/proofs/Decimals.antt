@@ -1,4 +1,5 @@
--- Laws of decimal numbers: the last digit stands behind the digits of the tenth part, and how many digits there are at most.
+-- Laws of decimal numbers: the last digit stands behind the digits of the tenth part, and how
+-- many digits there are at most.
 use Prim.Native.Nat.{ℕ, zero, suc, _*_, _/_, _%_, _≤_, _<_}
 use native.Mathlib.Omega.{arith}
 use mathlib.Core.Path.{_≡_, ap}

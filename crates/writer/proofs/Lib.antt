@@ -1,4 +1,5 @@
--- The two round trips, `write-then-read` and `read-then-write`; and what the functions' proofs share. Each function's own proof stands in its folder.
+-- The two round trips, `write-then-read` and `read-then-write`; and what the functions' proofs share. Each function's
+-- own proof stands in its folder.
 pub mod Pages
 pub mod WriteThenRead
 pub mod Turns

@@ -1,4 +1,5 @@
--- One page: what is written of it is read, how long its body is, that its entry is right wherever it stands, and that all of it is bytes.
+-- One page: what is written of it is read, how long its body is, that its entry is right wherever it
+-- stands, and that all of it is bytes.
 use Prim.Native.Nat.{ℕ, suc, _≤_, _<_}
 use native.Mathlib.Omega.{arith}
 use mathlib.Core.Path.{_≡_, refl, ap, sym, _∙_}
@@ -42,7 +43,8 @@ opening-read o fits =
     ∙ words-read (o .balances) 3 (pageZero o .body) [] (fits .balances) (sym (append-nil (wordBytes (o .balances)))) in
     ap (λ bs. record { seats = o .seats; faults = o .faults; accounts = o .accounts; balances = bs }) balances
 
--- What a page has wherever it stands in a bundle: a body of its kind's length, and an entry that is right with its start.
+-- What a page has wherever it stands in a bundle: a body of its kind's length, and an
+-- entry that is right with its start.
 pub record Right (i : ℕ) (p : Page) : Type 0 where
   pub size : length (p .body) ≡ bodyLength (p .kind)
   pub entry : (start sum : ℕ) → wrongEntry i start (record { kind = p .kind; seat = p .seat; start = start; sum = sum }) ≡ false

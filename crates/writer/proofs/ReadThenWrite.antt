@@ -1,4 +1,5 @@
--- A sound bundle is the bundle of its own pages, and each page behind page 0 is that of a message: so written out again it is the same bytes.
+-- A sound bundle is the bundle of its own pages, and each page behind page 0 is that of a message: so written
+-- out again it is the same bytes.
 use Prim.Native.Nat.{ℕ, zero, suc, _+_, _*_, _-_, _≤_, _<_}
 use native.Mathlib.Numerals.{add-one}
 use native.Mathlib.Omega.{arith}

@@ -1,4 +1,5 @@
--- Worked facts of the records' definitions, computed: which record is told, in which order the codes are tried, and what messages records are.
+-- Worked facts of the records' definitions, computed: which record is told, in which order the codes are tried,
+-- and what messages records are.
 use Prim.Native.Nat.{ℕ}
 use mathlib.Core.Path.{_≡_, refl}
 use mathlib.Core.List.{List, [], _∷_, _++_}
@@ -10,7 +11,8 @@ use Rattle.model.specs.Writing.{writeReply}
 use Rattle.model.proofs.Rows.{slip, ackBy}
 use Rattle.writer.specs.RecordLists.{messagesOf, recordFaults}
 
--- a record of a kind and a seat, with the slip (2, 1, 4, 3) or, of a question, account 2 and nine bytes that are not read
+-- a record of a kind and a seat, with the slip (2, 1, 4, 3) or, of a question, account 2
+-- and nine bytes that are not read
 abbrev item : ℕ → ℕ → List ℕ
 item kind seat = kind ∷ seat ∷ 2 ∷ 1 ∷ 0 ∷ 0 ∷ 0 ∷ 4 ∷ 0 ∷ 0 ∷ 0 ∷ 3 ∷ []
 

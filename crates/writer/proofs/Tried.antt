@@ -1,5 +1,5 @@
--- The round trips tried: a page and a list with a message of each kind keep the premises; what is written of them is read as them alone, and written
--- out from what was read it is the same.
+-- The round trips tried: a page and a list with a message of each kind keep the premises; what is written of them is
+-- read as them alone, and written out from what was read it is the same.
 use Prim.Native.Nat.{ℕ, _<_}
 use native.Mathlib.Omega.{arith}
 use mathlib.Core.Path.{_≡_, refl}

@@ -1,4 +1,5 @@
--- What the loops over the messages know at each turn: of the first `count` of the array, those behind the i-th are left.
+-- What the loops over the messages know at each turn: of the first `count` of the array,
+-- those behind the i-th are left.
 use Prim.Native.Nat.{ℕ, _+_, _*_, _≤_, _<_}
 use native.Mathlib.Omega.{arith}
 use mathlib.Core.Path.{_≡_, ap, sym, _∙_}

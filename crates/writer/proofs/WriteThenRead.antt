@@ -1,4 +1,5 @@
--- The first round trip: what is written is sound, and read, it is the page and the list. The statement is `WriteThenRead` in specs/RoundTrips.antt.
+-- The first round trip: what is written is sound, and read, it is the page and the list. The statement is
+-- `WriteThenRead` in specs/RoundTrips.antt.
 use Prim.Native.Nat.{ℕ, suc, _+_, _*_, _≤_, _<_}
 use native.Mathlib.Nat.{zero-add}
 use native.Mathlib.Numerals.{add-one}
@@ -39,7 +40,8 @@ bundle-length ps =
 first-of : (bytes : List ℕ) (at : ℕ) {b : ℕ} {rest : List ℕ} → drop at bytes ≡ b ∷ rest → getD bytes at 0 ≡ b
 first-of bytes at e = let here : at ≡ at + 0 = omega arith in ap (λ k. getD bytes k 0) here ∙ sym (getD-drop at bytes 0 0) ∙ rw e
 
--- A place in a bundle: these pages are left, the entry of the first is entry i and its body starts at s; behind all entries stands `after`.
+-- A place in a bundle: these pages are left, the entry of the first is entry i and its body starts at s;
+-- behind all entries stands `after`.
 record Here (bytes after : List ℕ) (i s : ℕ) (ps : List Page) : Type 0 where
   pub entries : drop (2 + 8 * i) bytes ≡ contentsOf s ps ++ after
   pub bodies : drop s bytes ≡ bodiesOf ps

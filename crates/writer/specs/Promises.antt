@@ -13,8 +13,8 @@ use Rattle.model.specs.Writing.{written, writeFaults, writeReply, bufferAfter}
 use Rattle.bundle.specs.Promises.{longest}
 use Rattle.writer.specs.RecordLists.{messagesOf, recordFaults}
 
--- A bundle that is to be written, and what may be at fault: the answer, the document's number and values of it, and the buffer after it. A length that is
--- replied is no longer than the longest bundle.
+-- A bundle that is to be written, and what may be at fault: the answer, the document's number and values of it, and the
+-- buffer after it. A length that is replied is no longer than the longest bundle.
 pub record WroteBundle (faults : List Fault) (bundle before : List ℕ) (r : WriteReply) (after : List ℕ) : Type 0 where
   pub meets : r ≡ writeReply faults bundle
   pub told : valuesOfWrite r ≡ faultValues (length bundle) faults

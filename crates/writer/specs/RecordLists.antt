@@ -1,4 +1,5 @@
--- Messages as a host gives them: fixed records of 12 bytes, kind (1), seat (1), body (10). Of a question's body the account is read and the rest is not.
+-- Messages as a host gives them: fixed records of 12 bytes, kind (1), seat (1), body (10). Of a question's body the
+-- account is read and the rest is not.
 use Prim.Native.Nat.{ℕ, zero, suc, _+_, _*_, _/_, _%_}
 use mathlib.Core.Bool.{Bool, not}
 use mathlib.Core.List.{List, [], _∷_}

@@ -1,4 +1,5 @@
--- Document 02, request 1: "Reading the result yields that page and that list. Writing out a bundle that was read without refusal yields its bytes."
+-- Document 02, request 1: "Reading the result yields that page and that list. Writing out a bundle that was read
+-- without refusal yields its bytes."
 use Prim.Native.Nat.{ℕ, suc, _+_, _≤_, _<_}
 use mathlib.Core.Path.{_≡_}
 use mathlib.Core.List.{List, [], _∷_}
@@ -50,8 +51,8 @@ pub record Reads (bytes : List ℕ) (o : Opening) (ms : List Message) : Type 0 w
   pub page : (p : Page) × (readNext bytes 0 ≡ taken p 1) × (openingOf (p .body) ≡ o)
   pub messages : ReadsFrom bytes 1 ms
 
--- What is written is bytes, at most 18,123 of them, which the check finds sound with one entry more than there are messages; and read, it is what
--- was written.
+-- What is written is bytes, at most 18,123 of them, which the check finds sound with one entry more than there are
+-- messages; and read, it is what was written.
 pub record ReadsBack (o : Opening) (ms : List Message) : Type 0 where
   pub bytes : Bytes (written o ms)
   pub short : length (written o ms) ≤ longest

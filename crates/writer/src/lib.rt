@@ -108,9 +108,9 @@ fn put_bundle(
     put_bodies(out, others, messages, count)
 }
 
-// Writes the bundle of a page and the first `count` of the messages into the front of the buffer that is lent, and replies its length; what stands
-// behind it stays. 18 for more than 999 messages, whatever the array holds; then 19 for a buffer that is shorter than the bundle. A refusal leaves the
-// buffer as it was.
+// Writes the bundle of a page and the first `count` of the messages into the front of the buffer that is lent, and
+// replies its length; what stands behind it stays. 18 for more than 999 messages, whatever the array holds; then 19 for
+// a buffer that is shorter than the bundle. A refusal leaves the buffer as it was.
 pub fn write(
     page: Opening,
     messages: [Message; MOST_MESSAGES],

@@ -1,5 +1,5 @@
-// Numbers as bytes, little-endian: one function for each width, the inverse of the one in `pages::numbers` that reads it; and the bytes written at a place
-// of a lent buffer, where the place behind them is replied.
+// Numbers as bytes, little-endian: one function for each width, the inverse of the one in `pages::numbers` that reads
+// it; and the bytes written at a place of a lent buffer, where the place behind them is replied.
 use basics::output::put;
 ghost use Prim.Native.Nat.{_*_};
 ghost use mathlib.Core.Path.{_≡_};

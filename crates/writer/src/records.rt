@@ -88,8 +88,9 @@ fn messages_in(records: &[u8], count: usize) -> [Message; MOST_MESSAGES]
     messages
 }
 
-// Writes the bundle of a page and of the messages in the records, as `write` does. 18 for more than 999 whole records; then 14 with the entry of the
-// lowest record whose kind is no message's or that has a seat where its kind has none; 15 where the last record is not whole; 19.
+// Writes the bundle of a page and of the messages in the records, as `write` does. 18 for more than 999 whole records;
+// then 14 with the entry of the lowest record whose kind is no message's or that has a seat where its kind has none; 15
+// where the last record is not whole; 19.
 pub fn write_records(page: Opening, records: &[u8], out: &mut [u8]) -> WriteReply
     ensures { λ r. ⌜ WroteRecords page (now (records .entry)) (now (out .entry)) r (now (out .exit)) ⌝ }
 {

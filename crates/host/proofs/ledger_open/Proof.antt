@@ -1,4 +1,5 @@
--- A page of another length is refused; else the reply carries the code of the page that was read, and each arm returns what its reply carries.
+-- A page of another length is refused; else the reply carries the code of the page that was read, and each arm
+-- returns what its reply carries.
 use mathlib.Core.Path.{refl, sym, ap, _∙_}
 use mathlib.Core.List.{[], _∷_}
 use borrow.Author.Needs.{needs}

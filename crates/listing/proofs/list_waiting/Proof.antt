@@ -1,4 +1,5 @@
--- The loop keeps at the front of the buffer the accounts before `i` at which a slip waits, and behind them what the buffer held before.
+-- The loop keeps at the front of the buffer the accounts before `i` at which a slip waits, and behind
+-- them what the buffer held before.
 use Prim.Native.Nat.{_≤_, _-_}
 use native.Mathlib.Omega.{arith}
 use mathlib.Core.Path.{_≡_, ap, sym, _∙_}

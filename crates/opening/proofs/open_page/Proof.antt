@@ -1,4 +1,5 @@
--- The check's answer is the first refusal of the rules. With none the page's numbers are in their ranges, and the cast keeps the sum.
+-- The check's answer is the first refusal of the rules. With none the page's numbers are in their
+-- ranges, and the cast keeps the sum.
 use Prim.Native.Nat.{ℕ, _≤_}
 use native.Mathlib.Omega.{arith}
 use borrow.Author.Needs.{needs}

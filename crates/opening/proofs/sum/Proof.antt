@@ -1,4 +1,5 @@
--- The loop's invariant: what is summed, with the sum of what is left, is the whole sum. 32 balances keep that far below 2^64.
+-- The loop's invariant: what is summed, with the sum of what is left, is the whole sum. 32
+-- balances keep that far below 2^64.
 use Prim.Native.Nat.{_+_, _-_, _≤_}
 use native.Mathlib.Omega.{arith}
 use mathlib.Core.Path.{_≡_, ap}

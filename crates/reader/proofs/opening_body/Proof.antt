@@ -118,21 +118,25 @@ module _ {M : Type 1} (𝓤 : URA M) (H : Heap 𝓤) (A : Atoms 𝓤) (W : Given
         qed W ((‵ (flft κ q) ⊛ ‵ ftrue) ∷ ‵ (owns (ShrSlice (named 0) κ u8 ∷ []) (s, tt) (v ∷ [], tt)) ∷ []) ∵ enter ! C Λ code.function (v ∷ []) _ $
         alloc1 ! (λ l₀. alloc1 ! (λ l₁. alloc1 ! (λ l₂. alloc1 ! (λ l₃. alloc1 ! (λ l₄. alloc1 ! (λ l₅. alloc0 ! $ params1 ! $ pass1 ! (init ! 8 refl (shr-slice-lawful 𝓤 H A W (named 0) κ u8 .typed s (v ∷ []) s-is .0)) $ pass0 ! $
         move ! (13 ∷ []) $ fsplit ! $ use1 W (‵ Own ⊛ ‵ Own) (shr-slice-copy 𝓤 H A W (named 0) κ u8 .twice s (v ∷ [])) $ split ! $ move ! (15 ∷ 0 ∷ []) $ use2 W (raw (Promised 𝓤 H A start.ended Start .pre to-start)) goes-start $
-        -- [what `start` asks; what the bundle owns; true; room for _5; …; room for _4; …; room for _3; …; room for _2; …; _1; …; room for _0; …]
+        -- [what `start` asks; what the bundle owns; true; room for _5; …; room for _4; …; room for _3; …; room
+        -- for _2; …; _1; …; room for _0; …]
         asks 𝓤 H A start.ended Start to-start ! fm known-start (λ r _. (r .bundle ≡ s) × (r .next ≡ 0)) (λ r ws. refl) (and-then ! (load ! (from ! (stop !)) (look ! 11 refl)) (no-more !)) (λ u r ws made is.
         -- [what the reading owns; the token; the last values; what the bundle owns; true; room for _5; …]
         land ! (from ! (stop !)) (init ! 9 refl (reading r u is)) $
         assigns ! (of-opd ! (load ! (from ! (stop !)) (look ! 9 refl))) (from ! (stop !)) (init ! 11 refl (reading r u is)) $
         assigns ! (addr ! (from ! (stop !))) (from ! (stop !)) (init ! 5 refl (tt, tt)) $
         move ! (1 ∷ []) $ use1 W (‵ (flft κ q) ⊛ ‵ ftrue) (id⊢ 𝓤 _) $ split ! $ move ! (12 ∷ 2 ∷ 0 ∷ []) $
-        -- [_2; what the reading owns; the token; true; the last values; what the bundle owns; true; _5; …; room for _4; …; _3; …; what frees _2; _1; …; room for _0; …]
+        -- [_2; what the reading owns; the token; true; the last values; what the bundle owns; true; _5; …; room for _4;
+        -- …; _3; …; what frees _2; _1; …; room for _0; …]
         takes 𝓤 H A W at-mem run κ q l₂ r ! fm known-take u (λ a δ. and-then ! (load ! (from ! (stop !)) (look ! 7 refl)) (no-more !)) (λ u′ p r′ reads gone is′ is-r′.
-        -- [_2; what the reading owns; the token; what the reply owns; true; the last values; what the bundle owns; true; _5; …; room for _4; …; _3; …; what frees _2; _1; …; room for _0; …]
+        -- [_2; what the reading owns; the token; what the reply owns; true; the last values; what the bundle owns;
+        -- true; _5; …; room for _4; …; _3; …; what frees _2; _1; …; room for _0; …]
         land ! (from ! (stop !)) (init ! 10 refl (EL.lawful S.the-type S′.the-laws 𝓤 H A W tt .typed p _ is′ .0)) $
         assigns ! (of-opd ! (load ! (from ! (stop !)) (look ! 0 refl))) (from ! (stop !)) (store ! 12 refl (reading r′ _ is-r′)) $
         move ! (2 ∷ 1 ∷ []) $ use2 W (raw (Promised 𝓤 H A shown.ended Shown .pre (to-shown r′))) (goes-shown r′) $
         asks 𝓤 H A shown.ended Shown (to-shown r′) ! fm known-shown (λ x _. now x ≡ lastBody (now (r′ .bundle)) (r′ .next)) (λ x ws. refl) (and-then ! (load ! (from ! (stop !)) (look ! 11 refl)) (no-more !)) (λ w x ws′ shows is-x.
-        -- [what the body owns; the token; the last values; _2; what the reply owns; true; the last values; what the bundle owns; true; _5; …; _4; …; _3; …; what frees _2; _1; …; room for _0; …]
+        -- [what the body owns; the token; the last values; _2; what the reply owns; true; the last values; what the
+        -- bundle owns; true; _5; …; _4; …; _3; …; what frees _2; _1; …; room for _0; …]
         land ! (from ! (stop !)) (init ! 18 refl (shr-slice-lawful 𝓤 H A W (named 0) κ u8 .typed x _ is-x .0)) $
         returns ! (look ! 18 refl) $ move ! (18 ∷ 19 ∷ 16 ∷ 17 ∷ 3 ∷ 15 ∷ 13 ∷ 14 ∷ 11 ∷ 12 ∷ 9 ∷ 10 ∷ []) $ frees-all ! ((_, l₀, _) ∷ (_, l₁, _) ∷ (_, l₂, _) ∷ (_, l₃, _) ∷ (_, l₄, _) ∷ (_, l₅, _) ∷ []) $
         keep ! (0 ∷ 1 ∷ 6 ∷ []) $ by ! (exits x w (shows ∙ shows-opening s r r′ p made reads gone)))))))))))

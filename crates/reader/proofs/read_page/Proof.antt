@@ -1,5 +1,5 @@
--- A reading is made of the bundle and the place, in a local, and lent to `take`, whose reply is returned. A `&[u8]` is Copy: what it
--- owns is had once for the parameter at exit, and once inside the reading.
+-- A reading is made of the bundle and the place, in a local, and lent to `take`, whose reply is returned. A `&[u8]` is
+-- Copy: what it owns is had once for the parameter at exit, and once inside the reading.
 use mathlib.Core.Path.{refl}
 use Prim.Native.Nat.{ℕ, _<_, _^_}
 use mathlib.Core.List.{List, [], _∷_}
@@ -95,9 +95,11 @@ module _ {M : Type 1} (𝓤 : URA M) (H : Heap 𝓤) (A : Atoms 𝓤) (W : Given
         move ! (11 ∷ []) $ fsplit ! $ use1 W (‵ Own ⊛ ‵ Own) (shr-slice-copy 𝓤 H A W (named 0) κ u8 .twice s (v ∷ [])) $ split ! $
         nothing ! $ owned ! u16 (Is u16) (uint-makes 𝓤 H A W w16) (c .next) _ (refl, fits) $ fjoin ! $ move ! (1 ∷ 0 ∷ []) $ fjoin ! $ use1 W (‵ (B (α₁ κ) .own made (T′.lowered made ∷ []))) (own-shut 𝓤 H A W (D (α₁ κ)) (L (α₁ κ)) (s, (c .next, tt))) $
         move ! (13 ∷ []) $ split ! $ move ! (7 ∷ 2 ∷ 0 ∷ []) $
-        -- [_3; what the reading owns; the token; true; what the bundle owns; what the place owns; _4; …; what frees _3; _2; …; _1; …; room for _0; …]
+        -- [_3; what the reading owns; the token; true; what the bundle owns; what the place owns; _4; …; what frees
+        -- _3; _2; …; _1; …; room for _0; …]
         takes 𝓤 H A W at-mem run κ q l₃ made ! fm known (T′.lowered made) (λ a δ. and-then ! (load ! (from ! (stop !)) (look ! 6 refl)) (no-more !)) (λ u p d′ reads gone is is′.
-        -- [_3; what the reading owns; the token; what the reply owns; true; what the bundle owns; what the place owns; _4; …; what frees _3; _2; …; _1; …; room for _0; …]
+        -- [_3; what the reading owns; the token; what the reply owns; true; what the bundle owns; what the place owns;
+        -- _4; …; what frees _3; _2; …; _1; …; room for _0; …]
         land ! (from ! (stop !)) (init ! 14 refl (EL.lawful S.the-type S′.the-laws 𝓤 H A W tt .typed p _ is .0)) $
         returns ! (look ! 14 refl) $ move ! (14 ∷ 15 ∷ 12 ∷ 13 ∷ 10 ∷ 11 ∷ 0 ∷ 9 ∷ 7 ∷ 8 ∷ []) $ frees-all ! ((_, l₀, _) ∷ (_, l₁, _) ∷ (_, l₂, _) ∷ (_, l₃, _) ∷ (_, l₄, _) ∷ []) $
         keep ! (1 ∷ 2 ∷ 4 ∷ []) $ by ! (exits c-is p u reads)))))))

@@ -1,4 +1,5 @@
--- The reading is taken apart, and `body_before` is called: what it returns is a part of the bundle that the reading holds.
+-- The reading is taken apart, and `body_before` is called: what it returns is a part of the
+-- bundle that the reading holds.
 use mathlib.Core.Path.{_≡_, refl}
 use Prim.Native.Nat.{ℕ, _<_, _^_}
 use mathlib.Core.List.{List, [], _∷_}

@@ -1,5 +1,5 @@
--- A reading is made of the bundle that is passed and entry 0. A `&[u8]` is Copy, so what it owns is had twice: once for the
--- parameter at exit, and once inside the result, beside the facts of the entry.
+-- A reading is made of the bundle that is passed and entry 0. A `&[u8]` is Copy, so what it owns is had twice: once for
+-- the parameter at exit, and once inside the result, beside the facts of the entry.
 use mathlib.Core.Path.{refl}
 use Prim.Native.Nat.{ℕ}
 use mathlib.Core.List.{List, [], _∷_}

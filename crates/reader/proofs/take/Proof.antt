@@ -1,6 +1,6 @@
--- The borrow is opened; `read_next` is called on the bundle that the reading holds and its next entry, and `place_after` on the
--- reply; the entry is stored beside the bundle, and the borrow is closed at the reading that has gone on. A reading is Copy, so what
--- its bundle owns is had beside what it owns whole.
+-- The borrow is opened; `read_next` is called on the bundle that the reading holds and its next entry, and
+-- `place_after` on the reply; the entry is stored beside the bundle, and the borrow is closed at the reading that has
+-- gone on. A reading is Copy, so what its bundle owns is had beside what it owns whole.
 use mathlib.Core.Path.{_≡_, refl, ap}
 use Prim.Native.Nat.{ℕ, _<_, _^_}
 use mathlib.Core.List.{List, [], _∷_}
@@ -144,14 +144,16 @@ module _ {M : Type 1} (𝓤 : URA M) (H : Heap 𝓤) (A : Atoms 𝓤) (W : Given
         move ! (13 ∷ []) $ fsplit ! $ fsplit3 ! $ drop ! $ move ! (15 ∷ []) $ split ! $ move ! (2 ∷ 3 ∷ 0 ∷ []) $
         unlocks (D (α₁ κ′)) (L (α₁ κ′)) ! tt h b o (λ was.
         use1 W (‵ (fat fullShare (T′.mir erased) b o (T′.lowered h))) (W .laws .raw-at fullShare (T′.mir erased) b o (T′.lowered h)) $
-        -- [the reading's cell; what it owns; the open borrow; the name, twice; 'a's token; true; _5; …; _4; …; _3; …; _2; …; _1; …; room for _0; …]
+        -- [the reading's cell; what it owns; the open borrow; the name, twice; 'a's token; true; _5; …; _4; …; _3;
+        -- …; _2; …; _1; …; room for _0; …]
         assigns ! (of-opd ! (load ! (from ! (hop ! (look ! 15 refl) (fld ! refl (stop !)))) (look-in ! 0 (sub ! 0 refl (whole !))))) (from ! (stop !)) (init ! 11 refl (tt, held was .1 .0)) $
         assigns ! (of-opd ! (load ! (from ! (hop ! (look ! 15 refl) (fld ! refl (stop !)))) (look-in ! 0 (sub ! 1 refl (whole !))))) (from ! (stop !)) (init ! 9 refl (tt, held was .1 .1 .0)) $
         assigns ! (agg ! (and-then ! (load ! (from ! (stop !)) (look ! 9 refl)) (no-more !))) (from ! (stop !)) (init ! 7 refl (tt, (held was .1 .1 .0, tt))) $
         move ! (1 ∷ 5 ∷ []) $ use2 W (raw (Promised 𝓤 H A read-next.ended ReadNext .pre to-read) ⊛ ‵ (Own h)) (goes-read (held was .1 .1 .0 .fits)) $ split ! $
         asks 𝓤 H A read-next.ended ReadNext to-read ! fm known-read (λ p _. ReadAs (now (h .bundle)) (h .next) p) (λ p ws. refl) (and-then ! (load ! (from ! (stop !)) (look ! 11 refl)) (and-then ! (load ! (from ! (stop !)) (look ! 7 refl)) (no-more !))) (λ u p ws reads is.
         move ! (2 ∷ []) $ drop ! $
-        -- [what the reply owns; 'a's token; what the reading owns; its cell; the open borrow; the name, twice; true; _5; …; _4; …; _3; …; room for _2; …; _1; …; room for _0; …]
+        -- [what the reply owns; 'a's token; what the reading owns; its cell; the open borrow; the name, twice; true;
+        -- _5; …; _4; …; _3; …; room for _2; …; _1; …; room for _0; …]
         land ! (from ! (stop !)) (init ! 14 refl (replied p u is)) $
         owned ! S.the-row (Is S.the-row) (EL.makes S.the-type S′.the-plain 𝓤 H A) p (u ∷ []) is $ use1 W (raw (Promised 𝓤 H A place-after.ended PlaceAfter .pre (to-place p u))) (goes-place p u) $
         asks 𝓤 H A place-after.ended PlaceAfter (to-place p u) ! fm known-place (λ n _. n ≡ nextOf p) (λ n ws. refl) (and-then ! (load ! (from ! (stop !)) (look ! 15 refl)) (no-more !)) (λ u′ n ws′ place is′.
@@ -161,7 +163,8 @@ module _ {M : Type 1} (𝓤 : URA M) (H : Heap 𝓤) (A : Atoms 𝓤) (W : Given
         assigns ! (of-opd ! (load ! (from ! (stop !)) (look ! 14 refl))) (from ! (stop !)) (init ! 18 refl (replied p u is)) $
         move ! (2 ∷ []) $ use1 W (‵ (Own (moved n))) (again n (is′ .1)) $ move ! (3 ∷ 0 ∷ 4 ∷ 5 ∷ 6 ∷ []) $
         use1 W (‵ (cellAt fullShare (B (α₁ κ′) .mir) (T′.lowered (moved n) ∷ []) b o)) (W .laws .at-raw fullShare (T′.mir erased) b o (T′.lowered (moved n))) $ closes ! tt (B (α₁ κ′)) (moved n) (T′.lowered (moved n) ∷ []) b o $
-        -- [the name; the borrow; its token; what the reply owns; 'a's token; true; _5; …; _4; …; _3; …; _2; …; _1; …; _0; …]
+        -- [the name; the borrow; its token; what the reply owns; 'a's token; true; _5; …; _4;
+        -- …; _3; …; _2; …; _1; …; _0; …]
         returns ! (look ! 16 refl) $ move ! (16 ∷ 17 ∷ 14 ∷ 15 ∷ 12 ∷ 13 ∷ 10 ∷ 11 ∷ 8 ∷ 9 ∷ 6 ∷ 7 ∷ []) $ frees-all ! ((_, l₀, _) ∷ (_, l₁, _) ∷ (_, l₂, _) ∷ (_, l₃, _) ∷ (_, l₄, _) ∷ (_, l₅, _) ∷ []) $
         keep ! (0 ∷ 1 ∷ 2 ∷ 3 ∷ 4 ∷ []) $ by ! (exits p u n reads place))))))))))
 

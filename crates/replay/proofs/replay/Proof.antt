@@ -1,4 +1,5 @@
--- The check decides: a refused bundle's line, or what the opening page and the entries give. The buffer is as long as the longest text.
+-- The check decides: a refused bundle's line, or what the opening page and the entries give. The buffer
+-- is as long as the longest text.
 use Rattle.replay.proofs.Sound.{sound-count}
 use Rattle.replay.proofs.Telling.{wrote-sound, wrote-refused, replayed}
 use mathlib.Core.Path.{_≡_, sym, _∙_}

@@ -1,4 +1,5 @@
--- What was read is replayed: the buffer's front, or the whole of it. The buffer holds one byte more than the longest bundle has.
+-- What was read is replayed: the buffer's front, or the whole of it. The buffer holds one byte
+-- more than the longest bundle has.
 use Prim.Native.Nat.{ℕ, _<_}
 use native.Mathlib.Omega.{arith}
 use mathlib.Core.Path.{_≡_, sym, ap, _∙_}

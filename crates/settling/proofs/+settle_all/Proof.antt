@@ -1,4 +1,5 @@
--- What falls is the number of waiting transfers: applying the lowest affordable one leaves one fewer. The laws of a turn give the rest.
+-- What falls is the number of waiting transfers: applying the lowest affordable one leaves one fewer.
+-- The laws of a turn give the rest.
 use Prim.Native.Nat.{ℕ, _<_}
 use native.Mathlib.Omega.{arith}
 use mathlib.Core.Path.{_≡_, sym, _∙_}

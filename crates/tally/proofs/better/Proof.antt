@@ -1,4 +1,5 @@
--- The ack that was read, told with the number, is the seat's ack, and how many are equal to it is that ack's count: so the test compares the two.
+-- The ack that was read, told with the number, is the seat's ack, and how many are equal to it is that ack's
+-- count: so the test compares the two.
 use Prim.Native.Nat.{ℕ, _+_, _≤_, _<_}
 use native.Mathlib.Omega.{arith}
 use mathlib.Core.Path.{_≡_, refl, ap, _∙_}

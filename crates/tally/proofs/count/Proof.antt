@@ -1,5 +1,5 @@
--- The borrow is opened, and the tally behind it is copied out and passed to `with_place`; the tally that comes back is stored,
--- and the borrow is closed at it. A tally is plain data, so what the copy owns is made anew.
+-- The borrow is opened, and the tally behind it is copied out and passed to `with_place`; the tally that comes back is
+-- stored, and the borrow is closed at it. A tally is plain data, so what the copy owns is made anew.
 use mathlib.Core.Path.{_≡_, refl}
 use Prim.Native.Nat.{ℕ, _<_}
 use mathlib.Core.List.{_∷_, List, []}

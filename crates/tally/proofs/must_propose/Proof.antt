@@ -1,5 +1,5 @@
--- Each of the two early returns shows that one part of the definition's test fails; after them its third part decides: the acks in words are all of the
--- account and its next number.
+-- Each of the two early returns shows that one part of the definition's test fails; after them its third part decides:
+-- the acks in words are all of the account and its next number.
 use Prim.Native.Nat.{ℕ, _+_, _-_, _<_}
 use native.Mathlib.Omega.{arith}
 use mathlib.Core.Path.{_≡_, ap, sym, _∙_}

@@ -1,5 +1,5 @@
--- The tally is copied into a local, which is lent to `count` for a lifetime that is made for the call, and is read once that
--- lifetime is over. A tally is plain data, so what the copy owns is made anew.
+-- The tally is copied into a local, which is lent to `count` for a lifetime that is made for the call, and is read once
+-- that lifetime is over. A tally is plain data, so what the copy owns is made anew.
 use mathlib.Core.Path.{_≡_, refl}
 use Prim.Native.Nat.{ℕ, _<_}
 use mathlib.Core.List.{_∷_, List, []}
@@ -101,7 +101,8 @@ module _ {M : Type 1} (𝓤 : URA M) (H : Heap 𝓤) (A : Atoms 𝓤) (W : Given
         lft-new ! tt (λ α. tally-owned ! y _ y-is $ move ! (6 ∷ 0 ∷ []) $
         lends T.the-type T′.the-laws ! tt T′.mir refl (named 0) (α ∷ []) y l₅ vy (λ δ.
         move ! (2 ∷ 0 ∷ []) $ use2 W (raw (Promised 𝓤 H A count.ended Count .pre (to α l₅ δ))) (asked α l₅ δ ok) $
-        -- [what `count` asks; the lender's part; _7; …; room for _6; …; what frees _5; _4; …; _3; …; _2; …; _1; …; room for _0; …]
+        -- [what `count` asks; the lender's part; _7; …; room for _6; …; what frees _5; _4; …; _3;
+        -- …; _2; …; _1; …; room for _0; …]
         asks 𝓤 H A count.ended Count (to α l₅ δ) ! fm known (λ _ ws. ws .0 ≡ counted y t p s) (λ r ws. refl) (and-then ! (load ! (from ! (stop !)) (look ! 2 refl)) (and-then ! (load ! (from ! (stop !)) (look ! 11 refl)) (and-then ! (load ! (from ! (stop !)) (look ! 9 refl)) (and-then ! (load ! (from ! (stop !)) (look ! 7 refl)) (no-more !))))) (λ u r ws e none.
         drop ! $
         -- [the token; the last values; the lender's part;
@@ -110,7 +111,8 @@ module _ {M : Type 1} (𝓤 : URA M) (H : Heap 𝓤) (A : Atoms 𝓤) (W : Given
         -- the lifetime is ended, and the local is taken back at its last value
         use1 W (‵ (flft (α ∷ []) fullShare) ⊛ ‵ ftrue) (id⊢ 𝓤 _) $ split ! $ lft-end ! tt $ move ! (2 ∷ []) $ fsplit ! $ move ! (2 ∷ 4 ∷ 0 ∷ []) $
         regains T.the-type T′.the-laws ! tt T′.mir refl (ws .0) l₅ (λ is.
-        -- [_5; what the tally owns; true; true; _7; …; _6; …; what frees _5; _4; …; _3; …; _2; …; _1; …; room for _0; …]
+        -- [_5; what the tally owns; true; true; _7; …; _6; …; what frees _5; _4; …; _3;
+        -- …; _2; …; _1; …; room for _0; …]
         assigns ! (of-opd ! (load ! (from ! (stop !)) (look ! 0 refl))) (from ! (stop !)) (init ! 17 refl (tally-typed 𝓤 H A W (ws .0) _ is)) $
         returns ! (look ! 17 refl) $ move ! (17 ∷ 18 ∷ 15 ∷ 16 ∷ 13 ∷ 14 ∷ 11 ∷ 12 ∷ 9 ∷ 10 ∷ 0 ∷ 8 ∷ 6 ∷ 7 ∷ 4 ∷ 5 ∷ []) $ frees-all ! ((_, l₀, _) ∷ (_, l₁, _) ∷ (_, l₂, _) ∷ (_, l₃, _) ∷ (_, l₄, _) ∷ (_, l₅, _) ∷ (_, l₆, _) ∷ (_, l₇, _) ∷ []) $
         keep ! (0 ∷ []) $ by ! (exits (ws .0) e)))))))))))))

@@ -1,4 +1,5 @@
--- The loop's invariant: `start` is where the body of entry `i` starts, low enough that the next one fits, and no entry before it is wrong.
+-- The loop's invariant: `start` is where the body of entry `i` starts, low enough that the next one fits,
+-- and no entry before it is wrong.
 use Prim.Native.Nat.{ℕ, _+_, _*_, _-_, _≤_, _<_}
 use native.Mathlib.Numerals.{add-one}
 use native.Mathlib.Omega.{arith}

@@ -72,7 +72,8 @@ module _ (ws : List ℕ) (s : Seat) (t : Transfer) (q : Check) (q-is : q ≡ che
         undecided : k ≡ false → (r : Reply) (after : List ℕ) → NotEnough mid t y r after → NotLate ws s t r after
         undecided few r after x = follows r after (x .decided next among tally (sym compares ∙ few))
 
--- the same of the words at the end, whatever was done first: it asks that the ack is recorded in them and that the tally is theirs
+-- the same of the words at the end, whatever was done first: it asks that the ack is recorded in
+-- them and that the tally is theirs
 undecided-in : (ws mid : List ℕ) (s : Seat) (t : Transfer) (y : Tally) (r : Reply) (after : List ℕ) → NotEnough mid t y r after
     → (q : Check) → q ≡ checkOf (firstRefusal (rulesIn (ledgerIn ws) (Ack s t))) → q ≡ Passed
     → (n f : ℕ) → n ≡ ledgerIn mid .seats → f ≡ ledgerIn mid .faults → (k : Bool) → k ≡ enough n f (y .equal) → k ≡ false

@@ -1,4 +1,5 @@
--- A start behind the end leaves nothing; of a slice that ends inside the body all that is left is taken; else the lengths agree.
+-- A start behind the end leaves nothing; of a slice that ends inside the body all that is left is
+-- taken; else the lengths agree.
 use Prim.Native.Nat.{_-_}
 use native.Mathlib.Omega.{arith}
 use native.Mathlib.Nat.{add-sub-cancel-left}

@@ -1,4 +1,5 @@
--- In each arm the kind decides the definition, and the transfer or the account is read from the body; any other kind is no message.
+-- In each arm the kind decides the definition, and the transfer or the account is read from the
+-- body; any other kind is no message.
 use Prim.Native.Nat.{ℕ}
 use borrow.Author.Needs.{needs}
 use borrow.Author.Tests.{ne-eqb}

@@ -1,4 +1,5 @@
--- What holds of every run that obeys the definitions, premises or not: the statement is `Always` in specs/Facts.antt.
+-- What holds of every run that obeys the definitions, premises or not: the statement is `Always` in Facts.antt of the
+-- crate runs.
 use Prim.Native.Nat.{_+_, _≤_, _<_}
 use native.Mathlib.Omega.{arith}
 use mathlib.Core.Path.{_≡_, refl, ap, sym, _∙_}

@@ -1,4 +1,4 @@
--- Demand 3, whole: the statement is `Demand3` in specs/Claims.antt.
+-- Demand 3, whole: the statement is `Demand3` in Claims.antt of the crate runs.
 use mathlib.Core.Path.{sym, _∙_}
 use Rattle.runs.specs.Claims.{Demand3}
 use Rattle.agreement.proofs.Places.{obeys-before}

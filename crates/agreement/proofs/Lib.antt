@@ -1,5 +1,5 @@
--- Demand 3, proved: `demand3`, in Demand3.antt. The files before it are its steps. The
--- statements are in the crate runs.
+-- Demand 3, proved: `demand3`, in Demand3.antt. The files before it are its steps; behind it stand the proofs of the
+-- other statements. The statements are in the crate runs.
 pub mod Places
 pub mod Proposals
 pub mod Deeds

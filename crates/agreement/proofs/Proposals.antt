@@ -1,4 +1,4 @@
--- What a message is replied in a run, P above all: the statements are in specs/Proposals.antt.
+-- What a message is replied in a run, P above all: the statements are in Proposals.antt of the crate runs.
 use mathlib.Core.Path.{_≡_, refl, sym, _∙_}
 use mathlib.Core.Bool.{true, false}
 use mathlib.Core.Option.{Option, none, some}

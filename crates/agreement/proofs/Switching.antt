@@ -1,4 +1,4 @@
--- What makes demand 3 true across a switch: the statements are in specs/Switching.antt.
+-- How little a switch changes, and what a seat keeps across it: the statements are in Switching.antt of the crate runs.
 use Prim.Native.Nat.{_+_, _≤_, _<_}
 use native.Mathlib.Omega.{arith}
 use mathlib.Core.Path.{_≡_, refl, ap, sym, subst, _∙_}

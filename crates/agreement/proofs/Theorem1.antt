@@ -1,5 +1,6 @@
--- The paper's Theorem 1: the statement is `Theorem1` in specs/Undisputed.antt. What every honest seat acked is accepted
--- wherever all their acks arrived, and no other slip with its account and number is put forward or accepted.
+-- The paper's Theorem 1: the statement is `Theorem1` in Undisputed.antt of the crate runs. What every honest seat
+-- acked is accepted wherever all their acks arrived, and no other slip with its account and number is put forward or
+-- accepted.
 use Prim.Native.Nat.{ℕ, zero, suc, _+_, _*_, _≤_, _<_}
 use native.Mathlib.Decide.{decLe}
 use native.Mathlib.Omega.{arith}

@@ -1,6 +1,7 @@
 // What a host in Rust or C calls: the exported functions of the static library. Each takes any numbers and any bytes,
-// and its contract fixes the result by the documents' definitions. In C a slice is a pointer and a length, an array the
-// pointer alone; include/saplull.h states each of them for C.
+// and its contract fixes the result, by the documents' definitions and by those in specs/, which say how a reply is
+// told as numbers. In C a slice is a pointer and a length, an array the pointer alone; include/saplull.h states each of
+// them for C.
 use crate::handing::answer;
 use crate::handing::check_handed;
 use basics::codes::code_of;

@@ -1,6 +1,6 @@
-// Plays document 01's known pages, and those of document 02's requests 2, 3 and 5, on the compiled ledger and writes
-// each reply as a line: the letter, then the values in two digits. What it must write is the file `stdout` beside
-// src/, taken from the documents.
+// Plays the openings and messages of document 01's known pages, and cases of document 02's requests 2, 3 and 5, on the
+// compiled ledger and writes each reply as a line: the letter, then the values in two digits. What it must write is the
+// file `stdout` beside src/, taken from the documents.
 use basics::codes::code_of;
 use basics::codes::letter_of;
 use layout::BOOK_WORDS;

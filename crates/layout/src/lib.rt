@@ -1,5 +1,6 @@
 // The book (document 01) as plain words, in memory that the caller lends: where each thing stands. What the words mean
-// is said in specs/Layout.antt, for every content; only the crate `store` reads and writes them.
+// is said in specs/Layout.antt, for every content; only the crate `store` reads and writes one thing in them, and
+// `saving` copies them as they stand.
 
 // Each of the 32 accounts has a block of words; the group's words stand behind the last block.
 pub const BLOCK: usize = 43;

@@ -1,4 +1,7 @@
--- Documents 01 and 02 as definitions: all that a reader must believe, in reading order.
+-- Documents 01 and 02 as definitions, in reading order: the ledger, its calls, and bundles. The crates above have
+-- definitions of their own in specs/, which a reader must believe too: what words are as a ledger (layout), the text
+-- (text, replay), a saved book (saving), records (writer), numbers for a host (host), runs and what is claimed of them
+-- (runs), and what each function promises.
 pub mod Types
 pub mod Basics
 pub mod Records

@@ -1,4 +1,5 @@
--- The documents' letter, number and values of each answer.
+-- The documents' letter, number and values of the answers of messages, openings, waiting lists, and of the check and
+-- the writer of bundles. Those of a reading stand in specs/ of crate bundle, those of a load in specs/ of crate host.
 use Prim.Native.Nat.{ℕ}
 use mathlib.Core.List.{List, [], _∷_}
 use Rattle.model.specs.Types.{Transfer, Refusal, BadGroup, BadAccounts, SumTooLarge, UnknownSeat, OutOfRange, PastNumber, FutureNumber, AlreadyAccepted, AckRepeated, AckConflicting, InsufficientFunds, AlreadyAcked, BadHeader, BadContents, BadEnd, BadSum, ShortBuffer, TooManyMessages, NoRoom, SelfPayment, Reply, Circulate, Acknowledge, Accept, Propose, Note, Balance, Refuse, OpenReply, Opened, OpenRefused, ListReply, Listed, ListRefused, BundleReply, Sound, BundleRefused, WriteReply, Written, WriteRefused}

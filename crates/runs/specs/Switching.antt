@@ -1,6 +1,6 @@
 -- Document 02, request 3: "That two honest books cannot part holds across the switch." Demand 3 itself is of runs in
--- which seats switch; what makes it true stands here, and how little each switch changes. The proofs are in
--- Switching.antt of the crate agreement.
+-- which seats switch; here stands how little the switches of requests 3 and 5 change, and what a seat keeps. The proofs
+-- are in Switching.antt of the crate agreement.
 use Prim.Native.Nat.{_≤_, _<_}
 use mathlib.Core.Path.{_≡_}
 use mathlib.Core.Logic.{_⊎_}

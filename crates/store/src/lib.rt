@@ -1,6 +1,7 @@
-// The ledger's words, read and stored. No other crate computes an index of them. Each function asks for a book's
-// length, for an account below 32 and a seat below 16, and for nothing of the ledger's content; what it promises is
-// said of the ledger that the words are.
+// The ledger's words, read and stored. No other crate computes where a thing stands in them. A public function asks for
+// a book's length, for an account below 32 and a seat below 16 where it has one, and for nothing of the ledger's
+// content. What it promises is said of the ledger that the words are; of a transfer that is stored, also of the words,
+// since a value of 0 is an empty place.
 use layout::ACCOUNTS;
 use layout::ACK_RECIPIENTS;
 use layout::ACK_VALUES;

@@ -1,34 +1,11 @@
-//! What the trials share: the compiled `daybook`, dice, the counting of checks, and the bundles that are tried.
+//! What is tried, in folders: bundles, messages, books, the writer of bundles, groups of seats and crashes; what the trials
+//! share; and what the benchmark measures.
 
-pub mod any_words;
-pub mod around;
 pub mod bench;
-pub mod checks;
+pub mod books;
+pub mod bundles;
 pub mod crashes;
-pub mod damage;
-pub mod daybook;
-pub mod dice;
-pub mod edges;
 pub mod groups;
-pub mod handed;
-pub mod held;
-pub mod history;
-pub mod known;
-pub mod late;
-pub mod ledgers;
-pub mod lent;
-pub mod openings;
-pub mod packaged;
-pub mod records;
-pub mod rows;
-pub mod saved;
-pub mod seen;
-pub mod self_payments;
-pub mod taken_over;
-pub mod tallies;
-pub mod ties;
-pub mod trial;
-pub mod waiting;
-pub mod wild;
-pub mod writing;
-pub mod wrong_lists;
+pub mod messages;
+pub mod shared;
+pub mod writer;

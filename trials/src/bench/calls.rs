@@ -2,8 +2,8 @@
 
 use super::loads::{loads, Load};
 use super::measures::{best, instructions, row};
-use crate::lent::{told, Lent, Sent, SAVED};
-use crate::records::page_bytes;
+use crate::books::lent::{told, Lent, Sent, SAVED};
+use crate::writer::records::page_bytes;
 use reference::book::{Book, Message, Reply};
 
 /// A book gets so many messages.

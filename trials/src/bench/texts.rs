@@ -2,7 +2,7 @@
 
 use super::loads::Load;
 use super::measures::{best, instructions, row, SIZES};
-use crate::daybook::Replay;
+use crate::shared::daybook::Replay;
 
 /// The most instructions that `daybook` may take, as a ratio.
 pub const MOST: f64 = 0.8;

@@ -2,8 +2,8 @@
 
 use super::loads::{each_kind, page};
 use super::measures::{best, row, SIZES};
-use crate::daybook;
-use crate::records::{page_bytes, records};
+use crate::shared::daybook;
+use crate::writer::records::{page_bytes, records};
 use reference::book::Message;
 use reference::bundle::{write, LONGEST};
 

@@ -15,7 +15,7 @@
 use std::process::ExitCode;
 use trials::bench::loads::loads;
 use trials::bench::{calls, texts, writer};
-use trials::daybook::Replay;
+use trials::shared::daybook::Replay;
 
 const USAGE: &str = "usage: bench --daybook PATH --reference PATH
        bench --play library|second LOAD COUNT";

@@ -5,8 +5,9 @@
 //! with the program `seat`. The last line is `N passed, M failed`, and the status is 1 if one failed.
 
 use std::process::ExitCode;
-use trials::checks::Checks;
-use trials::{crashes, dice};
+use trials::crashes;
+use trials::shared::checks::Checks;
+use trials::shared::dice;
 
 fn main() -> ExitCode {
     let arguments: Vec<String> = std::env::args().skip(1).collect();

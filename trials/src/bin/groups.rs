@@ -6,9 +6,6 @@
 //! `--program` gives some final bundles to the program `daybook` too; `--only` makes one run of the seed and prints it.
 
 use std::process::ExitCode;
-use trials::checks::Checks;
-use trials::daybook;
-use trials::dice::{self, Dice};
 use trials::groups::breach::{self, Breach};
 use trials::groups::coverage::Coverage;
 use trials::groups::demand3;
@@ -17,6 +14,9 @@ use trials::groups::premises;
 use trials::groups::record::Event;
 use trials::groups::seat::Seat;
 use trials::groups::world::{self, World};
+use trials::shared::checks::Checks;
+use trials::shared::daybook;
+use trials::shared::dice::{self, Dice};
 
 /// In so many runs, the first ones, a final bundle goes through the program too.
 const THROUGH_PROGRAM: u64 = 48;

@@ -8,16 +8,17 @@ use reference::book::{Book, Message, OpeningPage, Slip};
 use reference::bundle::write;
 use reference::rules::Rules;
 use std::process::ExitCode;
-use trials::any_words::try_opening;
-use trials::checks::Checks;
-use trials::daybook::{acks_needed, check, is_enough, text_of, waiting};
-use trials::dice::Dice;
-use trials::edges::{wait_of, waits};
-use trials::known::{self, page};
-use trials::lent::{Lent, Sent};
-use trials::records::page_bytes;
-use trials::waiting::{compared, written};
-use trials::{handed, saved, taken_over, writing};
+use trials::books::any_words::try_opening;
+use trials::books::lent::{Lent, Sent};
+use trials::books::waiting::{compared, written};
+use trials::books::{handed, saved, taken_over};
+use trials::bundles::edges::{wait_of, waits};
+use trials::bundles::known::{self, page};
+use trials::shared::checks::Checks;
+use trials::shared::daybook::{acks_needed, check, is_enough, text_of, waiting};
+use trials::shared::dice::Dice;
+use trials::writer::records::page_bytes;
+use trials::writer::writing;
 
 /// The two functions on acks against each other and against document 01: twice the count exceeds n + 3f.
 fn acks(checks: &mut Checks) {

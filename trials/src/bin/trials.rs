@@ -9,13 +9,16 @@
 use reference::book::Book;
 use reference::written::shown;
 use std::process::ExitCode;
-use trials::checks::Checks;
-use trials::dice::{self, Dice};
-use trials::records::written_again;
-use trials::seen::Seen;
-use trials::tallies::{Tallies, CLASSES, WRITTEN_AGAIN};
-use trials::{any_words, damage, daybook, edges, handed, held, known, ledgers, openings};
-use trials::{saved, taken_over, trial, waiting, wild, writing, wrong_lists};
+use trials::books::{any_words, handed, held, saved, taken_over, waiting, wrong_lists};
+use trials::bundles::{damage, edges, known, openings, trial, wild};
+use trials::messages::ledgers;
+use trials::shared::checks::Checks;
+use trials::shared::daybook;
+use trials::shared::dice::{self, Dice};
+use trials::shared::seen::Seen;
+use trials::shared::tallies::{Tallies, CLASSES, WRITTEN_AGAIN};
+use trials::writer::records::written_again;
+use trials::writer::writing;
 
 const USAGE: &str = "trials --examples DIR --program PATH [--seed N] [--bundles N] [--only INDEX]";
 

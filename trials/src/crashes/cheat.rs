@@ -1,8 +1,8 @@
 //! What a member that cheats sends to a seat: slips with one number and another content, and now and then what lets the
 //! numbers go on.
 
-use crate::dice::Dice;
-use crate::ledgers::with_slip;
+use crate::messages::ledgers::with_slip;
+use crate::shared::dice::Dice;
 use reference::book::{Book, Message, OpeningPage, Slip};
 
 /// A small group, in which numbers go on soon.

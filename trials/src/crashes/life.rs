@@ -3,10 +3,10 @@
 use super::cheat;
 use super::network::{Begun, Network};
 use super::steps::Place;
-use crate::dice::Dice;
-use crate::lent::{told, REPLY, SAVED};
-use crate::records::page_bytes;
-use crate::seen::Seen;
+use crate::books::lent::{told, REPLY, SAVED};
+use crate::shared::dice::Dice;
+use crate::shared::seen::Seen;
+use crate::writer::records::page_bytes;
 use reference::book::{Book, Message, OpeningPage, Reply, Slip};
 use std::collections::BTreeMap;
 use std::fmt;

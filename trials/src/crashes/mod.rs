@@ -8,9 +8,9 @@ mod network;
 pub mod seat;
 pub mod steps;
 
-use crate::checks::Checks;
-use crate::dice::Dice;
-use crate::seen::Seen;
+use crate::shared::checks::Checks;
+use crate::shared::dice::Dice;
+use crate::shared::seen::Seen;
 use life::{Claim, Fault, Life};
 use network::Network;
 use std::path::PathBuf;

@@ -1,8 +1,8 @@
 //! The network of one seat, which also kills it: the seat's process, and the pipes to and from it.
 
 use super::steps::{book_of, frame, opening, reply_of, Habit, Place, FRAME, HELD, HOLDS, REFUSALS, TOLD};
-use crate::daybook::PAGE;
-use crate::lent::{Lent, REPLY};
+use crate::books::lent::{Lent, REPLY};
+use crate::shared::daybook::PAGE;
 use reference::book::Message;
 use std::io::{self, Read, Write};
 use std::path::{Path, PathBuf};

@@ -2,8 +2,8 @@
 //! sends the reply.
 
 use super::steps::{bytes_of, part_of, unframed, Habit, Place, FRAME, HOLDS, OPENING, REFUSALS};
-use crate::daybook::PAGE;
-use crate::lent::{Lent, REPLY, SAVED};
+use crate::books::lent::{Lent, REPLY, SAVED};
+use crate::shared::daybook::PAGE;
 use std::fs::{self, File};
 use std::io::{self, Read, Write};
 use std::path::{Path, PathBuf};

@@ -1,9 +1,9 @@
 //! What a seat and its network tell each other: the places of a seat's work, a message as it comes over the pipe, and the
 //! order in which a seat works.
 
-use crate::daybook::PAGE;
-use crate::lent::{Lent, Sent, REPLY, WORDS};
-use crate::records::{record, RECORD};
+use crate::books::lent::{Lent, Sent, REPLY, WORDS};
+use crate::shared::daybook::PAGE;
+use crate::writer::records::{record, RECORD};
 use reference::book::Message;
 use reference::bundle::QUESTION;
 

@@ -3,7 +3,7 @@
 
 use super::printed::Reply;
 use super::record::Record;
-use crate::ties::{self, Ack, Arrivals};
+use crate::messages::ties::{self, Ack, Arrivals};
 use reference::book::Slip;
 use reference::rules::Rules;
 use std::collections::hash_map::{Entry, HashMap};

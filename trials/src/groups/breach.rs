@@ -7,7 +7,7 @@ use super::lies::Lie;
 use super::plan::Plan;
 use super::premises::{self, Premise};
 use super::world;
-use crate::dice::Dice;
+use crate::shared::dice::Dice;
 
 #[derive(Clone, Copy, PartialEq, Eq, Debug)]
 pub enum Breach {

@@ -2,7 +2,7 @@
 
 use super::breach::Breach;
 use super::record::{key_of, Key, Record};
-use crate::dice::Dice;
+use crate::shared::dice::Dice;
 use reference::book::{Message, Slip};
 use std::collections::{BTreeMap, HashMap, HashSet};
 

@@ -2,8 +2,8 @@
 //! real library takes over its words and goes on with the same book.
 
 use super::printed::{Closing, Reply};
-use crate::dice::Dice;
-use crate::lent::{told, Lent, Sent};
+use crate::books::lent::{told, Lent, Sent};
+use crate::shared::dice::Dice;
 use reference::book::{self, Book, Message, OpeningPage};
 use reference::rules::Rules;
 

@@ -5,7 +5,7 @@
 use super::printed::Reply;
 use super::record::{key_of, Call, Key, Record};
 use super::slate::Slate;
-use crate::ties::Ack;
+use crate::messages::ties::Ack;
 use reference::book::{Message, OpeningPage, Slip};
 use reference::rules::Rules;
 use std::collections::{HashMap, HashSet};

@@ -2,7 +2,7 @@
 
 use super::late::Wrong;
 use super::record::key_of;
-use crate::ties::{tied, Ack, Arrivals};
+use crate::messages::ties::{tied, Ack, Arrivals};
 use reference::book::{Book, Message, OpeningPage, Reply, Slip};
 use reference::rules::Rules;
 use std::collections::HashMap;

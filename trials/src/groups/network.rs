@@ -1,6 +1,6 @@
 //! Messages on their way: per seat a pool from which they are drawn early, late, out of order, twice or never.
 
-use crate::dice::Dice;
+use crate::shared::dice::Dice;
 use reference::book::Message;
 
 pub struct Network {

@@ -3,7 +3,7 @@
 use super::breach::Breach;
 use super::council::Wait;
 use super::lies::Lie;
-use crate::dice::Dice;
+use crate::shared::dice::Dice;
 use reference::book::OpeningPage;
 use reference::rules::Rules;
 

@@ -4,7 +4,7 @@ use super::keeper::Keeper;
 use super::lies::Lie;
 use super::printed::{self, Closing, Printed, Reply};
 use super::record::{key_of, Call, Event, Key, Record};
-use crate::daybook;
+use crate::shared::daybook;
 use reference::book::{Message, OpeningPage};
 use reference::bundle;
 use reference::rules::Rules;

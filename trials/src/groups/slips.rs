@@ -2,7 +2,7 @@
 
 use super::printed::Closing;
 use super::record::Key;
-use crate::dice::Dice;
+use crate::shared::dice::Dice;
 use reference::book::{OpeningPage, Slip};
 
 /// What was made for one account and number.

@@ -9,7 +9,7 @@ use super::printed::{Closing, Reply};
 use super::record::{key_of, Call, Key, Record};
 use super::seat::{Clerk, Seat};
 use super::slips::{self, Made};
-use crate::dice::Dice;
+use crate::shared::dice::Dice;
 use reference::book::{Message, OpeningPage, Slip};
 use reference::rules::Rules;
 use std::collections::BTreeMap;

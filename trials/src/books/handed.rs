@@ -1,10 +1,10 @@
 //! What is handed over wrongly: a kind, a seat or a length that no entry of a bundle has with its body, and the code that is
 //! due before all else.
 
-use crate::checks::Checks;
-use crate::dice::Dice;
-use crate::held::same_words;
-use crate::lent::{self, Lent, Sent};
+use crate::books::held::same_words;
+use crate::books::lent::{self, Lent, Sent};
+use crate::shared::checks::Checks;
+use crate::shared::dice::Dice;
 use reference::book::{Book, Message, OpeningPage, Reply};
 use reference::bundle::{read_message, ACK};
 

@@ -1,10 +1,10 @@
 //! Document 01's known pages: the examples, and the facts that are told by a function that the static library exports.
 
-use crate::any_words::try_opening;
-use crate::checks::Checks;
-use crate::daybook;
-use crate::dice::Dice;
-use crate::trial;
+use crate::books::any_words::try_opening;
+use crate::bundles::trial;
+use crate::shared::checks::Checks;
+use crate::shared::daybook;
+use crate::shared::dice::Dice;
 use std::path::{Path, PathBuf};
 
 /// n, f and how many equal acks accept a slip.

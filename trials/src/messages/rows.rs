@@ -1,8 +1,8 @@
 //! The rows of a reply that depend on what came before its message: of a P by its acks, of a late P, and of self-payments.
 
-use crate::late::Retentions;
-use crate::self_payments;
-use crate::ties::Arrivals;
+use crate::messages::late::Retentions;
+use crate::messages::self_payments;
+use crate::messages::ties::Arrivals;
 use reference::book::{Book, Message, OpeningPage};
 
 /// What came so far: the second program's book, the order of the acks, and what was accepted and put forward late.

@@ -1,7 +1,7 @@
 //! Acks for a number that is accepted or booked, request 5 of document 02: the rows of a late P, and of 6 and 8 where none
 //! comes.
 
-use crate::history::History;
+use crate::messages::history::History;
 use reference::book::{Book, Message, Slip};
 use std::collections::BTreeMap;
 

@@ -1,6 +1,6 @@
 //! A lent buffer with bytes on each side of it, which are looked at too.
 
-use crate::dice::Dice;
+use crate::shared::dice::Dice;
 use std::ops::Range;
 
 /// So many bytes are on each side.

@@ -1,19 +1,16 @@
 //! Books that are held for long, in lent words: each reply, the whole book after it and the waiting list, held to the
 //! second program, and the words themselves where nothing may be stored. The Rust package goes along.
 
-use crate::checks::Checks;
-use crate::dice::Dice;
-use crate::handed;
-use crate::known;
-use crate::ledgers;
-use crate::lent::{told, Lent, Sent};
-use crate::openings;
-use crate::packaged::Packaged;
-use crate::rows::Before;
-use crate::saved;
-use crate::tallies::{Tallies, SAVED_AND_LOADED, SETTLED_LATER};
-use crate::trial::caught;
-use crate::waiting;
+use crate::books::lent::{told, Lent, Sent};
+use crate::books::packaged::Packaged;
+use crate::books::{handed, saved, waiting};
+use crate::bundles::trial::caught;
+use crate::bundles::{known, openings};
+use crate::messages::ledgers;
+use crate::messages::rows::Before;
+use crate::shared::checks::Checks;
+use crate::shared::dice::Dice;
+use crate::shared::tallies::{Tallies, SAVED_AND_LOADED, SETTLED_LATER};
 use reference::book::{Book, Message, OpeningPage, Reply};
 
 /// The columns of the table; the first is the long life.

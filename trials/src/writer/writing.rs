@@ -1,15 +1,13 @@
 //! The writer of bundles, held to documents 01 and 02 and to the second program: the examples, the limits, lists of
 //! messages with any fields, and records that are malformed.
 
-use crate::checks::Checks;
-use crate::daybook::Written;
-use crate::dice::Dice;
-use crate::known;
-use crate::openings;
-use crate::records::{first_wrong, length, met, records, tried, written_again, RECORD};
-use crate::tallies::Tallies;
-use crate::trial::{self, caught};
-use crate::wild;
+use crate::bundles::trial::{self, caught};
+use crate::bundles::{known, openings, wild};
+use crate::shared::checks::Checks;
+use crate::shared::daybook::Written;
+use crate::shared::dice::Dice;
+use crate::shared::tallies::Tallies;
+use crate::writer::records::{first_wrong, length, met, records, tried, written_again, RECORD};
 use reference::book::{Book, Message, OpeningPage, Slip};
 use reference::bundle::{self, read_message, read_opening, ACK, QUESTION, REQUEST};
 use reference::written::KIND_WORDS;

@@ -1,7 +1,7 @@
 //! One bundle tried: `daybook` and the check held to the second program, and what is kept and printed of a difference.
 
-use crate::checks::Checks;
-use crate::daybook;
+use crate::shared::checks::Checks;
+use crate::shared::daybook;
 use reference::bundle;
 use reference::daybook::compare;
 use reference::written::shown;

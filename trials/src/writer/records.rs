@@ -1,12 +1,12 @@
 //! The records in which the writer of bundles takes its messages, and what is due of a call of it.
 
-use crate::around;
-use crate::daybook::{self, Written, PAGE};
-use crate::dice::Dice;
-use crate::known;
-use crate::lent::Sent;
-use crate::tallies::{KIND_0, KIND_ABOVE_5, SEAT_OF_NO_ACK};
-use crate::trial::caught;
+use crate::books::lent::Sent;
+use crate::bundles::known;
+use crate::bundles::trial::caught;
+use crate::shared::around;
+use crate::shared::daybook::{self, Written, PAGE};
+use crate::shared::dice::Dice;
+use crate::shared::tallies::{KIND_0, KIND_ABOVE_5, SEAT_OF_NO_ACK};
 use reference::book::{Message, OpeningPage};
 use reference::bundle::{self, read_message, write_into, ACK, QUESTION, REQUEST};
 

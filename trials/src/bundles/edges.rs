@@ -1,6 +1,6 @@
 //! Bundles at the limits, each with its name.
 
-use crate::damage::put_starts_right;
+use crate::bundles::damage::put_starts_right;
 use reference::book::{Message, OpeningPage, Slip};
 use reference::bundle::write;
 

@@ -1,15 +1,15 @@
 //! Books held from before request 5 of document 02, in the words of then: taken over, held to the second program's switch
 //! word for word, and gone on with.
 
-use crate::checks::Checks;
-use crate::dice::Dice;
-use crate::held::same_words;
-use crate::history::History;
-use crate::ledgers;
-use crate::lent::{told, HeldWords, Lent, Sent, HELD_WORDS};
-use crate::openings;
-use crate::seen::Seen;
-use crate::trial::caught;
+use crate::books::held::same_words;
+use crate::books::lent::{told, HeldWords, Lent, Sent, HELD_WORDS};
+use crate::bundles::openings;
+use crate::bundles::trial::caught;
+use crate::messages::history::History;
+use crate::messages::ledgers;
+use crate::shared::checks::Checks;
+use crate::shared::dice::Dice;
+use crate::shared::seen::Seen;
 use reference::book::{Book, Message, OpeningPage, Reply, Slip};
 use reference::bundle;
 use reference::rules::Rules;

@@ -1,17 +1,16 @@
 //! Words of any content, most of which no opening can make: openings over them, and messages to the book that they are.
 
-use crate::checks::Checks;
-use crate::daybook::{PAGE, UNTOUCHED};
-use crate::dice::Dice;
-use crate::handed;
-use crate::held::same_words;
-use crate::ledgers::with_slip;
-use crate::lent::{told, HeldWords, Lent, Sent, BLOCK, GROUP, REPLY, WORDS};
-use crate::saved;
-use crate::seen::Seen;
-use crate::ties::{self, Ack};
-use crate::trial::caught;
-use crate::waiting::{self, Answer};
+use crate::books::held::same_words;
+use crate::books::lent::{told, HeldWords, Lent, Sent, BLOCK, GROUP, REPLY, WORDS};
+use crate::books::waiting::{self, Answer};
+use crate::books::{handed, saved};
+use crate::bundles::trial::caught;
+use crate::messages::ledgers::with_slip;
+use crate::messages::ties::{self, Ack};
+use crate::shared::checks::Checks;
+use crate::shared::daybook::{PAGE, UNTOUCHED};
+use crate::shared::dice::Dice;
+use crate::shared::seen::Seen;
 use reference::book::{Account, Book, Message, Reply, Retained, Slip};
 use reference::bundle::read_opening;
 

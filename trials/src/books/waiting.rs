@@ -1,8 +1,8 @@
 //! The waiting list, held to what is due byte for byte: the reply, and the whole buffer after it.
 
-use crate::daybook;
-use crate::dice::Dice;
-use crate::trial::caught;
+use crate::bundles::trial::caught;
+use crate::shared::daybook;
+use crate::shared::dice::Dice;
 use reference::book::Book;
 use reference::bundle;
 

@@ -1,9 +1,9 @@
 //! Damaged bundles: one to three changes to a sound one, and what is off because of them perhaps put right again, so
 //! that each of the codes 13 to 16 comes out, and repaired damage as well.
 
-use crate::dice::Dice;
-use crate::ledgers;
-use crate::wild;
+use crate::bundles::wild;
+use crate::messages::ledgers;
+use crate::shared::dice::Dice;
 use reference::bundle;
 
 /// The lengths of the bodies of kinds 0 to 5.

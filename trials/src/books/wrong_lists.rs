@@ -1,9 +1,9 @@
 //! Wrong answers to the question for a waiting list, each of which the comparison has to notice.
 
-use crate::checks::Checks;
-use crate::dice::Dice;
-use crate::edges;
-use crate::waiting::{compared, number, written};
+use crate::books::waiting::{compared, number, written};
+use crate::bundles::edges;
+use crate::shared::checks::Checks;
+use crate::shared::dice::Dice;
 use reference::book::Book;
 
 /// What is wrong with an answer, the number that is returned, and the buffer as it is left.

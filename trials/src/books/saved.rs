@@ -1,12 +1,12 @@
 //! The saved form of a book, written a second time; what is due of bytes that are loaded, and what is tried of both.
 
-use crate::around;
-use crate::checks::Checks;
-use crate::dice::Dice;
-use crate::held::same_words;
-use crate::lent::{sizes, Lent, SAVED, WORDS};
-use crate::seen::Seen;
-use crate::trial::caught;
+use crate::books::held::same_words;
+use crate::books::lent::{sizes, Lent, SAVED, WORDS};
+use crate::bundles::trial::caught;
+use crate::shared::around;
+use crate::shared::checks::Checks;
+use crate::shared::dice::Dice;
+use crate::shared::seen::Seen;
 
 /// The letters that stand first, and the number of the format behind them.
 const MARK: [u8; 4] = *b"SAPL";

@@ -4,7 +4,7 @@ use reference::book::{Account, Book, Message, OpeningPage, Reply, Retained, Slip
 use reference::bundle::{ACK, QUESTION, REQUEST, RULING, SLIP};
 
 extern "C" {
-    // As in `daybook`: a slice is passed as its pointer, then its length; a reference to an array as its pointer alone.
+    // A slice is passed as its pointer, then its length; a reference to an array as its pointer alone.
     fn ledger_open(words: *mut [u32; WORDS], page: *const u8, length: usize) -> u8;
     fn ledger_call(
         words: *mut [u32; WORDS],

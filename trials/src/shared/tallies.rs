@@ -1,13 +1,11 @@
 //! How often each reply and each refusal occurred, counted from what the compiled ledger or writer replied or `daybook`
 //! printed.
 
-use crate::checks::Checks;
-use crate::handed;
-use crate::late;
-use crate::rows::Before;
-use crate::self_payments;
-use crate::ties;
-use crate::waiting::Answer;
+use crate::books::handed;
+use crate::books::waiting::Answer;
+use crate::messages::rows::Before;
+use crate::messages::{late, self_payments, ties};
+use crate::shared::checks::Checks;
 use reference::bundle;
 use std::collections::BTreeMap;
 

@@ -1,6 +1,6 @@
 //! Rows that have to occur, and how often each was seen.
 
-use crate::checks::Checks;
+use crate::shared::checks::Checks;
 use std::collections::BTreeMap;
 
 #[derive(Default)]

@@ -1,8 +1,8 @@
 //! Bundles that no ledger stands behind: arbitrary fields, and arbitrary bytes.
 
-use crate::dice::Dice;
-use crate::ledgers::with_slip;
-use crate::openings;
+use crate::bundles::openings;
+use crate::messages::ledgers::with_slip;
+use crate::shared::dice::Dice;
 use reference::book::{Message, Slip};
 use reference::bundle;
 

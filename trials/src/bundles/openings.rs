@@ -1,6 +1,6 @@
 //! Opening pages: those that open, and those at and beyond each limit.
 
-use crate::dice::Dice;
+use crate::shared::dice::Dice;
 use reference::book::OpeningPage;
 
 /// The limit of the opening sum.

@@ -1,8 +1,8 @@
 //! Ledgers that live: messages made beside a book of the second program, so that most are not refused, and so that
 //! quorums, conflicts, put-forwards, late ones too, ties, waits and chains are frequent.
 
-use crate::dice::Dice;
-use crate::openings;
+use crate::bundles::openings;
+use crate::shared::dice::Dice;
 use reference::book::{Account, Book, Message, OpeningPage, Slip};
 use reference::bundle;
 

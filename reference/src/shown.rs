@@ -149,12 +149,17 @@ fn wrong_contents(bytes: &[u8]) -> String {
 fn sound(bytes: &[u8], m: usize) -> String {
     let entries = if m == 1 { "entry" } else { "entries" };
     let mut text = format!("sound: {m} {entries}, {} bytes\n", bytes.len());
-    if let Ok((page, _)) = bundle::read(bytes) {
-        if let Err(code) = Book::open(&page) {
-            text += &format!("the opening is refused with {code}: {}\n", wrong_opening(&page, code));
-        }
+    if let Some(why) = bundle::read(bytes).ok().and_then(|(page, _)| refused_opening(&page)) {
+        text += &format!("{why}\n");
     }
     text
+}
+
+/// By which code the page is refused and why, if it opens no book.
+pub(crate) fn refused_opening(page: &OpeningPage) -> Option<String> {
+    let code = Book::open(page).err()?;
+    let why = wrong_opening(page, code);
+    Some(format!("the opening is refused with {code}: {why}"))
 }
 
 /// Why an opening is refused with this code.

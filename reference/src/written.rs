@@ -1,7 +1,7 @@
 //! The text form of a bundle, for people: one line per message, then the lines that damage the bundle on purpose.
 //!
 //! ```text
-//! # a comment; commas and parentheses count as blanks
+//! # a comment; commas and parentheses count as blanks, and each parenthesis has its partner in the line
 //! open n 6, f 1, k 2, balances 10 3
 //! slip (0, 1, 4, 1)
 //! ack 0 (0, 1, 4, 1)
@@ -16,6 +16,7 @@
 
 use crate::book::{Message, OpeningPage, Slip};
 use crate::bundle::{self, Fault, MOST_ENTRIES};
+use crate::shown::refused_opening;
 use std::fmt;
 
 pub use crate::shown::shown;
@@ -29,6 +30,9 @@ const OTHER_WORDS: [&str; 4] = ["repeat", "byte", "cut", "add"];
 const OPEN_FORM: &str = "open n 6, f 1, k 2, balances 10 3";
 const REPEAT_FORM: &str = "repeat 9 request (0, 1, 1, 0)";
 const BYTE_FORM: &str = "byte 10 = 6";
+
+/// The byte order mark with which some editors begin a text.
+const MARK: char = '\u{feff}';
 
 /// A field's name and its highest value.
 type Field = (&'static str, u32);
@@ -44,6 +48,14 @@ const RECIPIENT: Field = ("recipient", BYTE);
 pub struct Mistake {
     pub line: usize,
     pub what: String,
+}
+
+/// The bundle that a text describes.
+#[derive(Clone, PartialEq, Eq, Debug)]
+pub struct Packed {
+    pub bytes: Vec<u8>,
+    /// the line of an `open` that opens no book, and why; it is packed as it is
+    pub warning: Option<Mistake>,
 }
 
 impl fmt::Display for OpeningPage {
@@ -88,23 +100,58 @@ pub fn written(bytes: &[u8]) -> Result<String, Fault> {
 
 /// The bytes of the bundle that this text describes.
 pub fn parse(text: &str) -> Result<Vec<u8>, Mistake> {
+    packed(text).map(|packed| packed.bytes)
+}
+
+/// The bundle that this text describes. A byte order mark in front of it is skipped.
+pub fn packed(text: &str) -> Result<Packed, Mistake> {
     let mut draft = Draft {
         page: None,
         messages: Vec::new(),
         damaged: None,
     };
-    let mut line = 0;
-    for content in text.lines() {
+    let (mut line, mut warning) = (0, None);
+    for text in text.strip_prefix(MARK).unwrap_or(text).lines() {
         line += 1;
-        let content = content.split('#').next().unwrap_or("").replace('=', " = ");
-        let blank = |c: char| c.is_whitespace() || ",()".contains(c);
-        let words: Vec<&str> = content.split(blank).filter(|word| !word.is_empty()).collect();
-        draft.take(&words).map_err(|what| Mistake { line, what })?;
+        let before = draft.page.is_some();
+        let taken = content(text).and_then(|content| draft.take(&words(&content)));
+        taken.map_err(|what| Mistake { line, what })?;
+        if let (false, Some(page)) = (before, &draft.page) {
+            warning = refused_opening(page).map(|what| Mistake { line, what });
+        }
     }
-    draft.bytes().map_err(|what| Mistake {
+    let bytes = draft.bytes().map_err(|what| Mistake {
         line: line.max(1),
         what,
-    })
+    })?;
+    Ok(Packed { bytes, warning })
+}
+
+/// A line without its comment, and with blanks around each `=`; each parenthesis in it has its partner.
+pub(crate) fn content(line: &str) -> Result<String, String> {
+    let content = line.split('#').next().unwrap_or("");
+    if content.contains(MARK) {
+        return Err("a byte order mark, which only the first line may begin with: take it out".to_string());
+    }
+    let mut open = 0;
+    for c in content.chars() {
+        match c {
+            '(' => open += 1,
+            ')' if open == 0 => return Err("a `)` closes no `(` of this line: put one in, or take it out".to_string()),
+            ')' => open -= 1,
+            _ => {}
+        }
+    }
+    if open > 0 {
+        return Err("a `(` is not closed in this line: put a `)` in, or take it out".to_string());
+    }
+    Ok(content.replace('=', " = "))
+}
+
+/// The words of a content: commas and parentheses count as blanks.
+pub(crate) fn words(content: &str) -> Vec<&str> {
+    let blank = |c: char| c.is_whitespace() || ",()".contains(c);
+    content.split(blank).filter(|word| !word.is_empty()).collect()
 }
 
 /// What the lines so far describe.
@@ -215,7 +262,7 @@ impl Draft {
 }
 
 /// The opening page from what stands behind `open`.
-fn opening(given: &[&str]) -> Result<OpeningPage, String> {
+pub(crate) fn opening(given: &[&str]) -> Result<OpeningPage, String> {
     let form = format!("`open` is written like this: {OPEN_FORM}");
     let (n, f, k, rest) = match given {
         ["n", n, "f", f, "k", k, rest @ ..] => (n, f, k, rest),
@@ -245,9 +292,14 @@ fn opening(given: &[&str]) -> Result<OpeningPage, String> {
     })
 }
 
+/// The slip from the four numbers behind a word.
+pub(crate) fn slip(word: &str, given: &[&str]) -> Result<Slip, String> {
+    numbers(word, given, [ACCOUNT, NUMBER, VALUE, RECIPIENT]).map(slip_of)
+}
+
 /// The message from its word and what stands behind it.
-fn message(word: &str, given: &[&str]) -> Result<Message, String> {
-    let slip = || numbers(word, given, [ACCOUNT, NUMBER, VALUE, RECIPIENT]).map(slip_of);
+pub(crate) fn message(word: &str, given: &[&str]) -> Result<Message, String> {
+    let slip = || slip(word, given);
     match word {
         "request" => Ok(Message::Request(slip()?)),
         "slip" => Ok(Message::Slip(slip()?)),
@@ -303,7 +355,7 @@ fn numbers<const N: usize>(word: &str, given: &[&str], fields: [Field; N]) -> Re
 }
 
 /// The decimal number in this word, which has to lie in its field's range.
-fn number(name: &str, word: &str, least: u32, most: u32) -> Result<u32, String> {
+pub(crate) fn number(name: &str, word: &str, least: u32, most: u32) -> Result<u32, String> {
     let digits = word.bytes().all(|byte| byte.is_ascii_digit());
     let number = word
         .parse()

@@ -145,6 +145,79 @@ fn what_goes_wrong_is_said() {
 }
 
 #[test]
+fn help_and_version() {
+    let usage = run(BUNDLE, &[], b"");
+    assert_eq!(status(&usage), 2);
+    for word in ["--help", "-h"] {
+        let output = run(BUNDLE, &[word], b"");
+        assert_eq!((status(&output), errors(&output)), (0, String::new()), "{word}");
+        assert_eq!(output.stdout, usage.stderr, "{word}");
+    }
+    let output = run(BUNDLE, &["--version"], b"");
+    assert_eq!((status(&output), errors(&output)), (0, String::new()));
+    let due = format!("saplull {}\n", env!("CARGO_PKG_VERSION"));
+    assert_eq!(output.stdout, due.as_bytes());
+}
+
+/// An opening that is refused is packed, and its line is told.
+#[test]
+fn a_warning() {
+    let text = b"\xef\xbb\xbf# five seats\nopen n 5, f 1, k 2, balances 10 5\n";
+    let output = run(BUNDLE, &["pack"], text);
+    let why = "the opening is refused with 1: f is 1, and 5 times f is not below n, which is 5; it is packed as it is";
+    assert_eq!(
+        (status(&output), errors(&output)),
+        (0, format!("<stdin>:2: warning: {why}\n"))
+    );
+    assert_eq!(run(REFERENCE, &[], &output.stdout).stdout, b"F 1 0\n");
+    let output = run(BUNDLE, &["pack"], b"open n 5, f 1, k 2, balances 10 5\nquestion (0");
+    let due = "<stdin>:2: a `(` is not closed in this line: put a `)` in, or take it out\n";
+    assert_eq!(
+        (status(&output), errors(&output), output.stdout),
+        (1, due.to_string(), vec![])
+    );
+}
+
+/// What a shell does with the streams of a program before it starts it, and what the program says of that.
+const STREAMS: &[(&str, &str)] = &[
+    (">/dev/full", "standard output: No space left on device"),
+    (">&-", "standard output: closed"),
+    ("<&-", "<stdin>: closed"),
+    ("<.", "<stdin>: Is a directory"),
+];
+
+#[test]
+fn streams_that_fail() {
+    let packed = run(BUNDLE, &["pack"], TEXT.as_bytes()).stdout;
+    for (redirection, due) in STREAMS {
+        for (program, word) in [(BUNDLE, "show"), (BUNDLE, "unpack"), (REFERENCE, "-")] {
+            let line = format!("exec \"$0\" {word} {redirection}");
+            let output = run("sh", &["-c", &line, program], &packed);
+            assert_eq!(status(&output), 1, "{word} {redirection}");
+            let said = errors(&output);
+            assert!(
+                said.starts_with(due) && said.lines().count() == 1,
+                "{word} {redirection}: {said}"
+            );
+            assert!(output.stdout.is_empty(), "{word} {redirection}");
+        }
+        let line = format!("exec \"$0\" --help {redirection}");
+        let output = run("sh", &["-c", &line, BUNDLE], b"");
+        assert_eq!(status(&output), i32::from(due.starts_with("standard")), "{redirection}");
+    }
+}
+
+/// /dev/null as a shell opens it is an input with nothing in it, and a place for what nobody wants.
+#[test]
+fn nothing_to_read_and_nobody_to_write_to() {
+    let output = run("sh", &["-c", "exec \"$0\" </dev/null", REFERENCE], b"");
+    assert_eq!((status(&output), errors(&output)), (0, String::new()));
+    assert_eq!(output.stdout, b"F 13 0\n");
+    let output = run("sh", &["-c", "exec \"$0\" pack >/dev/null", BUNDLE], TEXT.as_bytes());
+    assert_eq!((status(&output), errors(&output)), (0, String::new()));
+}
+
+#[test]
 fn a_bundle_that_is_too_long() {
     let longest = run(
         BUNDLE,

@@ -5,7 +5,7 @@ mod common;
 use common::Chance;
 use reference::book::{Message, OpeningPage, Slip};
 use reference::bundle::{self, Fault};
-use reference::written::{parse, shown, written};
+use reference::written::{packed, parse, shown, written, Mistake};
 
 const SLIP: Slip = Slip {
     account: 0,
@@ -183,6 +183,18 @@ const BEHIND_OPENING: &[Mistaken] = &[
     ("cut 141\ncut 1", 3, "cannot cut 1 bytes: the bundle has 0"),
     ("add", 2, "too few numbers (0): `add` takes one byte or more"),
     ("add 1 256", 2, "the byte has to be a number from 0 to 255 and is `256`"),
+    ("slip (0, 1, 4, 1", 2, "a `(` is not closed in this line"),
+    ("\nslip ((0, 1, 4, 1)", 3, "a `(` is not closed in this line"),
+    ("slip (0, 1,\n4, 1)", 2, "a `(` is not closed in this line"),
+    ("slip 0, 1, 4, 1)", 2, "a `)` closes no `(` of this line"),
+    ("slip )0, 1, 4, 1(", 2, "a `)` closes no `(` of this line"),
+    ("slip (0, 1, 4, 1 # )", 2, "a `(` is not closed in this line"),
+    ("(", 2, "a `(` is not closed in this line"),
+    (
+        "\u{feff}question 0",
+        2,
+        "a byte order mark, which only the first line may begin with",
+    ),
 ];
 
 const FORM: &str = "`open` is written like this: open n 6, f 1, k 2, balances 10 3";
@@ -193,6 +205,10 @@ const IN_OPENING: &[Mistaken] = &[
     ("# only\n# comments\n", 2, "there is no `open` line"),
     ("\nquestion 0", 2, "there is no `open` line before this `question`"),
     ("cut 1", 1, "there is no `open` line"),
+    ("\u{feff}", 1, "there is no `open` line"),
+    ("\u{feff}\u{feff}open n 6, f 1, k 2", 1, "a byte order mark"),
+    (" \u{feff}open n 6, f 1, k 2", 1, "a byte order mark"),
+    ("open (n 6, f 1, k 2", 1, "a `(` is not closed in this line"),
     ("open", 1, FORM),
     ("open 6 1 2", 1, FORM),
     ("open n 6, f 1", 1, FORM),
@@ -232,6 +248,53 @@ fn mistakes() {
     let balances = "1 ".repeat(33);
     let text = format!("open n 6, f 1, k 2, balances {balances}");
     assert_mistake(&text, 1, "too many balances (33): `open` takes at most 32");
+}
+
+/// A byte order mark in front of the text and parentheses in a comment change nothing, nor do any that have their partners.
+#[test]
+fn what_is_skipped() {
+    let line = "slip (0, 1, 4, 1)\n";
+    let due = Ok(bundle::write(&small_page(), &[Message::Slip(SLIP)]));
+    for text in [
+        format!("\u{feff}{OPENING}{line}"),
+        format!("\u{feff}# )\n{OPENING}{line}# ((\n"),
+        format!("{OPENING}slip ((0, 1), (4), 1) () # )"),
+        format!("{OPENING}# \u{feff}\n{line}"),
+    ] {
+        assert_eq!(parse(&text), due, "{text:?}");
+    }
+}
+
+/// An opening that is refused is packed as it is, and its line is named; one that is not brings no warning.
+#[test]
+fn warnings() {
+    let cases = [
+        (
+            "open n 5, f 1, k 1",
+            Some("1: f is 1, and 5 times f is not below n, which is 5"),
+        ),
+        ("open n 0, f 0, k 1", Some("1: n is 0 and not 1 to 16")),
+        ("open n 6, f 1, k 0", Some("2: k is 0 and not 1 to 32")),
+        (
+            "open n 6, f 1, k 1, balances 1 2",
+            Some("2: k is 1, and a balance behind the last account is not 0"),
+        ),
+        (
+            "open n 6, f 1, k 2, balances 4294967295 1",
+            Some("3: the opening sum is 4294967296 and not at most 4294967295"),
+        ),
+        ("open n 6, f 1, k 2, balances 4294967294 1", None),
+    ];
+    for (open, why) in cases {
+        let packed = packed(&format!("# a comment\n{open}\nquestion 0\n")).expect(open);
+        let due = why.map(|why| Mistake {
+            line: 2,
+            what: format!("the opening is refused with {why}"),
+        });
+        assert_eq!(packed.warning, due, "{open}");
+        assert_eq!(written(&packed.bytes).expect(open).lines().count(), 2, "{open}");
+        assert!(written(&packed.bytes).expect(open).starts_with(open), "{open}");
+    }
 }
 
 #[test]

@@ -10,7 +10,11 @@ use std::process::ExitCode;
 const USAGE: &str = "usage: bundle pack [FILE]     the text form to a bundle's bytes
        bundle unpack [FILE]   a bundle's bytes to the text form
        bundle show [FILE]     any bytes, entry by entry, with the replies or the place of the fault
+       bundle --help          this text; so does -h
+       bundle --version       the version
 Standard input is read if no file is named, or `-`.";
+
+const VERSION: &str = concat!("saplull ", env!("CARGO_PKG_VERSION"));
 
 /// No text or bundle is anywhere near this long; it keeps endless input out.
 const MOST_BYTES: usize = 1 << 24;
@@ -23,20 +27,23 @@ fn main() -> ExitCode {
         [word, file] => (word, Some(file)),
         _ => return streams::complain(2, USAGE),
     };
-    let run = match word.to_str() {
-        Some("pack") => pack,
-        Some("unpack") => unpack,
-        Some("show") => show,
+    let run = match (word.to_str(), file) {
+        (Some("pack"), _) => pack,
+        (Some("unpack"), _) => unpack,
+        (Some("show"), _) => show,
+        (Some("--help" | "-h"), None) => return streams::output(format!("{USAGE}\n").as_bytes()),
+        (Some("--version"), None) => return streams::output(format!("{VERSION}\n").as_bytes()),
         _ => return streams::complain(2, USAGE),
     };
-    let result = input(file).and_then(|bytes| run(&bytes));
+    let name = streams::name(file);
+    let result = input(file).and_then(|bytes| run(&bytes, &name));
     match result {
         Ok(output) => streams::output(&output),
-        Err(what) => streams::complain(1, &format!("{}:{what}", streams::name(file))),
+        Err(what) => streams::complain(1, &format!("{name}:{what}")),
     }
 }
 
-/// The input; this and the three functions below say in Err what stands behind the file's name and a colon.
+/// The input; this and the three functions below, which know the file's name, say in Err what stands behind it and a colon.
 fn input(file: Option<&OsStr>) -> Result<Vec<u8>, String> {
     let bytes = streams::input(file, MOST_BYTES + 1).map_err(|error| format!(" {error}"))?;
     if bytes.len() > MOST_BYTES {
@@ -45,24 +52,28 @@ fn input(file: Option<&OsStr>) -> Result<Vec<u8>, String> {
     Ok(bytes)
 }
 
-fn pack(bytes: &[u8]) -> Result<Vec<u8>, String> {
+fn pack(bytes: &[u8], name: &str) -> Result<Vec<u8>, String> {
     let text = std::str::from_utf8(bytes).map_err(|error| {
         let line = 1 + bytes[..error.valid_up_to()]
             .iter()
             .filter(|byte| **byte == b'\n')
             .count();
-        format!("{line}: not a text: a byte that is not UTF-8")
+        format!("{line}: not a text: a byte that is not UTF-8; save the file as UTF-8")
     })?;
-    written::parse(text).map_err(|mistake| format!("{}: {}", mistake.line, mistake.what))
+    let packed = written::packed(text).map_err(|mistake| format!("{}: {}", mistake.line, mistake.what))?;
+    if let Some(written::Mistake { line, what }) = packed.warning {
+        streams::warn(&format!("{name}:{line}: warning: {what}; it is packed as it is"));
+    }
+    Ok(packed.bytes)
 }
 
-fn unpack(bytes: &[u8]) -> Result<Vec<u8>, String> {
+fn unpack(bytes: &[u8], _: &str) -> Result<Vec<u8>, String> {
     let text = written::written(bytes).map_err(|bundle::Fault { code, entry }| {
         format!(" refused with {code} at entry {entry}; `bundle show` says what is wrong")
     })?;
     Ok(text.into_bytes())
 }
 
-fn show(bytes: &[u8]) -> Result<Vec<u8>, String> {
+fn show(bytes: &[u8], _: &str) -> Result<Vec<u8>, String> {
     Ok(written::shown(bytes).into_bytes())
 }

@@ -40,3 +40,6 @@ pub use page::Page;
 pub use refusal::Refusal;
 pub use reply::Reply;
 pub use saved::LoadError;
+
+/// The version of this package, which `include/saplull.h` states too.
+pub const VERSION: &str = env!("CARGO_PKG_VERSION");

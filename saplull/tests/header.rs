@@ -1,4 +1,4 @@
-//! `include/saplull.h` states the kinds, codes and sentences of this package, and no others.
+//! `include/saplull.h` states the version, kinds, codes and sentences of this package, and no others.
 
 mod common;
 
@@ -22,6 +22,12 @@ fn in_capitals(name: &str) -> String {
 
 fn stated(prefix: &str, name: String, code: u8, sentence: &str) {
     let line = format!("#define {prefix}{} {code} /* {sentence} */", in_capitals(&name));
+    assert!(header().contains(&line), "include/saplull.h lacks: {line}");
+}
+
+#[test]
+fn version() {
+    let line = format!("#define SAPLULL_VERSION \"{}\" ", saplull::VERSION);
     assert!(header().contains(&line), "include/saplull.h lacks: {line}");
 }
 

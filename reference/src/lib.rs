@@ -6,6 +6,7 @@
 pub mod book;
 pub mod bundle;
 pub mod daybook;
+pub mod known;
 pub mod rules;
 pub mod shown;
 pub mod streams;

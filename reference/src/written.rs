@@ -27,7 +27,7 @@ pub const KIND_WORDS: [&str; 6] = ["open", "request", "slip", "ack", "ruling", "
 const OTHER_WORDS: [&str; 4] = ["repeat", "byte", "cut", "add"];
 
 /// How the lines that are more than a word and its numbers are written.
-const OPEN_FORM: &str = "open n 6, f 1, k 2, balances 10 3";
+pub(crate) const OPEN_FORM: &str = "open n 6, f 1, k 2, balances 10 3";
 const REPEAT_FORM: &str = "repeat 9 request (0, 1, 1, 0)";
 const BYTE_FORM: &str = "byte 10 = 6";
 

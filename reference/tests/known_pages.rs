@@ -1,4 +1,4 @@
-//! Document 01's known pages, its rules one by one, and what document 02 says of ties and of the waiting list.
+//! The known answers, document 01's rules one by one, and what document 02 says of ties and of the waiting list.
 
 mod common;
 
@@ -6,6 +6,8 @@ use common::{ack, open, slip, Chance, T};
 use reference::book::{Book, Message, OpeningPage, Reply, Slip};
 use reference::bundle::{self, Fault};
 use reference::daybook;
+use reference::known::{AcksNeeded, Asked, Example, Known, Opening, Play, Step, Sum};
+use std::path::Path;
 
 const U: Slip = Slip { value: 5, ..T };
 const V: Slip = Slip { value: 6, ..T };
@@ -20,49 +22,125 @@ fn acked(book: &mut Book, slips: &[Slip]) -> Vec<Reply> {
         .collect()
 }
 
+fn known() -> Known {
+    Known::read(Path::new("../examples")).unwrap_or_else(|what| panic!("{what}"))
+}
+
 #[test]
 fn acks_needed() {
-    for (n, f, needed) in [
-        (1, 0, 1),
-        (2, 0, 2),
-        (6, 1, 5),
-        (7, 1, 6),
-        (8, 1, 6),
-        (11, 2, 9),
-        (16, 3, 13),
-    ] {
-        let mut book = open(n, f, &[10, 3]);
-        let mut due = vec![Reply::Noted; needed - 1];
+    for AcksNeeded { place, n, f, count } in known().acks_needed {
+        let count = usize::from(count);
+        let mut due = vec![Reply::Noted; count - 1];
         due.push(Reply::Accepted { booked: 1 });
-        assert_eq!(acked(&mut book, &vec![T; needed]), due, "n {n}, f {f}");
+        assert_eq!(acked(&mut open(n, f, &[10, 3]), &vec![T; count]), due, "{place}");
     }
 }
 
 #[test]
-fn openings() {
-    let with_k = |k| OpeningPage {
-        k,
-        ..OpeningPage::of(6, 1, &[1])
-    };
+fn sums() {
+    for Sum { place, bytes, sum } in known().sums {
+        assert_eq!(bundle::sum(&bytes), sum, "{place}");
+    }
+}
+
+#[test]
+fn refused_openings() {
+    for Opening { place, page, code } in known().openings {
+        assert_eq!(Book::open(&page).err(), Some(code), "{place}");
+        let bytes = bundle::write(&page, &[Message::Question { account: 0 }]);
+        assert_eq!(daybook::printed(&bytes), format!("F {code} 0\n"), "{place}");
+    }
+}
+
+/// The list comes into the front of a buffer that is long enough, and a shorter one is left as it is.
+fn assert_waiting(book: &Book, accounts: &[u8], place: &str) {
+    for length in [31, 32, 40] {
+        let mut buffer = vec![77; length];
+        let (reply, front) = if length < 32 {
+            (Err(17), &[][..])
+        } else {
+            (Ok(accounts.len()), accounts)
+        };
+        assert_eq!(book.waiting_list(&mut buffer), reply, "{place}");
+        let behind = vec![77; length - front.len()];
+        assert_eq!(buffer, [front, &behind].concat(), "{place}, {length} bytes");
+    }
+}
+
+#[test]
+fn plays() {
+    for Play { place, page, steps, .. } in known().plays {
+        let mut book = Book::open(&page).unwrap_or_else(|code| panic!("{place}: refused with {code}"));
+        for Step { place, asked } in &steps {
+            match asked {
+                Asked::Call(message, reply) => assert_eq!(book.call(message), *reply, "{place}"),
+                Asked::Waiting(accounts) => assert_waiting(&book, accounts, place),
+            }
+        }
+    }
+}
+
+/// The pages of the examples that are known answers, with the examples.
+fn examples() -> Vec<(OpeningPage, Example)> {
+    let plays = known().plays.into_iter();
+    plays.filter_map(|play| Some((play.page, play.example?))).collect()
+}
+
+#[test]
+fn texts() {
+    for (page, Example { bundle, text, messages }) in examples() {
+        let name = bundle.display();
+        let bytes = bundle::write(&page, &messages);
+        assert_eq!(
+            std::fs::read(&bundle).expect("a bundle that can be read"),
+            bytes,
+            "{name}"
+        );
+        assert_eq!(daybook::printed(&bytes), text, "{name}");
+        assert_eq!(daybook::compare(&bytes, text.as_bytes()), Ok(()), "{name}");
+    }
+}
+
+/// The bytes of the bundle of a known example, and its text.
+fn example(name: &str) -> (Vec<u8>, String) {
+    let named = |(_, example): &(OpeningPage, Example)| example.bundle.file_stem() == Some(name.as_ref());
+    let (page, example) = examples().into_iter().find(named).expect(name);
+    (bundle::write(&page, &example.messages), example.text)
+}
+
+/// Of a text that is not the right one, the first line that differs is named.
+#[test]
+fn other_texts() {
+    let (bytes, due) = example("tie");
+    for other in ["7 P 0 1 5 1", "7 P 0 1 6 1"] {
+        let text = due.replace("7 P 0 1 4 1", other);
+        let what = format!("line 7 has to be \"7 P 0 1 4 1\\n\" and is \"{other}\\n\"");
+        assert_eq!(daybook::compare(&bytes, text.as_bytes()), Err(what));
+    }
+    let (bytes, due) = example("whole_output");
+    for (line, wrong) in [
+        (9, &due[..due.len() - 1]),
+        (1, &due[4..]),
+        (1, ""),
+        (3, &due[..9]),
+        (10, &format!("{due}\n")),
+        (6, &due.replace("K 1", "K 2")),
+    ] {
+        let what = daybook::compare(&bytes, wrong.as_bytes()).expect_err("another text");
+        assert!(
+            what.starts_with(&format!("line {line} has to be ")),
+            "{wrong:?}: {what}"
+        );
+    }
+}
+
+#[test]
+fn openings_at_the_limits_and_in_the_order_of_codes() {
     let too_much = OpeningPage::of(1, 0, &[u32::MAX, 1]);
     let cases = [
-        (OpeningPage::of(5, 1, &[10, 5]), Err(1)),
-        (OpeningPage::of(17, 0, &[10, 5]), Err(1)),
-        (OpeningPage::of(0, 0, &[1]), Err(1)),
-        (OpeningPage::of(16, 255, &[1]), Err(1)),
         (OpeningPage::of(16, 3, &[1]), Ok(1)),
         (OpeningPage::of(1, 0, &[0; 32]), Ok(32)),
-        (with_k(0), Err(2)),
-        (with_k(33), Err(2)),
-        (
-            OpeningPage {
-                k: 1,
-                ..OpeningPage::of(6, 1, &[10, 5])
-            },
-            Err(2),
-        ),
         (OpeningPage::of(1, 0, &[u32::MAX - 1, 1]), Ok(2)),
-        (too_much.clone(), Err(3)),
         // codes rise
         (
             OpeningPage {
@@ -80,22 +158,6 @@ fn openings() {
 }
 
 #[test]
-fn splits() {
-    let put_forward = Reply::PutForward { slip: T };
-    let mut book = open(6, 1, &[10, 3]);
-    assert_eq!(
-        acked(&mut book, &[T, T, T, U, U, T])[3..],
-        [Reply::Noted, put_forward.clone(), Reply::Noted]
-    );
-    let mut book = open(6, 1, &[10, 3]);
-    let accepted = Reply::Accepted { booked: 1 };
-    assert_eq!(
-        acked(&mut book, &[T, T, T, T, U, T])[3..],
-        [Reply::Noted, put_forward, accepted]
-    );
-}
-
-#[test]
 fn not_this_seats_own_slip_is_put_forward_but_the_most_acked() {
     let mut book = open(6, 1, &[10, 3]);
     assert_eq!(book.call(&Message::Slip(T)), Reply::Ack);
@@ -105,11 +167,8 @@ fn not_this_seats_own_slip_is_put_forward_but_the_most_acked() {
 /// A group's n and f, who acks what in the order in which it comes, and the slip that the last ack puts forward.
 type Split = (u8, u8, &'static [(Slip, &'static [u8])], Slip);
 
-/// The first is document 01's.
+/// More of them than the known answers have.
 const SPLITS: &[Split] = &[
-    (8, 1, &[(T, &[0, 1, 2]), (U, &[3, 4, 5]), (V, &[6])], T),
-    // the slip of the lower seats comes last
-    (8, 1, &[(T, &[3, 4, 5]), (U, &[0, 1, 2]), (V, &[6])], U),
     // of a slip's seats neither the highest decides nor the one that came first
     (8, 1, &[(T, &[7, 5, 0]), (U, &[1, 2, 3]), (V, &[6])], T),
     // the lowest seat is that of the ack at hand
@@ -175,51 +234,6 @@ fn the_order_of_acks_does_not_matter() {
     }
 }
 
-/// Document 01's tie as text: one text is right, and of another the line is named.
-#[test]
-fn tie() {
-    let messages: Vec<_> = (0..)
-        .zip([T, T, T, U, U, U, V])
-        .map(|(seat, slip)| ack(seat, slip))
-        .collect();
-    let bytes = bundle::write(&OpeningPage::of(8, 1, &[10, 3]), &messages);
-    let text = |value| format!("1 N\n2 N\n3 N\n4 N\n5 N\n6 N\n7 P 0 1 {value} 1\n= 0 10 0\n= 1 3 0\n");
-    assert_eq!(daybook::printed(&bytes), text(4));
-    assert_eq!(daybook::compare(&bytes, text(4).as_bytes()), Ok(()));
-    for value in [5, 6] {
-        let due = format!("line 7 has to be \"7 P 0 1 4 1\\n\" and is \"7 P 0 1 {value} 1\\n\"");
-        assert_eq!(daybook::compare(&bytes, text(value).as_bytes()), Err(due));
-    }
-}
-
-#[test]
-fn funds() {
-    let mut book = open(6, 1, &[10, 5]);
-    for (value, due) in [(16, Reply::Refused(5)), (11, Reply::Refused(11)), (10, Reply::Ack)] {
-        assert_eq!(book.call(&Message::Slip(Slip { value, ..T })), due, "value {value}");
-    }
-}
-
-#[test]
-fn settled_twice() {
-    let mut book = open(6, 1, &[0, 5]);
-    assert_eq!(
-        book.call(&Message::Ruling(slip(0, 1, 5, 1))),
-        Reply::Accepted { booked: 0 }
-    );
-    let mut buffer = [7; 40];
-    assert_eq!(book.waiting_list(&mut buffer), Ok(1));
-    assert_eq!((buffer[0], &buffer[1..]), (0, &[7; 39][..]));
-    assert_eq!(book.waiting_list(&mut buffer[..31]), Err(17));
-    assert_eq!(
-        book.call(&Message::Ruling(slip(1, 1, 5, 0))),
-        Reply::Accepted { booked: 2 }
-    );
-    assert_eq!((book.balance(0), book.balance(1)), (0, 5));
-    assert_eq!((book.current(0), book.current(1)), (1, 1));
-    assert_eq!(book.waiting_list(&mut buffer), Ok(0));
-}
-
 /// Accounts that come to wait in falling order are listed lowest first, and a refusal leaves the buffer.
 #[test]
 fn waiting_lists() {
@@ -256,38 +270,6 @@ fn the_recipient_may_be_the_payer() {
         Reply::Accepted { booked: 1 }
     );
     assert_eq!((book.balance(0), book.current(0)), (u32::MAX, 1));
-}
-
-#[test]
-fn sums() {
-    assert_eq!(bundle::sum(&[]), 0);
-    assert_eq!(bundle::sum(&[1, 2]), 33);
-    assert_eq!(bundle::sum(&[255; 7]), 1_928_985_951);
-}
-
-#[test]
-fn whole_output() {
-    let mut messages = vec![Message::Slip(T)];
-    messages.extend((0..5).map(|seat| ack(seat, T)));
-    messages.push(Message::Question { account: 1 });
-    let bytes = bundle::write(&OpeningPage::of(6, 1, &[10, 3]), &messages);
-    let due = "1 A\n2 N\n3 N\n4 N\n5 N\n6 K 1\n7 B 7\n= 0 6 1\n= 1 7 0\n";
-    assert_eq!(daybook::printed(&bytes), due);
-    assert_eq!(daybook::compare(&bytes, due.as_bytes()), Ok(()));
-    for (line, wrong) in [
-        (9, &due[..due.len() - 1]),
-        (1, &due[4..]),
-        (1, ""),
-        (3, &due[..9]),
-        (10, &format!("{due}\n")),
-        (6, &due.replace("K 1", "K 2")),
-    ] {
-        let what = daybook::compare(&bytes, wrong.as_bytes()).expect_err("another text");
-        assert!(
-            what.starts_with(&format!("line {line} has to be ")),
-            "{wrong:?}: {what}"
-        );
-    }
 }
 
 /// Each message meets the first code that fits it, and often others behind that.
@@ -436,17 +418,5 @@ fn write_and_read() {
         let bytes = bundle::write(&page, &messages);
         assert_eq!(bundle::check(&bytes), Ok(1 + messages.len()));
         assert_eq!(bundle::read(&bytes), Ok((page, messages)));
-    }
-}
-
-#[test]
-fn refused_openings_print_their_code() {
-    for (page, code) in [
-        (OpeningPage::of(5, 1, &[1]), 1),
-        (OpeningPage::of(6, 1, &[]), 2),
-        (OpeningPage::of(6, 1, &[u32::MAX, 1]), 3),
-    ] {
-        let bytes = bundle::write(&page, &[Message::Question { account: 0 }]);
-        assert_eq!(daybook::printed(&bytes), format!("F {code} 0\n"));
     }
 }

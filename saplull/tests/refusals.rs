@@ -27,6 +27,15 @@ fn sentences() {
     assert_eq!(shown.to_string(), "it does not begin with the mark of a saved book");
 }
 
+/// Page::new with more balances than a page has, or with none.
+#[test]
+fn balances_that_no_page_has() {
+    for accounts in [0, 33, 256 + 2] {
+        let page = Page::new(6, 1, &vec![0; accounts]);
+        assert_eq!(Book::open(&page).unwrap_err(), Refusal::BadAccounts, "k {accounts}");
+    }
+}
+
 /// A book with balances 10, 3 and 0, in which this seat has acked (0, 1, 4, 1), seat 0 too, and number 1 of account 2
 /// waits.
 fn lived() -> Book {

@@ -259,7 +259,7 @@ fn held_book(checks: &mut Checks) {
 /// All that is known of books.
 fn of_books(checks: &mut Checks, dice: &mut Dice, folder: &str) {
     checks.part("host: known pages");
-    known::facts(checks, dice);
+    known::answers(checks, dice, folder);
     known::examples(checks, folder, None);
     checks.part("host: acks, openings");
     acks(checks);

@@ -201,7 +201,7 @@ fn show(checks: &mut Checks, options: &Options, index: u64) {
 
 fn run(checks: &mut Checks, options: &Options) {
     checks.part("known pages");
-    known::facts(checks, &mut Dice::new(options.seed));
+    known::answers(checks, &mut Dice::new(options.seed), &options.examples);
     known::examples(checks, &options.examples, Some(&options.program));
     checks.part("edges");
     try_edges(checks, options);

@@ -1,22 +1,15 @@
-//! Document 01's known pages: the examples, and the facts that are told by a function that the static library exports.
+//! The known answers of documents 01 and 02, through the functions that the static library exports; and the examples.
 
 use crate::books::any_words::try_opening;
+use crate::books::lent::{told, Lent, Sent};
+use crate::books::waiting::{compared, written};
 use crate::bundles::trial;
 use crate::shared::checks::Checks;
 use crate::shared::daybook;
 use crate::shared::dice::Dice;
+use crate::writer::records::page_bytes;
+use reference::known::{Asked, Known, Play};
 use std::path::{Path, PathBuf};
-
-/// n, f and how many equal acks accept a slip.
-const ACKS_NEEDED: [(u8, u8, u16); 7] = [
-    (1, 0, 1),
-    (2, 0, 2),
-    (6, 1, 5),
-    (7, 1, 6),
-    (8, 1, 6),
-    (11, 2, 9),
-    (16, 3, 13),
-];
 
 /// An opening page as a bundle's body has it: n, f, k, then 32 balances of 4 bytes; those not given are 0.
 pub fn page(n: u8, f: u8, k: u8, balances: &[u32]) -> Vec<u8> {
@@ -27,20 +20,47 @@ pub fn page(n: u8, f: u8, k: u8, balances: &[u32]) -> Vec<u8> {
     bytes
 }
 
-/// The facts about acks, openings and sums.
-pub fn facts(checks: &mut Checks, dice: &mut Dice) {
-    for (n, f, needed) in ACKS_NEEDED {
-        checks.same(
-            &format!("acks needed at n {n}, f {f}"),
-            daybook::acks_needed(n, f),
-            needed,
-        );
+/// The known answers, from the file in the folder of examples: acks needed, sums, openings and books.
+pub fn answers(checks: &mut Checks, dice: &mut Dice, folder: &str) {
+    let known = match Known::read(Path::new(folder)) {
+        Ok(known) => known,
+        Err(what) => return checks.that(&what, false),
+    };
+    for acks in &known.acks_needed {
+        let (place, n, f, count) = (&acks.place, acks.n, acks.f, acks.count);
+        checks.same(place, daybook::acks_needed(n, f), count.into());
+        checks.same(place, daybook::is_enough(n, f, count), true);
+        checks.same(place, daybook::is_enough(n, f, count - 1), false);
     }
-    try_opening(checks, dice, "the opening with n 5, f 1", &page(5, 1, 2, &[10, 5]), 1);
-    try_opening(checks, dice, "the opening with n 17, f 0", &page(17, 0, 2, &[10, 5]), 1);
-    checks.same("the sum of bytes 1, 2", daybook::sum(&[1, 2]), 33);
-    checks.same("the sum of seven bytes of 255", daybook::sum(&[255; 7]), 1_928_985_951);
-    checks.same("the sum of no bytes", daybook::sum(&[]), 0);
+    for sum in &known.sums {
+        checks.same(&sum.place, daybook::sum(&sum.bytes), sum.sum);
+    }
+    for opening in &known.openings {
+        try_opening(checks, dice, &opening.place, &page_bytes(&opening.page), opening.code);
+    }
+    for known in &known.plays {
+        play(checks, dice, known);
+    }
+}
+
+/// One book in lent words: each reply, and each waiting list with every byte of its buffer.
+fn play(checks: &mut Checks, dice: &mut Dice, play: &Play) {
+    let mut lent = Lent::default();
+    checks.same(&play.place, lent.open(&page_bytes(&play.page)), 0);
+    for step in &play.steps {
+        match &step.asked {
+            Asked::Call(message, reply) => {
+                checks.same(&step.place, lent.call(&Sent::of(message)), told(reply));
+            }
+            Asked::Waiting(accounts) => {
+                for (length, due) in [(31, Err(17)), (32, Ok(&accounts[..])), (40, Ok(&accounts[..]))] {
+                    let ask = |list: &mut [u8]| lent.waiting(list);
+                    let answer = compared(dice.bytes(length), ask, |list| written(due, list));
+                    checks.same(&step.place, answer.map(drop), Ok(()));
+                }
+            }
+        }
+    }
 }
 
 /// Every example: its text is the one that stands beside it, and the second program's.

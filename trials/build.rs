@@ -1,4 +1,5 @@
-//! Links the static library that the gate builds from crates/host: target/staticlib/libhost.a, beside this package's folder.
+//! Links the static library that the gate builds from crates/host: target/staticlib/libhost.a, beside this package's
+//! folder.
 
 fn main() {
     let here = std::env::var("CARGO_MANIFEST_DIR").expect("the package's folder");

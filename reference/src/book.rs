@@ -263,8 +263,8 @@ impl Book {
         &self.accounts[account]
     }
 
-    /// The slip that a late P carries, if one answers this message: it is an ack that passes 4 and 5 and conflicts with the
-    /// retained slip, and nothing was put forward for their number.
+    /// The slip that a late P carries, if one answers this message: it is an ack that passes 4 and 5 and conflicts with
+    /// the retained slip, and nothing was put forward for their number.
     pub fn late(&self, message: &Message) -> Option<Slip> {
         match *message {
             Message::Ack { seat, slip } if self.check_ack(usize::from(seat), &slip).is_ok() => self.conflicting(&slip),
@@ -356,7 +356,8 @@ impl Book {
         Ok(Reply::Balance(account.balance))
     }
 
-    /// Codes 5, 20 and 6 to 8, in this order, which requests and slips can meet. Returns the payer's place in `accounts`.
+    /// Codes 5, 20 and 6 to 8, in this order, which requests and slips can meet. Returns the payer's place in
+    /// `accounts`.
     fn check_new(&self, slip: &Slip) -> Result<usize, u8> {
         self.check_fields(slip)?;
         if slip.pays_itself() && self.rules.turn_down_self_payments() {
@@ -436,8 +437,8 @@ impl Book {
             .find_map(|account| account.waiting.filter(|slip| slip.value <= account.balance))
     }
 
-    /// Takes the value from the payer, who starts afresh at the next number but retains what was accepted, and gives it to
-    /// the recipient, who may be the payer.
+    /// Takes the value from the payer, who starts afresh at the next number but retains what was accepted, and gives it
+    /// to the recipient, who may be the payer.
     fn book(&mut self, slip: Slip) {
         let payer = &mut self.accounts[usize::from(slip.account)];
         *payer = Account {

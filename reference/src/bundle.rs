@@ -87,8 +87,8 @@ pub fn write(page: &OpeningPage, messages: &[Message]) -> Vec<u8> {
     bytes
 }
 
-/// Writes that bundle into the front of the buffer and replies its length; 18 if there are more than 999 messages, 19 if
-/// the buffer is too short. A refusal leaves the buffer as it is. What stands behind the bundle stays.
+/// Writes that bundle into the front of the buffer and replies its length; 18 if there are more than 999 messages, 19
+/// if the buffer is too short. A refusal leaves the buffer as it is. What stands behind the bundle stays.
 pub fn write_into(page: &OpeningPage, messages: &[Message], buffer: &mut [u8]) -> Result<usize, u8> {
     if messages.len() >= MOST_ENTRIES {
         return Err(18);

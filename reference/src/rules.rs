@@ -1,5 +1,5 @@
-//! The sets of rules that a seat may answer by, in the order of time. The book is written by the newest; an earlier set is
-//! told here by how it differs, and asked for at the place of the difference.
+//! The sets of rules that a seat may answer by, in the order of time. The book is written by the newest; an earlier set
+//! is told here by how it differs, and asked for at the place of the difference.
 
 #[derive(Clone, Copy, PartialEq, Eq, PartialOrd, Ord, Debug)]
 pub enum Rules {

@@ -174,8 +174,8 @@ fn wrong_opening(page: &OpeningPage, code: u8) -> String {
     }
 }
 
-/// The reply to each message, where a late P, which looks like any other, is told as such; and the closing lines. None if the
-/// bundle or its opening is refused.
+/// The reply to each message, where a late P, which looks like any other, is told as such; and the closing lines. None
+/// if the bundle or its opening is refused.
 fn played(bytes: &[u8]) -> Option<(Vec<String>, String)> {
     let (page, messages) = bundle::read(bytes).ok()?;
     let mut book = Book::open(&page).ok()?;

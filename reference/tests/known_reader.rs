@@ -1,4 +1,4 @@
-//! The reader of the known answers: what it gives, which lines it refuses, and that it misses each sort that is not there.
+//! The reader of the known answers: what it gives, what it refuses, and that it notices a sort that is not there.
 
 mod common;
 
@@ -229,7 +229,7 @@ fn books_that_are_not_there_or_idle() {
     assert!(what.starts_with(&format!("{}: nothing is asked", place(16))), "{what}");
 }
 
-/// Without the lines of one sort, that sort is missed; an empty file misses the first.
+/// Without the lines of one sort, that is noticed; an empty file lacks the first.
 #[test]
 fn a_sort_that_is_not_there() {
     let without = |leave: &dyn Fn(&str) -> bool| -> String {

@@ -1,5 +1,5 @@
-//! Request 5 of document 02: the latest accepted slip is retained, and put forward late when an ack conflicts with it; the
-//! three sets of rules, and the switch to the newest.
+//! Request 5 of document 02: the latest accepted slip is retained, and put forward late when an ack conflicts with it;
+//! the three sets of rules, and the switch to the newest.
 
 mod common;
 
@@ -331,8 +331,8 @@ fn three_sets_of_rules() {
     assert_eq!(Rules::ALL.map(Rules::leave_ties_free), [true, false, false]);
 }
 
-/// A book under the rules before request 5: account 0 has booked a slip, account 1 too, and its next one waits with nothing
-/// put forward, account 2 waits behind a put-forward, and account 3 has put one forward for its next number.
+/// A book under the rules before request 5: account 0 has booked a slip, account 1 too, and its next one waits with
+/// nothing put forward, account 2 waits behind a put-forward, and account 3 has put one forward for its next number.
 fn from_before(rules: Rules) -> (Book, [Slip; 2]) {
     let (booked, plain, marked) = (slip(1, 1, 9, 0), slip(1, 2, 9, 0), slip(2, 1, 8, 0));
     let mut book = open(6, 1, &[10, 5, 1, 2]).under(rules);
@@ -453,8 +453,8 @@ fn play_many(seed: u64, most: u64, mut call: impl FnMut(&mut Book, &History, &Me
     }
 }
 
-/// From any book, a message gets the same reply under the second and the third rules and leaves the same but for what is
-/// retained, save where a late P is due by what was accepted and put forward, which is 6 or 8 under the second.
+/// From any book, a message gets the same reply under the second and the third rules and leaves the same but for what
+/// is retained, save where a late P is due by what was accepted and put forward, which is 6 or 8 under the second.
 #[test]
 fn nothing_else_differs() {
     let mut late = [0, 0];

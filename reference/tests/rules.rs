@@ -125,8 +125,8 @@ fn acks_and_rulings_for_self_payments_are_taken() {
     }
 }
 
-/// From any book, a message gets the same reply under the first two rules and leaves the same book, save a request or slip
-/// that is a self-payment, and a tie, of which `call` chooses what the second rules do.
+/// From any book, a message gets the same reply under the first two rules and leaves the same book, save a request or
+/// slip that is a self-payment, and a tie, of which `call` chooses what the second rules do.
 #[test]
 fn nothing_else_differs() {
     let mut chance = Chance(3);

@@ -250,7 +250,8 @@ fn mistakes() {
     assert_mistake(&text, 1, "too many balances (33): `open` takes at most 32");
 }
 
-/// A byte order mark in front of the text and parentheses in a comment change nothing, nor do any that have their partners.
+/// A byte order mark in front of the text and parentheses in a comment change nothing, nor do any that have their
+/// partners.
 #[test]
 fn what_is_skipped() {
     let line = "slip (0, 1, 4, 1)\n";

@@ -127,8 +127,8 @@ fn written_and_read() {
     }
 }
 
-/// Writing out what was read gives the bytes, also where no writer made them: each byte of a bundle takes each value, and
-/// most of these bundles are refused.
+/// Writing out what was read gives the bytes, also where no writer made them: each byte of a bundle takes each value,
+/// and most of these bundles are refused.
 #[test]
 fn read_and_written_again() {
     let sound = by_hand(0);

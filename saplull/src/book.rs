@@ -35,8 +35,9 @@ impl Book {
         self.call_bytes(record[0], record[1], &record[2..message.length()])
     }
 
-    /// Plays a message on the book as it came: its kind, its seat (an ack's sender, else 0) and its body, whose signature
-    /// the host has checked. What is no message is refused with 14, and a body of another length than its kind's with 15.
+    /// Plays a message on the book as it came: its kind, its seat (an ack's sender, else 0) and its body, whose
+    /// signature the host has checked. What is no message is refused with 14, and a body of another length than its
+    /// kind's with 15.
     pub fn call_bytes(&mut self, kind: u8, seat: u8, body: &[u8]) -> Reply {
         let mut reply = [0; REPLY_WORDS];
         // Safe: the words of book and reply are as many as stated, and the length is that of the body.

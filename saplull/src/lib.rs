@@ -16,9 +16,10 @@
 //! A seat calls, then saves durably, and only then sends the reply. A seat that sends first and loses its power forgets
 //! that it has acked a slip, and may ack another one with the same number.
 //!
-//! The functions are those of `include/saplull.h`. This package and the static library have to be built from one source.
-//! Where they are not, a call panics and says so if books have another size or if an answer is not known; a reply or a
-//! text of another length is not noticed. Where they are, no call panics, whatever the numbers and bytes are.
+//! The functions are those of `include/saplull.h`. This package and the static library have to be built from one
+//! source. Where they are not, a call panics and says so if books have another size or if an answer is not known; a
+//! reply or a text of another length is not noticed. Where they are, no call panics, whatever the numbers and bytes
+//! are.
 
 #![warn(missing_docs)]
 

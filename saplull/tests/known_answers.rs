@@ -69,7 +69,8 @@ fn openings_that_are_refused() {
     }
 }
 
-/// Each reply is shown as `daybook` shows it; and `replies` holds that a message that is refused leaves the book as it was.
+/// Each reply is shown as `daybook` shows it; and `replies` holds that a message that is refused leaves the book as it
+/// was.
 #[test]
 fn plays() {
     for Play {

@@ -1,5 +1,5 @@
-//! What is tried, in folders: bundles, messages, books, the writer of bundles, groups of seats and crashes; what the trials
-//! share; and what the benchmark measures.
+//! What is tried, in folders: bundles, messages, books, the writer of bundles, groups of seats and crashes; what the
+//! trials share; and what the benchmark measures.
 
 pub mod bench;
 pub mod books;

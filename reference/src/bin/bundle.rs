@@ -43,7 +43,8 @@ fn main() -> ExitCode {
     }
 }
 
-/// The input; this and the three functions below, which know the file's name, say in Err what stands behind it and a colon.
+/// The input; this and the three functions below, which know the file's name, say in Err what stands behind it and a
+/// colon.
 fn input(file: Option<&OsStr>) -> Result<Vec<u8>, String> {
     let bytes = streams::input(file, MOST_BYTES + 1).map_err(|error| format!(" {error}"))?;
     if bytes.len() > MOST_BYTES {

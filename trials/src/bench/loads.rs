@@ -42,8 +42,8 @@ fn chain(index: usize) -> Message {
     })
 }
 
-/// As often as sixteen seats can come to P: thirteen acks for two slips, seven and six, which are twelve N and P; then a
-/// ruling for the one with the most acks, K 1, so that the next number may begin. The accounts take turns.
+/// As often as sixteen seats can come to P: thirteen acks for two slips, seven and six, which are twelve N and P; then
+/// a ruling for the one with the most acks, K 1, so that the next number may begin. The accounts take turns.
 fn conflict(index: usize) -> Message {
     let (round, step) = (index / 14, index % 14);
     let slip = Slip {

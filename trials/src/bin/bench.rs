@@ -1,12 +1,13 @@
-//! The compiled `daybook` against the second program, in one run: instructions and time per message, their ratio, and how
-//! both grow with the bundle; the writer of bundles against the second program's, in time; and one call through the static
-//! library, on a book that is held, against the second program's, with the time to save and load such a book:
+//! The compiled `daybook` against the second program, in one run: instructions and time per message, their ratio, and
+//! how both grow with the bundle; the writer of bundles against the second program's, in time; and one call through the
+//! static library, on a book that is held, against the second program's, with the time to save and load such a book:
 //!
 //!     bench --daybook PATH --reference PATH
 //!
-//! Instructions are those that callgrind counts of the programs, less those of a bundle or a book with no message, so that
-//! starting a program is left out. Time is that of the two libraries in this process, the best of many rounds in turn.
-//! The status is 1 where the ratio of instructions of whole bundles is above the limit, and the last lines say where.
+//! Instructions are those that callgrind counts of the programs, less those of a bundle or a book with no message, so
+//! that starting a program is left out. Time is that of the two libraries in this process, the best of many rounds in
+//! turn. The status is 1 where the ratio of instructions of whole bundles is above the limit, and the last lines say
+//! where.
 //!
 //!     bench --play library|second LOAD COUNT
 //!

@@ -1,5 +1,5 @@
-//! Runs of whole groups with bad seats and with seats that switch on different days, checked against demand 3 and requests 2,
-//! 3 and 5 of document 02.
+//! Runs of whole groups with bad seats and with seats that switch on different days, checked against demand 3 and
+//! requests 2, 3 and 5 of document 02.
 //!
 //!     groups [--program PATH] [--seed N] [--runs N] [--only INDEX]
 //!

@@ -222,8 +222,9 @@ fn list_is(checks: &mut Checks, dice: &mut Dice, came: &[u8], then: &[Message], 
     }
 }
 
-/// A book held from before request 3, in which this seat has acked a home that pays itself: its words are taken over, and the
-/// host goes on with the new ones. That slip meets 20, another of its number 12; acks and rulings for it are taken.
+/// A book held from before request 3, in which this seat has acked a home that pays itself: its words are taken over,
+/// and the host goes on with the new ones. That slip meets 20, another of its number 12; acks and rulings for it are
+/// taken.
 fn held_book(checks: &mut Checks) {
     let page = OpeningPage::of(2, 0, &[10, 5]);
     let slip = Slip {

@@ -22,8 +22,8 @@ const WRONG_EACH: u64 = 20;
 
 const MAX: u32 = u32::MAX;
 
-/// Opens the page over words that are 0, that are all the same, and that are anything: each time the code has to be this
-/// one. A refusal leaves every word; an opening replaces whatever the words held.
+/// Opens the page over words that are 0, that are all the same, and that are anything: each time the code has to be
+/// this one. A refusal leaves every word; an opening replaces whatever the words held.
 pub fn try_opening(checks: &mut Checks, dice: &mut Dice, what: &str, page: &[u8], code: u8) {
     let same = Lent {
         words: Box::new([u32::from_le_bytes([UNTOUCHED; 4]); WORDS]),
@@ -111,8 +111,8 @@ fn taken_over(held: &HeldWords, lent: &Lent) -> Result<(), String> {
     Ok(())
 }
 
-/// Words that are all 0 are a book with no seats and no accounts: every message is refused, an ack by its seat; and before
-/// that what is handed over wrongly.
+/// Words that are all 0 are a book with no seats and no accounts: every message is refused, an ack by its seat; and
+/// before that what is handed over wrongly.
 fn refused_by_none(dice: &mut Dice) -> Result<(), String> {
     let mut lent = Lent::default();
     let message = message(dice, &lent);
@@ -411,8 +411,8 @@ fn tallied(before: &Lent, held: &mut Account, slip: Slip) -> Option<Reply> {
     Some(Reply::PutForward { slip })
 }
 
-/// The slip is retained, with the mark of its number, and waits at its account; then, while some waiting slip's value is at
-/// most its payer's balance, the one with the lowest account is booked.
+/// The slip is retained, with the mark of its number, and waits at its account; then, while some waiting slip's value
+/// is at most its payer's balance, the one with the lowest account is booked.
 fn accepted(accounts: &mut [Account], slip: Slip) -> Reply {
     let held = &mut accounts[usize::from(slip.account)];
     let put_forward = held.put_forward;

@@ -1,5 +1,5 @@
-//! What is handed over wrongly: a kind, a seat or a length that no entry of a bundle has with its body, and the code that is
-//! due before all else.
+//! What is handed over wrongly: a kind, a seat or a length that no entry of a bundle has with its body, and the code
+//! that is due before all else.
 
 use crate::books::held::same_words;
 use crate::books::lent::{self, Lent, Sent};
@@ -112,7 +112,8 @@ fn spoil_body(dice: &mut Dice, body: &mut Vec<u8>) {
 
 // What is the same in every run.
 
-/// Every kind with some seats and bodies of many lengths, each to a book just opened that answers what is handed over rightly.
+/// Every kind with some seats and bodies of many lengths, each to a book just opened that answers what is handed over
+/// rightly.
 pub fn known(checks: &mut Checks) {
     let page = OpeningPage::of(16, 3, &[10, 5]);
     let book = Book::open(&page).expect("a good page");

@@ -93,8 +93,8 @@ impl Held {
         })
     }
 
-    /// One message, which is perhaps handed over wrongly before; then the whole book and the waiting list. Then perhaps the
-    /// book is saved and loaded.
+    /// One message, which is perhaps handed over wrongly before; then the whole book and the waiting list. Then perhaps
+    /// the book is saved and loaded.
     fn meet(&mut self, dice: &mut Dice, message: &Message, tallies: &mut Tallies, column: usize) -> Result<(), String> {
         if dice.once_in(WRONG_EACH) {
             tallies.add(column, handed::refused(dice, &mut self.lent, message)?);

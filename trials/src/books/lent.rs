@@ -26,9 +26,9 @@ extern "C" {
 pub const WORDS: usize = 1_380;
 pub const REPLY: usize = 5;
 pub const SAVED: usize = 5_532;
-/// How many words an account has: balance, current number, two marks, value, number and recipient of the slip that waits,
-/// for each seat the value and then for each seat the recipient of its ack; and value, number, recipient and mark of the
-/// retained slip.
+/// How many words an account has: balance, current number, two marks, value, number and recipient of the slip that
+/// waits, for each seat the value and then for each seat the recipient of its ack; and value, number, recipient and
+/// mark of the retained slip.
 pub const BLOCK: usize = 43;
 /// Behind the accounts stand n, f, k and the opening sum.
 pub const GROUP: usize = 32 * BLOCK;
@@ -52,8 +52,8 @@ impl Default for Lent {
     }
 }
 
-// The exported functions ask nothing of what they are lent: each buffer is as long as is said, lent for the call alone, and
-// no two overlap. So each wrapper is safe for every value.
+// The exported functions ask nothing of what they are lent: each buffer is as long as is said, lent for the call alone,
+// and no two overlap. So each wrapper is safe for every value.
 
 impl Lent {
     /// Opens the book from a page's bytes: the code by which it is refused, or 0.

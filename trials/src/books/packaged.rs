@@ -1,5 +1,5 @@
-//! The Rust package over the same library, beside a book that is held: each message through its types, each reply as it shows
-//! it, the waiting list, and the bytes that it keeps.
+//! The Rust package over the same library, beside a book that is held: each message through its types, each reply as it
+//! shows it, the waiting list, and the bytes that it keeps.
 
 use reference::book::{Message, OpeningPage, Slip};
 use saplull::{Account, Book, Page, Seat, Transfer};

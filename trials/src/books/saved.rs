@@ -62,8 +62,8 @@ fn faults(bytes: &[u8]) -> Vec<u8> {
     met.map(|(code, _)| code).collect()
 }
 
-/// Saves the book into a buffer of any content and loads it over words of any content: the book that comes of it. The book
-/// itself, each byte of the buffer and around it, and each word loaded have to be right.
+/// Saves the book into a buffer of any content and loads it over words of any content: the book that comes of it. The
+/// book itself, each byte of the buffer and around it, and each word loaded have to be right.
 pub fn restored(dice: &mut Dice, lent: &Lent) -> Result<Lent, String> {
     let mut bytes = around::any(dice, SAVED);
     let (mut due, buffer) = (bytes.clone(), around::lent(SAVED));
@@ -105,7 +105,8 @@ fn try_load(before: &Lent, bytes: &[u8]) -> Result<Vec<u8>, String> {
     same_words(before, &lent).map(|()| faults)
 }
 
-/// Known answers: the sizes, three forms by their bytes and sums, which were worked out apart, and bytes that are refused.
+/// Known answers: the sizes, three forms by their bytes and sums, which were worked out apart, and bytes that are
+/// refused.
 pub fn known(checks: &mut Checks, dice: &mut Dice) {
     checks.same("the words of a book, the bytes of a saved one", sizes(), (1_380, 5_532));
     let of = |word: fn(usize) -> u32| Lent {

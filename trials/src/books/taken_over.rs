@@ -1,5 +1,5 @@
-//! Books held from before request 5 of document 02, in the words of then: taken over, held to the second program's switch
-//! word for word, and gone on with.
+//! Books held from before request 5 of document 02, in the words of then: taken over, held to the second program's
+//! switch word for word, and gone on with.
 
 use crate::books::held::same_words;
 use crate::books::lent::{told, HeldWords, Lent, Sent, HELD_WORDS};
@@ -101,8 +101,8 @@ fn words_in(text: &str) -> Result<Box<HeldWords>, String> {
     words.try_into().map_err(wrong)
 }
 
-/// The page of the lines behind the mark, and the book that their messages make under the rules of then. Each message has
-/// to get the reply that stands behind it.
+/// The page of the lines behind the mark, and the book that their messages make under the rules of then. Each message
+/// has to get the reply that stands behind it.
 fn made(checks: &mut Checks, text: &str) -> Result<(OpeningPage, Book), String> {
     let lines = (1..).zip(text.lines());
     let mut lines = lines.filter_map(|(line, words)| Some((line, words.strip_prefix(MARK)?)));

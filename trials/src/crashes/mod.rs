@@ -1,6 +1,7 @@
-//! A seat that keeps its book on disk and is killed at any place of its work, again and again. Three things are claimed of
-//! what it sends over its whole life: no ack that was sent is ever contradicted; after each kill it goes on with the book of
-//! the messages up to the last one that was saved; and each reply that was sent is the second program's for its book.
+//! A seat that keeps its book on disk and is killed at any place of its work, again and again. Three things are claimed
+//! of what it sends over its whole life: no ack that was sent is ever contradicted; after each kill it goes on with the
+//! book of the messages up to the last one that was saved; and each reply that was sent is the second program's for its
+//! book.
 
 mod cheat;
 mod life;

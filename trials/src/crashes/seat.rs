@@ -1,5 +1,5 @@
-//! The seat: it keeps its book in a file, over the static library. For each message it calls, saves the book durably, and
-//! sends the reply.
+//! The seat: it keeps its book in a file, over the static library. For each message it calls, saves the book durably,
+//! and sends the reply.
 
 use super::steps::{bytes_of, part_of, unframed, Habit, Place, FRAME, HOLDS, OPENING, REFUSALS};
 use crate::books::lent::{Lent, REPLY, SAVED};

@@ -1,5 +1,5 @@
-//! What a seat and its network tell each other: the places of a seat's work, a message as it comes over the pipe, and the
-//! order in which a seat works.
+//! What a seat and its network tell each other: the places of a seat's work, a message as it comes over the pipe, and
+//! the order in which a seat works.
 
 use crate::books::lent::{Lent, Sent, REPLY, WORDS};
 use crate::shared::daybook::PAGE;
@@ -95,8 +95,8 @@ impl Habit {
 pub const FRAME: usize = RECORD + 2;
 /// The page, and that number for the save of a new book.
 pub const OPENING: usize = PAGE + 2;
-/// A seat that goes on with a book tells this byte and its words. One whose file is no saved book tells, as a byte, the code
-/// by which it is refused, and ends.
+/// A seat that goes on with a book tells this byte and its words. One whose file is no saved book tells, as a byte, the
+/// code by which it is refused, and ends.
 pub const HOLDS: u8 = 255;
 pub const REFUSALS: std::ops::RangeInclusive<u8> = 101..=104;
 /// The words of a book, and a reply, over the pipe.

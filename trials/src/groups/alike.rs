@@ -1,5 +1,5 @@
-//! Request 2 of document 02 on a recorded run: what two seats, or one, put forward on equal acks is equal. The first rules
-//! left it free, so this holds of seats that answer by later ones. A late P rests on no acks.
+//! Request 2 of document 02 on a recorded run: what two seats, or one, put forward on equal acks is equal. The first
+//! rules left it free, so this holds of seats that answer by later ones. A late P rests on no acks.
 
 use super::printed::Reply;
 use super::record::Record;
@@ -8,8 +8,8 @@ use reference::book::Slip;
 use reference::rules::Rules;
 use std::collections::hash_map::{Entry, HashMap};
 
-/// A reply P that is not late: the seat that gave it and by which rules, the slip that it carries, and the recorded acks
-/// that it rests on, as they came, the ack at hand last.
+/// A reply P that is not late: the seat that gave it and by which rules, the slip that it carries, and the recorded
+/// acks that it rests on, as they came, the ack at hand last.
 pub struct PutForward {
     pub seat: usize,
     pub rules: Rules,
@@ -57,8 +57,8 @@ fn letter(reply: Reply) -> &'static str {
     }
 }
 
-/// Each P that rests on the same acks, seat by seat, as an earlier one, and before it the first that does; both by rules
-/// that leave no tie free.
+/// Each P that rests on the same acks, seat by seat, as an earlier one, and before it the first that does; both by
+/// rules that leave no tie free.
 pub fn pairs(all: &[PutForward]) -> Vec<[&PutForward; 2]> {
     let mut first: HashMap<Vec<Ack>, &PutForward> = HashMap::new();
     let mut pairs = Vec::new();

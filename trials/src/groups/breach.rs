@@ -1,5 +1,5 @@
-//! What is broken on purpose, to show that the checks can fail: one premise, the text that `daybook` printed, a switch, or the
-//! council's wait.
+//! What is broken on purpose, to show that the checks can fail: one premise, the text that `daybook` printed, a switch,
+//! or the council's wait.
 
 use super::demand3::{self, Check};
 use super::late::Wrong;
@@ -25,12 +25,13 @@ pub enum Breach {
     TwoPages,
     /// The premises are kept, but the text is changed before it is read.
     Told(Lie),
-    /// The premises are kept, but in the place of its switch a seat runs its old bundle again: the mark of a self-payment is
-    /// lost.
+    /// The premises are kept, but in the place of its switch a seat runs its old bundle again: the mark of a
+    /// self-payment is lost.
     RunAgain,
     /// The premises are kept, but seats retain nothing when they switch to the newest rules.
     NothingRetained,
-    /// The premises are kept, but a council that has to wait for n - f seats rules as soon as one has put something forward.
+    /// The premises are kept, but a council that has to wait for n - f seats rules as soon as one has put something
+    /// forward.
     NoWait,
 }
 
@@ -94,8 +95,8 @@ impl Breach {
         }
     }
 
-    /// Whether this check has to notice it. Two acks, wrong put-forwards or an early ruling are only the way to books that
-    /// part; where they are what is broken, they may part them too, but have to be noticed as such.
+    /// Whether this check has to notice it. Two acks, wrong put-forwards or an early ruling are only the way to books
+    /// that part; where they are what is broken, they may part them too, but have to be noticed as such.
     fn shows_in(self, check: Check) -> bool {
         match self {
             Breach::Told(Lie::PutForward(wrong)) => check == Check::PutForward(wrong),

@@ -13,9 +13,9 @@ pub enum Wait {
     ForOne,
     /// Until so many seats have put something forward, which are n - f.
     ForMost(usize),
-    /// The same, but after so many rounds it rules on fewer. A group needs it whose seats do not all have the newest rules:
-    /// one that has accepted under earlier ones puts nothing forward any more, so n - f may never be met. Document 01's
-    /// premise asks for one.
+    /// The same, but after so many rounds it rules on fewer. A group needs it whose seats do not all have the newest
+    /// rules: one that has accepted under earlier ones puts nothing forward any more, so n - f may never be met.
+    /// Document 01's premise asks for one.
     ForMostAWhile(usize, u64),
 }
 
@@ -172,8 +172,8 @@ impl Council {
     }
 }
 
-/// The rulings that reached a seat of a recorded run before n - f seats had put something forward, if its council has to wait
-/// for them.
+/// The rulings that reached a seat of a recorded run before n - f seats had put something forward, if its council has
+/// to wait for them.
 pub fn faults(record: &Record) -> Vec<String> {
     let most = match record.wait {
         Wait::ForMost(_) => usize::from(record.pages[0].n - record.pages[0].f),

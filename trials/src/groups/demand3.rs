@@ -1,5 +1,5 @@
-//! Demand 3 on a recorded run: agreement, the slate, and equal counts; and beside it that each seat acks once, that P are
-//! alike, that each seat answers by its rules, that it puts forward once for a number, and that the council waits.
+//! Demand 3 on a recorded run: agreement, the slate, and equal counts; and beside it that each seat acks once, that P
+//! are alike, that each seat answers by its rules, that it puts forward once for a number, and that the council waits.
 
 use super::alike;
 use super::council;
@@ -13,8 +13,8 @@ use std::collections::HashMap;
 
 #[derive(Clone, Copy, PartialEq, Eq, Debug)]
 pub enum Check {
-    /// The text is not what `daybook` may print at all, or a longer bundle changed an older reply; or the real library goes on
-    /// otherwise with a book that is held.
+    /// The text is not what `daybook` may print at all, or a longer bundle changed an older reply; or the real library
+    /// goes on otherwise with a book that is held.
     Text,
     Agreement,
     Slate,
@@ -33,7 +33,8 @@ pub struct Failure {
     pub what: String,
 }
 
-/// Every failure in the order of the run; none if the run is as demand 3, `alike`, `switches`, `late` and `council` say.
+/// Every failure in the order of the run; none if the run is as demand 3, `alike`, `switches`, `late` and `council`
+/// say.
 pub fn failures(record: &Record) -> Vec<Failure> {
     let of = |check, faults: Vec<String>| faults.into_iter().map(move |what| Failure { check, what });
     let mut all: Vec<Failure> = of(Check::Text, record.faults.clone()).collect();

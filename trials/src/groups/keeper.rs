@@ -1,5 +1,5 @@
-//! A seat's book that was opened under earlier rules: the second program keeps it. Once the seat switches to the newest, the
-//! real library takes over its words and goes on with the same book.
+//! A seat's book that was opened under earlier rules: the second program keeps it. Once the seat switches to the
+//! newest, the real library takes over its words and goes on with the same book.
 
 use super::printed::{Closing, Reply};
 use crate::books::lent::{told, Lent, Sent};

@@ -1,6 +1,6 @@
-//! Request 5 of document 02 on a recorded run, read off the pages and calls alone: a seat puts forward at most once for a
-//! number; once it has accepted, only the latest accepted slip, only under the newest rules, and then always when an ack
-//! conflicts with it.
+//! Request 5 of document 02 on a recorded run, read off the pages and calls alone: a seat puts forward at most once for
+//! a number; once it has accepted, only the latest accepted slip, only under the newest rules, and then always when an
+//! ack conflicts with it.
 
 use super::printed::Reply;
 use super::record::{key_of, Call, Key, Record};
@@ -107,8 +107,8 @@ fn walked(record: &Record) -> Walk {
 struct Walk {
     bad: Vec<bool>,
     seats: Vec<Seat>,
-    /// How each ack, by its sender and slip, that conflicts with an accepted slip, the last here, was met: `true` by a late P,
-    /// `false` under earlier rules alone with 6 or 8.
+    /// How each ack, by its sender and slip, that conflicts with an accepted slip, the last here, was met: `true` by a
+    /// late P, `false` under earlier rules alone with 6 or 8.
     ways: HashMap<(u8, Slip, Slip), HashSet<bool>>,
     faults: Vec<(Wrong, String)>,
     met: Vec<&'static str>,
@@ -267,8 +267,8 @@ impl Walk {
         }
     }
 
-    /// Counts an ack when it has been met in both ways, each at a seat that accepted the same slip and put nothing forward
-    /// before.
+    /// Counts an ack when it has been met in both ways, each at a seat that accepted the same slip and put nothing
+    /// forward before.
     fn note_way(&mut self, ack: Ack, accepted: Accepted, late: bool) {
         let (sender, slip) = ack;
         let ways = self.ways.entry((sender, slip, accepted.slip)).or_default();

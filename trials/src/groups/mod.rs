@@ -1,7 +1,7 @@
 //! Whole groups of seats, some of them bad. An honest seat that has the newest rules from its opening on is the real
-//! `daybook`; one that has not is the second program under one of the two earlier sets, and it may switch in the middle, once
-//! or twice. Demand 3 is checked on what all of them reply, that tied slips are put forward alike, and that what is accepted
-//! is put forward late, by the newest rules and once.
+//! `daybook`; one that has not is the second program under one of the two earlier sets, and it may switch in the
+//! middle, once or twice. Demand 3 is checked on what all of them reply, that tied slips are put forward alike, and
+//! that what is accepted is put forward late, by the newest rules and once.
 
 pub mod alike;
 pub mod breach;

@@ -18,9 +18,9 @@ const MOST_BROUGHT: u64 = 900;
 pub struct Course {
     /// The rules that its book is opened under.
     pub start: Rules,
-    /// The round, not the first, at whose beginning it switches to the next rules. It switches again after as many rounds, and
-    /// once more after as many: under the newest rules that changes nothing. Until it has these it may also switch in any
-    /// other round, if a slip waits there.
+    /// The round, not the first, at whose beginning it switches to the next rules. It switches again after as many
+    /// rounds, and once more after as many: under the newest rules that changes nothing. Until it has these it may also
+    /// switch in any other round, if a slip waits there.
     pub switch: Option<u64>,
 }
 
@@ -187,7 +187,8 @@ fn scaled_up(mut page: OpeningPage) -> OpeningPage {
     page
 }
 
-/// One of the three sorts, by their parts; those that have not switched to the newest rules start under any of the others.
+/// One of the three sorts, by their parts; those that have not switched to the newest rules start under any of the
+/// others.
 fn course(mixture: [u64; 3], rounds: u64, dice: &mut Dice) -> Course {
     let [newest, never, _] = mixture;
     let part = dice.below(mixture.iter().sum());

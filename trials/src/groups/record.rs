@@ -64,8 +64,8 @@ pub struct Record {
     /// How long the council has to wait.
     pub wait: Wait,
     pub events: Vec<Event>,
-    /// Texts that could not be read, replies that a longer bundle changed, and replies of the real library, going on with a
-    /// book that is held, that are not the second program's.
+    /// Texts that could not be read, replies that a longer bundle changed, and replies of the real library, going on
+    /// with a book that is held, that are not the second program's.
     pub faults: Vec<String>,
 }
 

@@ -17,8 +17,8 @@ fn opening_sum(page: &OpeningPage) -> u32 {
     page.balances.iter().sum()
 }
 
-/// A home's slip, with a value that mostly fits the account as it stands at some seat. Once in so many times, and if there
-/// is no other recipient, the home pays itself.
+/// A home's slip, with a value that mostly fits the account as it stands at some seat. Once in so many times, and if
+/// there is no other recipient, the home pays itself.
 pub fn new_slip(page: &OpeningPage, key: Key, closing: Closing, to_itself: u64, dice: &mut Dice) -> Slip {
     let balance = closing.balance;
     let value = match dice.below(8) {

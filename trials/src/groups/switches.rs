@@ -1,5 +1,5 @@
-//! Request 3 of document 02 on a recorded run: each seat answers by its rules and goes back to no earlier ones; and what
-//! the run met of self-payments and of switches. Here a seat has switched once it turns self-payments down.
+//! Request 3 of document 02 on a recorded run: each seat answers by its rules and goes back to no earlier ones; and
+//! what the run met of self-payments and of switches. Here a seat has switched once it turns self-payments down.
 
 use super::printed::Reply;
 use super::record::{key_of, Call, Key, Record};
@@ -66,8 +66,8 @@ struct Walk {
 struct Seat {
     slate: Slate,
     rules: Option<Rules>,
-    /// The self-payments that it acked and has not booked, and the numbers for which it put a slip forward; `true` once a
-    /// switch came behind.
+    /// The self-payments that it acked and has not booked, and the numbers for which it put a slip forward; `true` once
+    /// a switch came behind.
     marks: Vec<(Slip, bool)>,
     put_forward: Vec<(Key, bool)>,
     /// The self-payments that it accepted and has not booked; `true` for those that count as ACCEPTED.

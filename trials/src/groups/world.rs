@@ -361,8 +361,8 @@ impl World {
         }
     }
 
-    /// Bad seats send honest ones acks for what these have accepted: mostly another slip, which brings a late P once, now and
-    /// then the same, or one of the number before.
+    /// Bad seats send honest ones acks for what these have accepted: mostly another slip, which brings a late P once,
+    /// now and then the same, or one of the number before.
     fn provoke(&mut self) {
         let targets: Vec<(usize, Slip)> = self.accepted.iter().map(|((seat, _), slip)| (*seat, *slip)).collect();
         for (seat, accepted) in targets {
@@ -387,8 +387,8 @@ impl World {
         self.network.send(seat, Message::Ack { seat: sender, slip });
     }
 
-    /// While the council waits to hear of a seat, the honest acks of that number are sent to it once more: one that conflicts
-    /// with what it has accepted, recorded before or not, brings its late P.
+    /// While the council waits to hear of a seat, the honest acks of that number are sent to it once more: one that
+    /// conflicts with what it has accepted, recorded before or not, brings its late P.
     fn send_disputed(&mut self) {
         for seat in self.honest() {
             for key in self.council.lacking(seat) {

@@ -13,8 +13,8 @@ pub struct History {
 }
 
 impl History {
-    /// Takes a message and its reply, as printed or its letter alone: K tells that the slip is accepted, P that its number
-    /// is put forward.
+    /// Takes a message and its reply, as printed or its letter alone: K tells that the slip is accepted, P that its
+    /// number is put forward.
     pub fn take(&mut self, message: &Message, reply: &str) {
         match (message, reply.as_bytes().first()) {
             (Message::Ack { slip, .. } | Message::Ruling(slip), Some(b'K')) => {

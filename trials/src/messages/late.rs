@@ -1,5 +1,5 @@
-//! Acks for a number that is accepted or booked, request 5 of document 02: the rows of a late P, and of 6 and 8 where none
-//! comes.
+//! Acks for a number that is accepted or booked, request 5 of document 02: the rows of a late P, and of 6 and 8 where
+//! none comes.
 
 use crate::messages::history::History;
 use reference::book::{Book, Message, Slip};
@@ -34,9 +34,9 @@ const SECOND_ACK: &str = "late P: a seat's second ack";
 /// Once it is booked, with a slip put forward for the next number.
 const NEXT_PUT_FORWARD: &str = "late P: next number put forward";
 const SELF_PAYMENT: &str = "late P: a self-payment";
-/// No late P: 6 and 8 for an ack equal to the retained slip, with nothing put forward; for one that conflicts, behind a late
-/// P, behind one that came while the slip waited, and behind an ordinary P; and for one that conflicts with what was accepted
-/// for a lower number, with nothing put forward.
+/// No late P: 6 and 8 for an ack equal to the retained slip, with nothing put forward; for one that conflicts, behind a
+/// late P, behind one that came while the slip waited, and behind an ordinary P; and for one that conflicts with what
+/// was accepted for a lower number, with nothing put forward.
 const EQUAL: [&str; 2] = ["no late P: equal, 6", "no late P: equal, 8"];
 const LATE_BEFORE: [&str; 2] = ["no late P: late before, 6", "no late P: late before, 8"];
 const WAITED_THEN: &str = "no late P: late when it waited, 6";
@@ -94,8 +94,8 @@ impl Retentions {
         rows.iter().filter(|(_, met)| *met).map(|(row, _)| *row).collect()
     }
 
-    /// The row of 8, or of 6, where one thing alone keeps the late P away: the ack is equal to the slip, its number is put
-    /// forward, or a higher one is retained.
+    /// The row of 8, or of 6, where one thing alone keeps the late P away: the ack is equal to the slip, its number is
+    /// put forward, or a higher one is retained.
     fn refused(&self, slip: &Slip, waits: bool) -> Option<&'static str> {
         let (accepted, latest) = (self.history.accepted(slip)?, self.history.latest(slip.account)?);
         let lower = slip.number < latest.number;

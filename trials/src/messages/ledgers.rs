@@ -350,8 +350,8 @@ impl<'a> Life<'a> {
         }
     }
 
-    /// A home pays itself, with fields at or beyond a limit or not, also while a slip of it waits or is acked. Messages of
-    /// any kind bring the slip; then perhaps the seats ack it.
+    /// A home pays itself, with fields at or beyond a limit or not, also while a slip of it waits or is acked. Messages
+    /// of any kind bring the slip; then perhaps the seats ack it.
     fn pay_itself(&mut self) {
         let account = self.any_account();
         let mut slip = self.slip(account);
@@ -434,8 +434,8 @@ impl<'a> Life<'a> {
         self.say(message);
     }
 
-    /// Acks for the number that an account accepted last, often while its slip waits: rivals of that slip, itself, recorded
-    /// ones once more, or of a lower number; some come twice. None of them can be accepted.
+    /// Acks for the number that an account accepted last, often while its slip waits: rivals of that slip, itself,
+    /// recorded ones once more, or of a lower number; some come twice. None of them can be accepted.
     fn dispute(&mut self) {
         let waiting = |account: &Account| account.waiting.is_some();
         let only_waiting = self.dice.once_in(2);
@@ -522,8 +522,8 @@ impl<'a> Life<'a> {
         }
     }
 
-    /// The end: in any order, each account that does not wait gets a ruling that it cannot pay, and once all wait nothing
-    /// is booked any more. (An account that has all portions can pay any.)
+    /// The end: in any order, each account that does not wait gets a ruling that it cannot pay, and once all wait
+    /// nothing is booked any more. (An account that has all portions can pay any.)
     fn stop(&mut self) {
         let mut accounts = self.accounts_that_do_not_wait();
         self.dice.shuffle(&mut accounts);

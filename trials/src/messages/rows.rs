@@ -1,4 +1,5 @@
-//! The rows of a reply that depend on what came before its message: of a P by its acks, of a late P, and of self-payments.
+//! The rows of a reply that depend on what came before its message: of a P by its acks, of a late P, and of
+//! self-payments.
 
 use crate::messages::late::Retentions;
 use crate::messages::self_payments;

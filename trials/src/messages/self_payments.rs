@@ -1,5 +1,5 @@
-//! Messages whose slip pays its own payer, request 3 of document 02: the rows of a request or slip by which code decides
-//! and which one stands behind 20, and of an ack or ruling by its reply.
+//! Messages whose slip pays its own payer, request 3 of document 02: the rows of a request or slip by which code
+//! decides and which one stands behind 20, and of an ack or ruling by its reply.
 
 use reference::book::{Book, Message, Reply};
 use reference::rules::Rules;

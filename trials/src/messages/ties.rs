@@ -86,8 +86,8 @@ impl Arrivals {
         acks
     }
 
-    /// Takes a message and the letter of its reply: N tells that an ack is recorded, K that a slip is accepted, and P that
-    /// an ack is recorded, unless it is late. Gives the acks that an ordinary P rests on.
+    /// Takes a message and the letter of its reply: N tells that an ack is recorded, K that a slip is accepted, and P
+    /// that an ack is recorded, unless it is late. Gives the acks that an ordinary P rests on.
     pub fn take(&mut self, message: &Message, letter: &str) -> Option<&[Ack]> {
         match (message, letter) {
             (Message::Ack { slip, .. } | Message::Ruling(slip), "K") => {

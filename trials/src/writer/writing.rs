@@ -93,8 +93,8 @@ pub fn known_replies(checks: &mut Checks, dice: &mut Dice) {
     reply(Err((19, 0)), "a record, no room", &questions(1), 0);
 }
 
-/// So many records, at the limit and far beyond it, where a count or a length in 16 bits would begin again; and a buffer
-/// of such a length.
+/// So many records, at the limit and far beyond it, where a count or a length in 16 bits would begin again; and a
+/// buffer of such a length.
 pub fn counts(checks: &mut Checks, dice: &mut Dice) {
     for count in [0, 1, 998, 999, 1_000, 1_001, 5_462, 65_535, 65_536, 66_000] {
         for message in [REQUESTED, ASKED] {

@@ -185,7 +185,7 @@ fn form(word: &str, form: &str) -> String {
 }
 
 fn text_of(file: &Path) -> Result<String, String> {
-    fs::read_to_string(file).map_err(|error| format!("{}: {error}", file.display()))
+    fs::read_to_string(file).map_err(|error| format!("{}: {error}; a text has to stand there", file.display()))
 }
 
 fn byte(name: &str, word: &str) -> Result<u8, String> {

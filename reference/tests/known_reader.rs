@@ -63,13 +63,13 @@ fn facts() {
 }
 
 #[test]
-fn books() {
+fn a_book() {
     let known = parse(SMALL).expect("a right text");
     assert_eq!(known.plays.len(), 2);
-    let (first, second) = (&known.plays[0], &known.plays[1]);
-    assert_eq!(first.place, place(6));
-    assert_eq!((&first.page, &first.example), (&OpeningPage::of(6, 1, &[10, 3]), &None));
-    let steps = first.steps.iter().zip(7..);
+    let play = &known.plays[0];
+    assert_eq!(play.place, place(6));
+    assert_eq!((&play.page, &play.example), (&OpeningPage::of(6, 1, &[10, 3]), &None));
+    let steps = play.steps.iter().zip(7..);
     assert!(steps.clone().all(|(step, line)| step.place == place(line)));
     let asked: Vec<Asked> = steps.map(|(step, _)| step.asked.clone()).collect();
     let due = [
@@ -82,13 +82,18 @@ fn books() {
         Asked::Waiting(vec![]),
     ];
     assert_eq!(asked, due);
+}
 
+#[test]
+fn an_example() {
+    let known = parse(SMALL).expect("a right text");
+    let play = &known.plays[1];
     assert_eq!(
-        (&second.place, &second.page),
+        (&play.place, &play.page),
         (&place(14), &OpeningPage::of(2, 0, &[10, 3]))
     );
     let u = slip(0, 1, 5, 1);
-    let steps: Vec<_> = second
+    let steps: Vec<_> = play
         .steps
         .iter()
         .map(|step| (&step.place[..], step.asked.clone()))
@@ -103,7 +108,7 @@ fn books() {
         (&last, Asked::Waiting(vec![31, 0])),
     ];
     assert_eq!(steps, due);
-    let example = second.example.as_ref().expect("an example");
+    let example = play.example.as_ref().expect("an example");
     assert_eq!(example.text, "1 N\n2 P 0 1 4 1\n= 0 10 0\n= 1 3 0\n");
     assert_eq!(example.messages, [ack(0, T), ack(1, u)]);
     assert_eq!(example.bundle, Path::new("../examples/tie_at_hand.bundle"));
@@ -267,6 +272,32 @@ fn a_sort_that_is_not_there() {
 fn a_file_that_is_not_there() {
     let what = Known::read(Path::new("no/such")).expect_err("no file");
     assert!(what.starts_with("no/such/known_answers.txt: No such file"), "{what}");
+    assert!(what.ends_with("; a text has to stand there"), "{what}");
+}
+
+/// An example whose text has no reply to each message, or whose source is wrong, is refused by its own file and line.
+#[test]
+fn wrong_examples() {
+    let folder = Path::new(env!("CARGO_TARGET_TMPDIR"));
+    let [page, text] = ["page", "txt"].map(|ending| folder.join("wrong").with_extension(ending));
+    let source = "open n 2, f 0, k 1\nquestion 0\nquestion 0\n";
+    for (source, given, part) in [
+        (source, "1 B 0\n", "wrong.txt:2: there has to be the reply to entry 2"),
+        (
+            source,
+            "1 B 0\n3 B 0\n",
+            "wrong.txt:2: there has to be the reply to entry 2",
+        ),
+        (source, "F 1 0\n", "wrong.txt:1: there has to be the reply to entry 1"),
+        (source, "1 B 0\n2 Q\n", "wrong.txt:2: a reply is written like this"),
+        ("open n 2, f 0, k 1\nslop\n", "", "wrong.page:2: unknown word `slop`"),
+    ] {
+        std::fs::write(&page, source).expect("a place for a test's files");
+        std::fs::write(&text, given).expect("a place for a test's files");
+        let what = Known::parse("# a comment\nexample wrong\n", folder).expect_err(part);
+        let start = format!("{}:2: ", folder.join(FILE).display());
+        assert!(what.starts_with(&start) && what.contains(part), "{what}");
+    }
 }
 
 /// The file itself has all that the documents know.

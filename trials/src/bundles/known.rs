@@ -28,9 +28,13 @@ pub fn answers(checks: &mut Checks, dice: &mut Dice, folder: &str) {
     };
     for acks in &known.acks_needed {
         let (place, n, f, count) = (&acks.place, acks.n, acks.f, acks.count);
-        checks.same(place, daybook::acks_needed(n, f), count.into());
-        checks.same(place, daybook::is_enough(n, f, count), true);
-        checks.same(place, daybook::is_enough(n, f, count - 1), false);
+        checks.same(
+            &format!("{place}: acks needed"),
+            daybook::acks_needed(n, f),
+            count.into(),
+        );
+        let enough = [count - 1, count].map(|count| daybook::is_enough(n, f, count));
+        checks.same(&format!("{place}: one ack fewer is not enough"), enough, [false, true]);
     }
     for sum in &known.sums {
         checks.same(&sum.place, daybook::sum(&sum.bytes), sum.sum);

@@ -1,12 +1,10 @@
-//! Reading and writing for the programs of this package. Nothing here panics, also if a pipe is closed.
+//! Reading and writing for the programs of this package. Nothing here panics, also if a pipe is closed. A standard stream
+//! that is closed from the start is replaced by /dev/null before a Rust program begins; bundle.sh tells it.
 
 use std::ffi::OsStr;
-use std::fs::{self, File};
+use std::fs::File;
 use std::io::{self, Read, Write};
-use std::path::Path;
 use std::process::ExitCode;
-
-const NOWHERE: &str = "/dev/null";
 
 /// The file that is named; none where standard input is to be read, which `-` says too.
 fn named(file: Option<&OsStr>) -> Option<&OsStr> {
@@ -18,31 +16,9 @@ pub fn input(file: Option<&OsStr>, most: usize) -> io::Result<Vec<u8>> {
     let mut bytes = Vec::new();
     match named(file) {
         Some(name) => File::open(name)?.take(most as u64).read_to_end(&mut bytes)?,
-        None if is_closed(0) => return Err(closed("name a file, or send one in")),
         None => io::stdin().lock().take(most as u64).read_to_end(&mut bytes)?,
     };
     Ok(bytes)
-}
-
-/// Whether a standard stream, by its number, was closed when the program started. The runtime puts /dev/null in its
-/// place, open for reading and for writing, and then reads nothing and writes nowhere without an error. A shell opens
-/// /dev/null one way only; whoever starts a program with it open both ways gets the same answer. Where the system has
-/// no /proc, no stream is seen to be closed.
-fn is_closed(stream: u8) -> bool {
-    let leads_nowhere =
-        fs::read_link(format!("/proc/self/fd/{stream}")).map_or(false, |path| path == Path::new(NOWHERE));
-    let told = fs::read_to_string(format!("/proc/self/fdinfo/{stream}")).unwrap_or_default();
-    let flags = told.lines().find_map(|line| line.strip_prefix("flags:"));
-    let flags = flags.and_then(|flags| u32::from_str_radix(flags.trim(), 8).ok());
-    // the two lowest bits: 0 for reading, 1 for writing, 2 for both
-    leads_nowhere && flags.map_or(false, |flags| flags & 3 == 2)
-}
-
-fn closed(advice: &str) -> io::Error {
-    io::Error::new(
-        io::ErrorKind::Other,
-        format!("closed, or {NOWHERE} opened both ways; {advice}"),
-    )
 }
 
 /// What messages call the file.
@@ -60,9 +36,6 @@ pub fn output(bytes: &[u8]) -> ExitCode {
 }
 
 fn written(bytes: &[u8]) -> io::Result<()> {
-    if is_closed(1) {
-        return Err(closed("send it to a file, a pipe or a terminal"));
-    }
     let mut out = io::stdout().lock();
     out.write_all(bytes)?;
     out.flush()

@@ -181,8 +181,6 @@ fn a_warning() {
 /// What a shell does with the streams of a program before it starts it, and what the program says of that.
 const STREAMS: &[(&str, &str)] = &[
     (">/dev/full", "standard output: No space left on device"),
-    (">&-", "standard output: closed"),
-    ("<&-", "<stdin>: closed"),
     ("<.", "<stdin>: Is a directory"),
 ];
 
@@ -207,14 +205,18 @@ fn streams_that_fail() {
     }
 }
 
-/// /dev/null as a shell opens it is an input with nothing in it, and a place for what nobody wants.
+/// /dev/null is an input with nothing in it, and a place for what nobody wants, opened one way or both.
 #[test]
 fn nothing_to_read_and_nobody_to_write_to() {
-    let output = run("sh", &["-c", "exec \"$0\" </dev/null", REFERENCE], b"");
-    assert_eq!((status(&output), errors(&output)), (0, String::new()));
-    assert_eq!(output.stdout, b"F 13 0\n");
-    let output = run("sh", &["-c", "exec \"$0\" pack >/dev/null", BUNDLE], TEXT.as_bytes());
-    assert_eq!((status(&output), errors(&output)), (0, String::new()));
+    for (from, to) in [("</dev/null", ">/dev/null"), ("<>/dev/null", "1<>/dev/null")] {
+        let line = format!("exec \"$0\" {from}");
+        let output = run("sh", &["-c", &line, REFERENCE], b"");
+        assert_eq!((status(&output), errors(&output)), (0, String::new()), "{from}");
+        assert_eq!(output.stdout, b"F 13 0\n", "{from}");
+        let line = format!("exec \"$0\" pack {to}");
+        let output = run("sh", &["-c", &line, BUNDLE], TEXT.as_bytes());
+        assert_eq!((status(&output), errors(&output)), (0, String::new()), "{to}");
+    }
 }
 
 #[test]

@@ -9,6 +9,18 @@ script=bundle.sh
 here=$(cd "$(dirname "${BASH_SOURCE[0]}")" && pwd -P)
 . "$here/.ci/lock"
 tool=$here/target/rust/release/bundle
+
+# The tool does not notice a stream that is closed: it would write nowhere, or read nothing.
+refuse_closed() { # STREAM NAME WHAT-TO-DO
+    { true <&"$1"; } 2>/dev/null && return
+    echo "bundle.sh: $2 is closed; $3" >&2
+    exit 1
+}
+refuse_closed 1 'standard output' 'send it to a file, a pipe or a terminal'
+if [ "$#-${2--}" = 1-- ] || [ "$#-${2--}" = 2-- ]; then
+    refuse_closed 0 'standard input' 'name a file, or send one in'
+fi
+
 if ! command -v cargo >/dev/null && command -v apt-get >/dev/null; then
     echo "bundle.sh: installing cargo, which builds the tool" >&2
     in_group apt-get install -y -q cargo </dev/null >/dev/null 2>&1 || true

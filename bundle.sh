@@ -12,14 +12,14 @@ tool=$here/target/rust/release/bundle
 
 # The tool does not notice a stream that is closed: it would write nowhere, or read nothing.
 refuse_closed() { # STREAM NAME WHAT-TO-DO
-    { true <&"$1"; } 2>/dev/null && return
+    [ ! -e "/dev/fd/$1" ] || return 0
     echo "bundle.sh: $2 is closed; $3" >&2
     exit 1
 }
 refuse_closed 1 'standard output' 'send it to a file, a pipe or a terminal'
-if [ "$#-${2--}" = 1-- ] || [ "$#-${2--}" = 2-- ]; then
-    refuse_closed 0 'standard input' 'name a file, or send one in'
-fi
+case ${1-} in
+pack | unpack | show) [ "${2--}" != - ] || refuse_closed 0 'standard input' 'name a file, or send one in' ;;
+esac
 
 if ! command -v cargo >/dev/null && command -v apt-get >/dev/null; then
     echo "bundle.sh: installing cargo, which builds the tool" >&2

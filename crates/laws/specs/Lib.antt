@@ -1,1 +1,2 @@
+-- The model's types with their constructors, by one name each, for the crates above.
 pub mod Types

@@ -10,7 +10,8 @@ usage='usage: ./daybook.sh [BUNDLE]             what the seat replies to the bun
        ./daybook.sh --help | --version
 BUNDLE is a file; without it, or if it is -, the bundle is read from standard input.
 Status 0: the text is written; 1: daybook was not built, or the text could not be written;
-2: the arguments are wrong, the bundle cannot be read, or something that is needed is not there.'
+2: the arguments are wrong, the bundle cannot be read, or something that is needed is not there.
+A bundle that is refused has the text "F code entry", with status 0; docs/FORMATS.md says what the lines mean.'
 
 misused() { # WHAT
     printf '%s\n' "daybook.sh: $1" "$usage" >&2
@@ -45,6 +46,8 @@ else
     heard take "$bundle" 2>"$work/why" ||
         refuse "$bundle cannot be read ($(why)); name a bundle that can be, or - for standard input"
 fi
+! LC_ALL=C grep -qa '^open ' "$work/bundle" ||
+    echo "daybook.sh: this looks like the text form of a bundle; pack it first: ./bundle.sh pack" >&2
 command -v rt >/dev/null || refuse "rt, the command of the Rattle toolchain, is not on the PATH; install it"
 
 # The crates that daybook rests on, and itself, in the order in which rt prints them: a crate's level is one above the

@@ -193,7 +193,9 @@ impl Draft {
     fn add_message(&mut self, times: u32, word: &str, given: &[&str]) -> Result<(), String> {
         let message = message(word, given)?;
         if self.page.is_none() {
-            return Err(format!("there is no `open` line before this `{word}`"));
+            return Err(format!(
+                "there is no `open` line before this `{word}`; it is written like this: {OPEN_FORM}"
+            ));
         }
         if self.damaged.is_some() {
             return Err("a message behind a line with `byte`, `cut` or `add`: those come last".to_string());

@@ -81,9 +81,21 @@ fn a_dash_is_standard_input() {
 type Failing = (&'static str, &'static [&'static str], &'static [u8], i32, &'static str);
 
 const FAILING: &[Failing] = &[
-    (BUNDLE, &[], b"", 2, "usage: bundle pack [FILE]"),
-    (BUNDLE, &["mend"], b"", 2, "usage: bundle pack [FILE]"),
-    (BUNDLE, &["pack", "a", "b"], b"", 2, "usage: bundle pack [FILE]"),
+    (BUNDLE, &[], b"", 2, "usage: ./bundle.sh pack [FILE]"),
+    (
+        BUNDLE,
+        &["mend"],
+        b"",
+        2,
+        "bundle: `mend` is not one of its words\nusage: ./bundle.sh pack [FILE]",
+    ),
+    (
+        BUNDLE,
+        &["pack", "a", "b"],
+        b"",
+        2,
+        "bundle: one file at a time, and these are 2\nusage: ./bundle.sh pack [FILE]",
+    ),
     (
         BUNDLE,
         &["pack"],
@@ -96,7 +108,7 @@ const FAILING: &[Failing] = &[
         &["pack"],
         b"open n 1, f 0, k 1\n# \xff",
         1,
-        "<stdin>:2: not a text",
+        "<stdin>:2: a byte that is not UTF-8; save the text as UTF-8, or, if it is a bundle, show or unpack it",
     ),
     (
         BUNDLE,
@@ -113,13 +125,26 @@ const FAILING: &[Failing] = &[
         2,
         "Standard input is read if no file is named, or `-`.",
     ),
-    (BUNDLE, &["pack", "no/such.page"], b"", 1, "no/such.page: "),
+    (
+        BUNDLE,
+        &["pack", "no/such.page"],
+        b"",
+        1,
+        "no/such.page: No such file or directory (os error 2); name a file that can be read, or - for standard input",
+    ),
+    (
+        BUNDLE,
+        &["unpack"],
+        TEXT.as_bytes(),
+        1,
+        "<stdin>: refused with 13 at entry 0; this looks like the text form of a bundle; pack it first",
+    ),
     (
         BUNDLE,
         &["unpack"],
         b"",
         1,
-        "<stdin>: refused with 13 at entry 0; `bundle show` says what is wrong",
+        "<stdin>: refused with 13 at entry 0; `./bundle.sh show` says what is wrong",
     ),
     (BUNDLE, &["unpack", "no/such.bundle"], b"", 1, "no/such.bundle: "),
     (BUNDLE, &["show", "."], b"", 1, ".: "),
@@ -157,6 +182,17 @@ fn help_and_version() {
     assert_eq!((status(&output), errors(&output)), (0, String::new()));
     let due = format!("saplull {}\n", env!("CARGO_PKG_VERSION"));
     assert_eq!(output.stdout, due.as_bytes());
+}
+
+/// The text form is no bundle, and is shown as what it is; a bundle is shown without a word.
+#[test]
+fn a_text_that_is_shown() {
+    let output = run(BUNDLE, &["show"], TEXT.as_bytes());
+    let due = "<stdin>: warning: this looks like the text form of a bundle; pack it first: ./bundle.sh pack\n";
+    assert_eq!((status(&output), errors(&output)), (0, due.to_string()));
+    assert_eq!(output.stdout, reference::written::shown(TEXT.as_bytes()).into_bytes());
+    let packed = run(BUNDLE, &["pack"], TEXT.as_bytes()).stdout;
+    assert_eq!(errors(&run(BUNDLE, &["show"], &packed)), "");
 }
 
 /// An opening that is refused is packed, and its line is told.

@@ -203,7 +203,11 @@ const FORM: &str = "`open` is written like this: open n 6, f 1, k 2, balances 10
 const IN_OPENING: &[Mistaken] = &[
     ("", 1, "there is no `open` line"),
     ("# only\n# comments\n", 2, "there is no `open` line"),
-    ("\nquestion 0", 2, "there is no `open` line before this `question`"),
+    (
+        "\nquestion 0",
+        2,
+        "there is no `open` line before this `question`; it is written like this: open n 6, f 1, k 2, balances 10 3",
+    ),
     ("cut 1", 1, "there is no `open` line"),
     ("\u{feff}", 1, "there is no `open` line"),
     ("\u{feff}\u{feff}open n 6, f 1, k 2", 1, "a byte order mark"),

@@ -79,7 +79,7 @@ pub fn transfer_check(words: &[u32], t: Transfer) -> Check
     ensures { λ r. ⌜ r ≡ checkOf (firstRefusal (transferRules (ledgerIn (now (words .entry))) (entryIn (now (words .entry)) (t .account)) t)) ⌝ }
 {
     if is_out_of_range(words, t) {
-        return Check::Failed(Refusal::OutOfRange);
+        return Check::Failed(Refusal::OutOfRange); // 5, of an ack or a decision
     }
     number_check(words, t)
 }
@@ -105,7 +105,7 @@ pub fn request_check(words: &[u32], t: Transfer) -> Check
     match offer_check(words, t) {
         Check::Failed(r) => Check::Failed(r),
         Check::Passed => {
-            if balance_of(words, t.account) < t.value {
+            if balance_of(words, t.account) < t.value { // 11, of a request
                 return Check::Failed(Refusal::InsufficientFunds);
             }
             Check::Passed
@@ -123,7 +123,7 @@ pub fn circulated_check(words: &[u32], t: Transfer) -> Check
             if is_acked(words, t.account) {
                 return Check::Failed(Refusal::AlreadyAcked);
             }
-            if balance_of(words, t.account) < t.value {
+            if balance_of(words, t.account) < t.value { // 11, of a circulated transfer
                 return Check::Failed(Refusal::InsufficientFunds);
             }
             Check::Passed

@@ -105,8 +105,8 @@ pub fn request_check(words: &[u32], t: Transfer) -> Check
     match offer_check(words, t) {
         Check::Failed(r) => Check::Failed(r),
         Check::Passed => {
-            if balance_of(words, t.account) < t.value { // 11, of a request
-                return Check::Failed(Refusal::InsufficientFunds);
+            if balance_of(words, t.account) < t.value { // a request above the balance
+                return Check::Failed(Refusal::InsufficientFunds); // 11, of a request
             }
             Check::Passed
         }
@@ -123,7 +123,7 @@ pub fn circulated_check(words: &[u32], t: Transfer) -> Check
             if is_acked(words, t.account) {
                 return Check::Failed(Refusal::AlreadyAcked);
             }
-            if balance_of(words, t.account) < t.value { // 11, of a circulated transfer
+            if balance_of(words, t.account) < t.value { // a circulated transfer above the balance
                 return Check::Failed(Refusal::InsufficientFunds);
             }
             Check::Passed

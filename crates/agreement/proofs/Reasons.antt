@@ -2,7 +2,7 @@
 use Prim.Native.Nat.{ℕ, ◌≤◌}
 use native.Mathlib.Decide.{ℕ_discrete}
 use native.Mathlib.Omega.{arith}
-use mathlib.Core.Path.{◌≡◌, refl, ap, sym, ◌∙◌}
+use mathlib.Core.Path.{◌≡◌, refl, ap, sym, subst, ◌∙◌}
 use mathlib.Core.Logic.{◌⊎◌, inl, inr}
 use mathlib.Core.Bool.{Bool, true, ◌&&◌}
 use mathlib.Core.Option.{some}
@@ -134,7 +134,7 @@ module _ (o : Opening) (opens : Opens o) (s : Seat) where
           where
             go : (e.retained ≡ Full u) ⊎ (t ≡ u) → (e.retained ≡ Full u) ⊎ (accepted_by s u now ≡ true)
             go (inl before) = inl before
-            go (inr this) = inr (rw (← this) (now_accepted t is))
+            go (inr this) = inr (subst (λ w. accepted_by s w now ≡ true) this (now_accepted t is))
 
         -- and where it accepts nothing, nothing waits in it
         idle_still : (t : Transfer) (x : Entry) → Eligible l t → x.current ≡ (entry_of l t.account).current

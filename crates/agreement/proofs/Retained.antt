@@ -504,7 +504,7 @@ module _ (o : Opening) (opens : Opens o) (s : Seat) where
           rw is
           (record {
             next_why = (later_on t.account).next_why;
-            retained_why = λ w held this. let same : u ≡ w = cc (held, join.is_retained) in rw (← same) (this_call u u f refl refl);
+            retained_why = λ w held this. let same : u ≡ w = cc (held, join.is_retained) in subst (λ x. proposed_for s x now ≡ true) same (this_call u u f refl refl);
           })
 
   -- at every place of a run

@@ -1,5 +1,4 @@
 -- Laws that the proofs of the crates above share.
-pub mod Walks
 pub mod Loops
 pub mod Filling
 pub mod Counting

@@ -1,5 +1,8 @@
 // What the crates above share: transfers compared, places tested, quorums, the documents' codes and letters,
 // bytes written into a lent buffer.
+
+#![tactic(auto)]
+
 pub mod codes;
 pub mod output;
 pub mod quorums;

@@ -11,12 +11,14 @@ pub fn same_number(t: Transfer, u: Transfer) -> bool
     t.account.0 == u.account.0 && t.number == u.number
 }
 
+#[tactic(auto, unfolding(model::specs::Transfers::equal))]
 pub fn is_equal(t: Transfer, u: Transfer) -> bool
     ensures { result ≡ equal t u }
 {
     same_number(t, u) && t.value == u.value && t.recipient.0 == u.recipient.0
 }
 
+#[tactic(auto, unfolding(model::specs::Transfers::conflict))]
 pub fn in_conflict(t: Transfer, u: Transfer) -> bool
     ensures { result ≡ conflict t u }
 {

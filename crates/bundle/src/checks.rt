@@ -10,7 +10,7 @@ use model::ContentsEntry;
 use pages::contents::{body, body_length, contents_at, entry_count};
 
 // What a walk over the contents finds: the lowest entry that is wrong, or where the last body ends.
-#[derive(Drop)]
+#[derive(Clone, Copy)]
 pub enum Walk {
     Wrong(u16),
     EndsAt(u32),

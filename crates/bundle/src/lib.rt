@@ -1,5 +1,8 @@
 // A bundle: its check, and its reading page by page, by a cursor. What a page holds is read by the crate `pages`; a
 // reading that holds its bundle is in the crate `reader`.
+
+#![tactic(auto)]
+
 ghost use Rattle.bundle.specs.Promises.{CheckedAs, ReadAs};
 
 use crate::checks::{Walk, first_wrong_sum, is_bad_header, walk_contents};
@@ -11,13 +14,13 @@ pub mod checks;
 pub mod sums;
 
 // Where a reading of a bundle goes on: the entry behind the page last taken.
-#[derive(Drop)]
+#[derive(Clone, Copy)]
 pub struct Cursor {
     pub next: u16,
 }
 
 // What a reading finds: the next page's entry and where to go on, or no more and where it stays.
-#[derive(Drop)]
+#[derive(Clone, Copy)]
 pub enum Read {
     Taken(ContentsEntry, Cursor),
     NoMore(Cursor),

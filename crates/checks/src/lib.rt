@@ -1,4 +1,7 @@
 // The tests of each message, in the documents' order: the refusal of the first that holds.
+
+#![tactic(auto)]
+
 ghost use Rattle.std.specs.Prelude.{◌≡◌, length, ◌<◌};
 ghost use Rattle.model.specs.Refusals.{first_refusal, out_of_range, waits_already, number_rules, transfer_rules, offer_rules, request_rules, circulated_rules, ack_rules};
 ghost use Rattle.layout.specs.Layout.{book_words, ledger_in, entry_in};

@@ -1,6 +1,9 @@
 // The program `daybook`: reads a bundle from standard input, replays it, and writes its text to standard output. It
 // reads at most 18,124 bytes, one more than the longest bundle has: by the contract of `replay_input` they give the
 // text of the whole input. A read or a write that fails is told on standard error: a program has no status for it.
+
+#![tactic(auto)]
+
 use libc::{STDERR_FILENO, STDIN_FILENO, STDOUT_FILENO};
 use replay::{INPUT_SIZE, TEXT_SIZE, replay_input};
 

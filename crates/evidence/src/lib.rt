@@ -1,4 +1,7 @@
 // Two bundles joined: which seat acked two transfers, and the body that is shown.
+
+#![tactic(auto)]
+
 ghost use Rattle.std.specs.Prelude.{◌≡◌, ◌≤◌};
 ghost use Rattle.std.proofs.Math.Option.{some};
 ghost use Rattle.model.specs.Basics.{same};

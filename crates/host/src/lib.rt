@@ -2,6 +2,9 @@
 // and its contract fixes the result, by the documents' definitions and by those in specs/, which say how a reply is
 // told as numbers. In C a slice is a pointer and a length, an array the pointer alone; include/saplull.h states each of
 // them for C.
+
+#![tactic(auto)]
+
 ghost use Rattle.std.specs.Prelude.{◌≡◌};
 ghost use Rattle.model.specs.Acks.{enough};
 ghost use Rattle.model.specs.Refusals.{list_refusal};

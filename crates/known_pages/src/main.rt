@@ -1,6 +1,9 @@
 // Plays the openings and messages of document 01's known pages, and cases of document 02's requests 2, 3 and 5, on the
 // compiled ledger and writes each reply as a line: the letter, then the values in two digits. What it must write is the
 // file `stdout` beside src/, taken from the documents.
+
+#![tactic(auto)]
+
 use basics::codes::{code_of, letter_of};
 use layout::BOOK_WORDS;
 use libc::STDOUT_FILENO;

@@ -1,1 +1,3 @@
 // No code: the laws of the definitions stand in proofs/.
+
+#![tactic(auto)]

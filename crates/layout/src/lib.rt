@@ -2,6 +2,8 @@
 // is said in specs/Layout.antt, for every content; only the crate `store` reads and writes one thing in them, and
 // `saving` copies them as they stand.
 
+#![tactic(auto)]
+
 // Each of the 32 accounts has a block of words; the group's words stand behind the last block.
 pub const BLOCK: usize = 43;
 // Within an account's block: balance and current number,

@@ -1,6 +1,9 @@
 // The ledger's operations, on a book that the caller lends: the opening, the switch, the five kinds of message, and the
 // waiting list. Each is total: it takes any words and any value of its types, and its contract says what it replies and
 // leaves, by the documents' definitions. What a function promises is a record of specs/Promises.antt.
+
+#![tactic(auto)]
+
 ghost use Rattle.model.specs.declared.Message.TheVariants.{Request, Circulated, Ack, Decision, Inquiry};
 ghost use Rattle.layout.specs.Layout.{ledger_in};
 ghost use Rattle.ledger.specs.Promises.{Answered, OpenedAs, SwitchedAs, ListedAs};

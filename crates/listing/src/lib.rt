@@ -1,4 +1,7 @@
 // The waiting list, of the ledger where it lies.
+
+#![tactic(auto)]
+
 ghost use Rattle.std.specs.Prelude.{◌≡◌, length};
 ghost use Rattle.layout.specs.Layout.{book_words, ledger_in};
 ghost use Rattle.model.specs.Calls.{waiting_accounts, Lists};

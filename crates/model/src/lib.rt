@@ -1,16 +1,18 @@
 // The types of the credit ledger's calls and of its bundles. What they mean is said in specs/, and what a ledger is
 // too: no code holds one. A comment names document 01's word where ours is another.
 
+#![tactic(auto)]
+
 // A seat's number, from 0. A type of its own, so that it never stands where an account's number is wanted.
-#[derive(Drop)]
+#[derive(Clone, Copy)]
 pub struct Seat(pub u8);
 
 // An account's number, from 0.
-#[derive(Drop)]
+#[derive(Clone, Copy)]
 pub struct Account(pub u8);
 
 // Document 01: slip.
-#[derive(Drop)]
+#[derive(Clone, Copy)]
 pub struct Transfer {
     // who pays
     pub account: Account,
@@ -20,14 +22,14 @@ pub struct Transfer {
 }
 
 // A place that may hold a transfer.
-#[derive(Drop)]
+#[derive(Clone, Copy)]
 pub enum Slot {
     Empty,
     Full(Transfer),
 }
 
 // The opening page.
-#[derive(Drop)]
+#[derive(Clone, Copy)]
 pub struct Opening {
     pub seats: u8,
     pub faults: u8,
@@ -36,7 +38,7 @@ pub struct Opening {
 }
 
 // The refusals, in the order of their codes, 1 to 21.
-#[derive(Drop)]
+#[derive(Clone, Copy)]
 pub enum Refusal {
     BadGroup,
     BadAccounts,
@@ -62,7 +64,7 @@ pub enum Refusal {
 }
 
 // What a message asks for.
-#[derive(Drop)]
+#[derive(Clone, Copy)]
 pub enum Message {
     Request(Transfer),
     // a circulated slip
@@ -75,7 +77,7 @@ pub enum Message {
 }
 
 // What a message is answered.
-#[derive(Drop)]
+#[derive(Clone, Copy)]
 pub enum Reply {
     Circulate,
     Acknowledge,
@@ -89,21 +91,21 @@ pub enum Reply {
 }
 
 // What an opening is answered.
-#[derive(Drop)]
+#[derive(Clone, Copy)]
 pub enum OpenReply {
     Opened,
     OpenRefused(Refusal),
 }
 
 // What the waiting list is answered: how many accounts were written.
-#[derive(Drop)]
+#[derive(Clone, Copy)]
 pub enum ListReply {
     Listed(u32),
     ListRefused(Refusal),
 }
 
 // One entry of a bundle's contents.
-#[derive(Drop)]
+#[derive(Clone, Copy)]
 pub struct ContentsEntry {
     pub kind: u8,
     pub seat: u8,
@@ -112,21 +114,21 @@ pub struct ContentsEntry {
 }
 
 // What the check of a bundle is answered: how many entries it has, or the refusal and the entry.
-#[derive(Drop)]
+#[derive(Clone, Copy)]
 pub enum BundleReply {
     Sound(u16),
     BundleRefused(Refusal, u16),
 }
 
 // What the writer of bundles is answered: the bundle's length, or the refusal and the entry (0 where it is no entry's).
-#[derive(Drop)]
+#[derive(Clone, Copy)]
 pub enum WriteReply {
     Written(u32),
     WriteRefused(Refusal, u16),
 }
 
 // Which of two bundles.
-#[derive(Drop)]
+#[derive(Clone, Copy)]
 pub enum Which {
     First,
     Second,
@@ -136,7 +138,7 @@ pub enum Which {
 // What the evidence join is answered: the seat that acked two transfers, the entry of its ack in the first bundle and
 // in the second, and which bundle's body is shown; or that there is no such pair; or the refusal, which bundle it is
 // of, and the entry (0 where it is no entry's).
-#[derive(Drop)]
+#[derive(Clone, Copy)]
 pub enum Evidence {
     FoundPair(Seat, u16, u16, Which),
     NoPair,

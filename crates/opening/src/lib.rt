@@ -1,4 +1,7 @@
 // The opening of a ledger, where it lies: codes 1, 2 and 3.
+
+#![tactic(auto)]
+
 ghost use Rattle.std.specs.Prelude.{◌≡◌, not, ◌<◌, eqb, length, drop};
 ghost use Rattle.model.specs.Basics.{sum_of, any};
 ghost use Rattle.model.specs.Records.{fresh_entry, with_entry};

@@ -8,7 +8,7 @@ use crate::numbers::{byte_at, number4_at};
 use model::{Account, ContentsEntry, Message, Opening, Seat, Transfer};
 
 // The message of a page, if it holds one.
-#[derive(Drop)]
+#[derive(Clone, Copy)]
 pub enum Asked {
     Nothing,
     Asks(Message),

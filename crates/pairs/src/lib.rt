@@ -1,6 +1,9 @@
 // The pairs of two bundles: a seat's acks of two transfers that conflict. They are found by an index over the second
 // bundle's pages, so that for an ack of the first only those of one bucket are looked at, and of those that follow one
 // another with the same keys one.
+
+#![tactic(auto)]
+
 ghost use Rattle.std.specs.Prelude.{◌≡◌, ◌≤◌, length};
 ghost use Rattle.model.specs.Basics.{first_where};
 ghost use Rattle.model.specs.Bundles.{entry_count};
@@ -20,7 +23,7 @@ pub mod keys;
 pub mod links;
 
 // What a search for a pair finds: the entry in the first bundle and that in the second.
-#[derive(Drop)]
+#[derive(Clone, Copy)]
 pub enum PairSearch {
     PairAt(u16, u16),
     NoneFound,

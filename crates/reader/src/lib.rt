@@ -1,5 +1,8 @@
 // A reading of a bundle that holds the bundle: few thin functions over the cursor's. A struct that holds a reference
 // has its proofs by hand, so other crates read by `read_page` and `opening_body`, which take plain parameters.
+
+#![tactic(auto)]
+
 ghost use Rattle.std.specs.Prelude.{◌≡◌};
 ghost use Rattle.bundle.specs.Promises.{ReadAs};
 ghost use Rattle.reader.specs.Promises.{next_of, gone_on, last_body, opening_body};

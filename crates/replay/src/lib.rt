@@ -1,4 +1,7 @@
 // A whole bundle against a ledger: every byte that `daybook` writes, into a lent buffer.
+
+#![tactic(auto)]
+
 ghost use Rattle.std.specs.Prelude.{◌≡◌, ◌-◌, ◌≤◌, length};
 ghost use Rattle.model.specs.declared.BundleReply.TheVariants.{Sound};
 ghost use Rattle.model.specs.Refusals.{list_refusal};

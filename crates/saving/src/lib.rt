@@ -1,6 +1,9 @@
 // A book as bytes that its host keeps, on a disk or wherever it likes, and goes on from after a restart. What the
 // bytes are is said in specs/Saved.antt: a mark, the number of the format, the words, and document 01's sum over all
 // bytes before it, little-endian.
+
+#![tactic(auto)]
+
 ghost use Rattle.std.specs.Prelude.{◌≡◌, length};
 ghost use Rattle.layout.specs.Layout.{book_words};
 ghost use Rattle.saving.specs.Saved.{saved_size, saved, load_reply, words_saved, LoadedAs};
@@ -24,7 +27,7 @@ const SUM_AT: usize = (WORDS_AT as usize) + 4 * BOOK_WORDS;
 pub const SAVED_SIZE: usize = SUM_AT + 4;
 
 // What a load replies.
-#[derive(Drop)]
+#[derive(Clone, Copy)]
 pub enum LoadReply {
     Loaded,
     WrongMark,

@@ -1,5 +1,8 @@
 // Settling, where the ledger lies: while some waiting transfer is affordable, the one with
 // the lowest account is applied.
+
+#![tactic(auto)]
+
 ghost use Rattle.std.specs.Prelude.{◌≡◌, ◌<◌, length};
 ghost use Rattle.model.specs.Records.{with_entries, with_entry};
 ghost use Rattle.model.specs.Settling.{affordable, lowest_affordable, credited, debited, apply};
@@ -11,7 +14,7 @@ use std::num::wrapping_add_u32;
 use store::{balance_of, pending_of, put_balance, put_booked};
 
 // An account that was searched for.
-#[derive(Drop)]
+#[derive(Clone, Copy)]
 pub enum Found {
     At(Account),
     Nothing,

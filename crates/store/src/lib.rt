@@ -2,6 +2,9 @@
 // a book's length, for an account below 32 and a seat below 16 where it has one, and for nothing of the ledger's
 // content. What it promises is said of the ledger that the words are; of a transfer that is stored, also of the words,
 // since a value of 0 is an empty place.
+
+#![tactic(auto)]
+
 ghost use Rattle.std.specs.Prelude.{◌≡◌, ◌+◌, ◌≤◌, ◌<◌, length};
 ghost use Rattle.model.specs.Records.{entry_of, with_entry, with_balance, with_acked, with_proposed, with_booked, with_retained_of, with_retained_proposed, with_none_retained, with_entries};
 ghost use Rattle.model.specs.Refusals.{ack_from};

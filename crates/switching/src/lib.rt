@@ -1,5 +1,8 @@
 // The switch to the rules since request 5 of document 02, where the ledger lies: a book held from before is taken
 // over into one of today's layout.
+
+#![tactic(auto)]
+
 ghost use Rattle.std.specs.Prelude.{◌≡◌, ◌<◌, length};
 ghost use Rattle.model.specs.Records.{entry_of, with_entry};
 ghost use Rattle.model.specs.Switches.{since_request3, retains_waiting, switched};

@@ -1,5 +1,8 @@
 // The acks that are recorded for an account's next number, and what follows from them. Their places tell no number: a
 // transfer is compared as one of the next.
+
+#![tactic(auto)]
+
 ghost use Rattle.std.specs.Prelude.{◌≡◌, ◌+◌, ◌<◌, cond, length, set};
 ghost use Rattle.model.specs.Basics.{bit};
 ghost use Rattle.model.specs.Acks.{acks_for, most_acked};
@@ -13,7 +16,7 @@ use model::{Account, Seat, Slot, Transfer};
 use store::{ack_from, faults_of, is_proposed, seats_of};
 
 // The running tally of one number, for one transfer.
-#[derive(Drop)]
+#[derive(Clone, Copy)]
 pub struct Tally {
     // the seats whose acks are equal to the transfer, lowest first; behind them are zeros
     pub gathered: [Seat; 16],
@@ -135,7 +138,7 @@ fn acks_for(words: &[u32], t: Transfer) -> u8
 }
 
 // A transfer and how many acks are equal to it.
-#[derive(Drop)]
+#[derive(Clone, Copy)]
 pub struct Leader {
     pub transfer: Transfer,
     pub acks: u8,

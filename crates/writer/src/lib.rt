@@ -1,4 +1,7 @@
 // The writer of bundles: an opening page and a list of messages written into a lent buffer as a bundle's bytes.
+
+#![tactic(auto)]
+
 ghost use Rattle.std.specs.Prelude.{suc, ◌+◌, ◌*◌, ◌≤◌, ◌≡◌, map, length, take};
 ghost use Rattle.model.specs.Writing.{message_page, contents_of, bodies_of, written};
 ghost use Rattle.basics.specs.Outputs.{Writes};

@@ -1,0 +1,17 @@
+-- The balance is one word.
+use native.Mathlib.Omega.{arith}
+use Rattle.model.specs.Records.{with_balance}
+use Rattle.layout.proofs.Entries.{entry_changed, balance_put}
+use Rattle.store.proofs.put_balance.Goals as goal
+
+pub returns : goal.returns
+returns c =
+    entry_changed
+    c.args.words.now
+    c.put_word.new.words
+    c.args.a
+    _
+    (λ e. with_balance e c.args.balance)
+    (omega arith)
+    c.put_word.ensures
+    (balance_put _ _ _)

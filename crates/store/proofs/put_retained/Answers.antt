@@ -1,0 +1,53 @@
+-- Four words, one after another, are the retained slip, with the mark of its number.
+use native.Mathlib.Omega.{arith}
+use mathlib.Core.Path.{◌≡◌, subst}
+use mathlib.Core.List.{List}
+use Rattle.model.specs.declared.Transfer.{Transfer}
+use Rattle.model.specs.declared.Slot.TheVariants.{Full}
+use Rattle.model.specs.Types.{Entry}
+use Rattle.model.specs.Records.{with_retained, with_retained_as}
+use Prim.Native.Nat.{ℕ}
+use Rattle.layout.specs.Layout.{Block, block, mark, entry_by}
+use Rattle.layout.specs.Blocks.{put, Changes}
+use Rattle.layout.proofs.Blocks.{changed_more}
+use Rattle.layout.proofs.Entries.{entry_changed, retained_put}
+use Rattle.store.proofs.put_retained.Goals as goal
+
+-- what is stored last is this word too, if it is equal to the one stored
+last_word : (ws : List ℕ) (a : ℕ) (w : Block) (at word : ℕ) (after : List ℕ) {same : ℕ} → same ≡ word → Changes ws a (put w at same) after
+    → Changes ws a (put w at word) after
+last_word ws a w at word after is = subst (λ n. Changes ws a (put w at n) after) is
+
+-- the word of the next number's mark is the entry's
+marked : (w : Block) (t : Transfer) {x : Entry} → x ≡ with_retained_as (entry_by t.account.0 w) (Full t) (mark (w 3))
+    → x ≡ with_retained (entry_by t.account.0 w) t
+unfolding entry_by
+marked w t same = same
+
+pub returns : goal.returns
+returns c =
+    let t = c.args.t in
+    let ws = c.args.words.now in
+    let own = block ws t.account.0 in
+    let one = put own 39 t.value in
+    let two = put one 40 t.number in
+    let three = put two 41 t.recipient.0 in
+    let after = c.put_word-4.new.words in
+    let number = changed_more one 40 t.number c.put_word.ensures c.put_word-2.ensures in
+    let recipient = changed_more two 41 t.recipient.0 number c.put_word-3.ensures in
+    let late = changed_more three 42 _ recipient c.put_word-4.ensures in
+    let stored = last_word ws t.account.0 three 42 (own 3) after c.word-proposed.ensures late in
+    record {
+      words = stored;
+      retained =
+          λ h.
+          entry_changed
+          ws
+          after
+          t.account
+          (put three 42 (own 3))
+          (λ e. with_retained e t)
+          (omega arith)
+          stored
+          (marked own t (retained_put own t (own 3) h (omega arith)));
+    }

@@ -9,7 +9,7 @@ use Rattle.model.specs.declared.Refusal.TheVariants.{BadHeader, BadContents, Bad
 use Rattle.model.specs.declared.ContentsEntry.{ContentsEntry}
 use Rattle.model.specs.declared.BundleReply.{BundleReply}
 use Rattle.model.specs.declared.BundleReply.TheVariants.{Sound, BundleRefused}
-use Rattle.model.specs.Basics.{every, first_where}
+use Rattle.model.specs.Basics.{every}
 use Rattle.model.specs.Bundles.{number_at, entry_count, contents_at, body_lengths, body_length, start_at, bad_count, bad_header, misplaced, wrong_entry, first_bad_entry, bad_end, wrong_sum_at, first_bad_sum, of_whole, first_fault, check_bundle}
 use Rattle.bundle.specs.Promises.{longest, RefusedEarly, LongRefused}
 use Rattle.laws.proofs.Sums.{impossible, both, neither, NotFound, first_none, same_found}

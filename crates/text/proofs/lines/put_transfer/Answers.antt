@@ -1,0 +1,17 @@
+-- The four values behind one another; an account has at most three digits.
+use Rattle.std.proofs.Common.{arith, [], ◌∷◌}
+use Rattle.text.proofs.Carrying.{carries, carry, narrow}
+use Rattle.text.proofs.Decimals.{three_digits}
+use Rattle.text.proofs.lines.put_transfer.Goals as goal
+
+pub returns : goal.returns
+returns c =
+    let t = c.args.t in
+    (carry
+    (narrow t.account.0 c.put_value-number.ensures (three_digits _ (omega arith)))
+    (carry
+    (carries (t.number ∷ []) c.put_value-value.ensures)
+    (carry
+    (carries (t.value ∷ []) c.put_value-last.ensures)
+    (narrow t.recipient.0 c.put_value.ensures (three_digits _ (omega arith)))))
+    ).writes

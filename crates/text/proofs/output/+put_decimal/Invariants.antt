@@ -1,0 +1,4 @@
+use Rattle.text.proofs.output.+put_decimal.Given as goal
+
+abbrev pub decreases-put_decimal : goal.decreases-put_decimal
+decreases-put_decimal l = l.n

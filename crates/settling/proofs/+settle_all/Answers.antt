@@ -1,0 +1,23 @@
+-- Applying the lowest affordable transfer leaves one fewer. The laws of a turn give the rest.
+use Rattle.std.proofs.Common.{sym, ◌∙◌, arith, rules}
+use Rattle.settling.proofs.ReadBack.{found, missing}
+use Rattle.settling.proofs.Turns.{few_applied, ended, found_inside, one_fewer, whole}
+use Rattle.settling.proofs.+settle_all.Goals as goal
+
+pub apply_at-requires-clause-a_bound : goal.apply_at-requires-clause-a_bound
+apply_at-requires-clause-a_bound t c = found_inside c.args.words.now c.in-At.a (found _ _ (sym c.lowest_affordable.ensures ∙ c.in-At.is))
+
+pub settle_all-rest-requires : goal.settle_all-rest-requires
+settle_all-rest-requires t c =
+    let next = one_fewer c.args.words.now c.in-At.a (found _ _ (sym c.lowest_affordable.ensures ∙ c.in-At.is)) _ c.apply_at.ensures in
+    (omega arith, search rules)
+
+pub overflow_add-result : goal.overflow_add-result
+overflow_add-result t c = omega (arith, few_applied _ _ _ c.settle_all-rest.ensures)
+
+pub returns-in-Nothing : goal.returns-in-Nothing
+returns-in-Nothing t c = ended _ (missing _ (sym c.lowest_affordable.ensures ∙ c.in-Nothing.is))
+
+pub returns-in-At : goal.returns-in-At
+returns-in-At t c =
+    whole c.args.words.now c.in-At.a (found _ _ (sym c.lowest_affordable.ensures ∙ c.in-At.is)) _ c.apply_at.ensures _ _ c.settle_all-rest.ensures

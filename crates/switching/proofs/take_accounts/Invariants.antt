@@ -1,8 +1,7 @@
 -- The invariant: the accounts before `i` are what the held ones become, and all but the entries is as it was.
 use Prim.Native.Nat.{◌-◌}
-use native.Mathlib.Omega.{arith}
-use Rattle.store.proofs.Entering.{Entered, none_entered, all_entered}
-use Rattle.switching.proofs.Accounts.{wanted, wanted_count, one_taken}
+use Rattle.store.proofs.Entering.{Entered}
+use Rattle.switching.proofs.Accounts.{wanted}
 use Rattle.switching.proofs.take_accounts.Given as goal
 
 abbrev pub invariant-loop-i : goal.invariant-loop-i

@@ -1,0 +1,47 @@
+-- The invariant: `y` is the tally of the seats before `p`, and at the end the whole one.
+use native.Mathlib.Omega.{arith}
+use mathlib.Core.Path.{◌≡◌, ap, sym, ◌∙◌}
+use Rattle.model.specs.Records.{seat_of}
+use Rattle.model.specs.Acks.{ack_at, holds, is_full}
+use Rattle.layout.specs.Layout.{entry_in}
+use Rattle.layout.proofs.Entries.{acks_length}
+use Rattle.store.proofs.Reading.{full_numbered, ack_holds}
+use Rattle.tally.specs.Results.{counted, at_next}
+use Rattle.tally.proofs.Nexts.{tally_next}
+use Rattle.tally.proofs.Gathered.{tally_exactly, counted_none, gathers_few, gathers_more, gathers_all}
+use Rattle.tally.proofs.gather.Goals as goal
+use Rattle.tally.proofs.gather.Goals.{then-is_full, else-is_full}
+
+pub plus_ack-y-requires : goal.plus_ack-y-requires
+plus_ack-y-requires c =
+    let few = gathers_few _ _ c.loop-p.p c.loop-p.y c.loop-p.invariant.1 in
+    (omega (arith, few.0), omega (arith, few.1))
+
+pub loop-p-preserved : goal.loop-p-preserved
+loop-p-preserved c =
+    let loop = c.loop-p in
+    let t = c.args.t in
+    let ws = c.args.words.now in
+    let e = entry_in ws t.account in
+    let s = c.ack_from-s.result in
+    let seat = seat_of loop.p in
+    let next : c.if-is_full.y ≡ counted loop.y t seat s =
+    elim c.if-is_full.branch [
+      | then-is_full w ↦ w.y-is ∙ w.plus_ack-y.ensures
+      | else-is_full w ↦ w.y-is ∙ counted_none loop.y t seat s (sym c.is_full.ensures ∙ w.if-is_full.false)
+    ] in (
+      omega arith,
+      gathers_more (at_next e t) e.acks loop.p loop.y loop.invariant.1 t s c.if-is_full.y (omega arith)
+          (omega (arith, acks_length ws t.account (omega arith)))
+          (ap (holds t) c.ack_from-s.ensures ∙ ack_holds ws t.account seat (omega arith) t)
+          (ap is_full c.ack_from-s.ensures ∙ full_numbered t.number (ack_at e.acks loop.p))
+          next,
+    )
+
+pub returns : goal.returns
+returns c =
+    let loop = c.loop-p in
+    let t = c.args.t in
+    let e = entry_in c.args.words.now t.account in
+    let whole = gathers_all (at_next e t) e.acks loop.p loop.y loop.invariant.1 (omega (arith, acks_length c.args.words.now t.account (omega arith))) in
+    record { tally = whole; exactly = λ next. tally_exactly t e.acks loop.y (tally_next e t loop.y next whole) }

@@ -1,4 +1,2 @@
 -- Laws of a reading that holds its bundle.
 pub mod Pages
-mod Held
-mod Taking

@@ -1,5 +1,5 @@
-// A reading of a bundle that holds the bundle: few thin functions over the cursor's. A struct that holds a reference
-// has its proofs by hand, so other crates read by `read_page` and `opening_body`, which take plain parameters.
+// A reading of a bundle that holds the bundle: few thin functions over the cursor's. Other crates read by `read_page`
+// and `opening_body`, which take plain parameters.
 
 #![tactic(auto)]
 

@@ -2,13 +2,10 @@
 use Prim.Native.Nat.{ℕ, suc, ◌+◌, ◌*◌, ◌≤◌, ◌<◌}
 use native.Mathlib.Omega.{arith}
 use borrow.Author.Tests.{lt-ltb, le-ltb}
-use mathlib.Core.Path.{◌≡◌, refl, ap, sym, ◌∙◌}
+use mathlib.Core.Path.{◌≡◌, refl, ap, ◌∙◌}
 use mathlib.Core.List.{List, ◌++◌, map}
 use lib.ListN.{length, take, length-map, length-append}
 use lib.Seq.{length-take-le}
-use mir.Val.{Val}
-use denote.Laws.{Is}
-use denote.Struct.Declared.{row}
 use Rattle.model.specs.declared.Opening.{Opening}
 use Rattle.model.specs.declared.Message.{Message}
 use Rattle.model.specs.declared.Refusal.{Refusal}
@@ -18,20 +15,14 @@ use Rattle.model.specs.declared.WriteReply.TheVariants.{Written, WriteRefused}
 use Rattle.model.specs.Replies.{values_of_write}
 use Rattle.model.specs.Bundles.{Page, Fault}
 use Rattle.model.specs.Writing.{number_bytes, page_zero, message_page, pages_of, entry_bytes, entry_for, contents_of, bodies_of, written, write_faults, write_reply, buffer_after}
-use Rattle.model.specs.contracts.Opening.{the_type}
 use Rattle.laws.proofs.Faults.{fault_told}
 use Rattle.laws.proofs.Sums.{impossible}
 use Rattle.bundle.specs.Promises.{longest}
 use Rattle.basics.specs.Outputs.{Writes}
-use Rattle.basics.proofs.Arrays.{array_length}
 use Rattle.basics.proofs.Writing.{instead, then, within, whole}
 use Rattle.writer.specs.Promises.{WroteBundle, first_start}
 use Rattle.writer.proofs.Pages.{opening_right}
 use Rattle.writer.proofs.WriteThenRead.{bundle_length}
-
--- an opening page that is handed over by value has 32 balances
-pub balances_count : (page : Opening) (vs : List Val) → Is (row the_type) page vs → length page.balances ≡ 32
-balances_count page vs good = sym (length-map page.balances (λ b. b)) ∙ array_length {A = ℕ} _ 32 (map (λ b. b) page.balances) _ good.1.1.1.1.1.0
 
 module _ (page : Opening) (messages : List Message) (count : ℕ) (balances : length page.balances ≡ 32) (there : count ≤ length messages) where
   -- the pages behind the opening page

@@ -111,7 +111,7 @@ checks {bytes} {i = i} {s} (p ∷ ps) here right small =
     let all = length-append p.body (bodies_of ps) in
     let first : s < 65_536 = omega arith in
     let place : i + suc (length ps) ≡ suc i + length ps = omega arith in
-    let rest = checks ps (next here right.0 first) right.1 (omega arith) in
+    let rest = checks {i = suc i} ps (next here right.0 first) right.1 (omega arith) in
     record {
       entries = rw (entry_right here right.0 first) rest.entries;
       sums = rw (sum_right here right.0 first) rest.sums;
@@ -125,7 +125,7 @@ reads_from {bytes} {i = i} [] here fit small left = rw (le-ltb (suc i) (entry_co
 reads_from {bytes} {i = i} {s} (m ∷ ms) here fit small left =
     let all = length-append (message_page m).body (bodies_of (map message_page ms)) in
     let first : s < 65_536 = omega arith in
-    let rest = reads_from ms (next here (message_right m i) first) fit.1 (omega arith) (omega arith) in
+    let rest = reads_from {i = suc i} ms (next here (message_right m i) first) fit.1 (omega arith) (omega arith) in
     let page = page_read here (message_right m i) first in (
       page_at bytes (suc i),
       rw (lt-ltb (suc i) (entry_count bytes) (omega arith)),

@@ -2,13 +2,11 @@
 use Prim.Native.Nat.{ℕ, ◌-◌}
 use native.Mathlib.Omega.{arith}
 use mathlib.Core.Path.{◌≡◌, refl, ap, sym, ◌∙◌}
-use mathlib.Core.Logic.{inl, inr}
+use mathlib.Core.Logic.{◌≢◌}
 use mathlib.Core.Bool.{Bool}
-use mathlib.Core.List.{List, [], ◌∷◌, ◌++◌, append-nil}
+use mathlib.Core.List.{List, ◌++◌, append-nil}
 use lib.ListN.{length, take, drop, length-append, drop_of_length-le}
 use lib.Seq.{take-append_seam}
-use types.Run.{OneOf}
-use denote.Enum.Declared.{tag_of}
 use Rattle.model.specs.Bundles.{body_sum}
 use Rattle.model.specs.Writing.{number_bytes}
 use Rattle.basics.specs.Outputs.{Writes}
@@ -17,7 +15,6 @@ use Rattle.layout.specs.Layout.{book_words}
 use Rattle.saving.specs.declared.LoadReply.{LoadReply}
 use Rattle.saving.specs.declared.LoadReply.TheVariants.{Loaded, WrongMark, UnknownFormat, WrongLength, WrongSum}
 use Rattle.saving.specs.Saved.{sum_at, saved_size, summed, saved, wrong_mark, unknown_format, wrong_length, wrong_sum, load_reply, words_saved, words_after, LoadedAs}
-use Rattle.saving.specs.contracts.LoadReply.{the_type}
 use Rattle.saving.proofs.RoundTrips.{reply_by, summed_length}
 
 -- all bytes before the sum are written
@@ -51,21 +48,18 @@ pub by_tests : (bytes : List ℕ) {m f l s : Bool} → wrong_mark bytes ≡ m �
 unfolding load_reply
 by_tests bytes mark format size sum = rw (mark, format, size, sum)
 
--- an answer that is not `Loaded`, the first variant, leaves the words
-not_loaded : (r : LoadReply) (bytes before : List ℕ) → OneOf (1 ∷ 2 ∷ 3 ∷ 4 ∷ []) (tag_of the_type r) → words_after r bytes before ≡ before
-not_loaded Loaded bytes before (inl e) = absurd (omega arith)
-not_loaded Loaded bytes before (inr (inl e)) = absurd (omega arith)
-not_loaded Loaded bytes before (inr (inr (inl e))) = absurd (omega arith)
-not_loaded Loaded bytes before (inr (inr (inr e))) = absurd (omega arith)
-not_loaded WrongMark bytes before refused = refl
-not_loaded UnknownFormat bytes before refused = refl
-not_loaded WrongLength bytes before refused = refl
-not_loaded WrongSum bytes before refused = refl
+-- an answer that is not `Loaded` leaves the words
+not_loaded : (r : LoadReply) (bytes before : List ℕ) → r ≢ Loaded → words_after r bytes before ≡ before
+not_loaded Loaded bytes before other = absurd (other refl)
+not_loaded WrongMark bytes before other = refl
+not_loaded UnknownFormat bytes before other = refl
+not_loaded WrongLength bytes before other = refl
+not_loaded WrongSum bytes before other = refl
 
 -- A load, by the answer that was found.
 module _ (before bytes : List ℕ) (r : LoadReply) (is : r ≡ load_reply bytes) where
   pub loaded_as : (after : List ℕ) → r ≡ Loaded → after ≡ words_saved bytes → LoadedAs before bytes r after
   loaded_as after found took = record { reply = is; words = rw (← is, found) took }
 
-  pub refused_as : OneOf (1 ∷ 2 ∷ 3 ∷ 4 ∷ []) (tag_of the_type r) → LoadedAs before bytes r before
-  refused_as found = record { reply = is; words = rw (← is) (sym (not_loaded r bytes before found)) }
+  pub refused_as : r ≢ Loaded → LoadedAs before bytes r before
+  refused_as other = record { reply = is; words = rw (← is) (sym (not_loaded r bytes before other)) }

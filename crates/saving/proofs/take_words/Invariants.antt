@@ -1,0 +1,12 @@
+-- The words before `i` are those that the bytes hold.
+use Rattle.std.proofs.Common.{◌-◌}
+use Rattle.basics.proofs.Filling.{Filled}
+use Rattle.layout.specs.Layout.{book_words}
+use Rattle.saving.specs.Saved.{words_saved}
+use Rattle.saving.proofs.take_words.Given as goal
+
+abbrev pub invariant-loop-i : goal.invariant-loop-i
+invariant-loop-i l = Filled (words_saved l.bytes) l.words l.i
+
+abbrev pub decreases-loop-i : goal.decreases-loop-i
+decreases-loop-i l = book_words - l.i

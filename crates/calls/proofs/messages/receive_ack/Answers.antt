@@ -1,0 +1,11 @@
+-- A late P, or the ack is in time.
+use Rattle.calls.proofs.Taking.{proposes_late, late_account}
+use borrow.Author.Rules.{rules}
+use Rattle.calls.proofs.messages.receive_ack.Goals as goal
+
+pub put_retained_proposed-requires-clause-a_bound : goal.put_retained_proposed-requires-clause-a_bound
+put_retained_proposed-requires-clause-a_bound c =
+    (late_account c.args.words.now c.args.s c.args.t _ c.late_proposal.ensures _ c.in-Full.is)
+
+pub returns-in-Full : goal.returns-in-Full
+returns-in-Full c = search (rules, proposes_late)

@@ -1,0 +1,6 @@
+-- Page 0's body opens the book, whose entries follow, or is refused.
+use Rattle.replay.proofs.Telling.{wrote_opened}
+use Rattle.replay.proofs.replay_sound.Goals as goal
+
+pub returns-in-Opened : goal.returns-in-Opened
+returns-in-Opened c = wrote_opened c.args.bytes.now _ _ _ c.open_bundle-reply.ensures c.in-Opened.is c.replay_opened.ensures

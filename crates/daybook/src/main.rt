@@ -4,8 +4,8 @@
 
 #![tactic(auto)]
 
-use libc::{STDERR_FILENO, STDIN_FILENO, STDOUT_FILENO};
 use replay::{INPUT_SIZE, TEXT_SIZE, replay_input};
+use std::io::{Read, Stdin};
 
 // How many bytes were read, and whether the read behind them failed.
 #[derive(Drop)]
@@ -15,19 +15,24 @@ struct Taken {
 }
 
 // Reads standard input until the buffer is full, the input ends or a read fails.
-fn take_input(input: &mut [u8]) -> Taken {
+fn take_input(mut stdin: Stdin, input: &mut [u8]) -> Taken {
     let mut read: usize = 0;
     while read < input.len() {
-        let rest: &mut [u8] = &mut input[read..];
-        let got = libc::read(STDIN_FILENO, rest);
-        let more = io::count(got, rest);
-        if more == 0 {
-            return Taken {
-                read: read,
-                failed: got != 0,
-            };
+        match stdin.read(&mut input[read..]) {
+            Ok(0) => {
+                return Taken {
+                    read: read,
+                    failed: false,
+                };
+            }
+            Ok(more) => read += more,
+            Err(_) => {
+                return Taken {
+                    read: read,
+                    failed: true,
+                };
+            }
         }
-        read += more;
     }
     Taken {
         read: read,
@@ -35,23 +40,26 @@ fn take_input(input: &mut [u8]) -> Taken {
     }
 }
 
-fn say(line: &[u8]) {
-    io::write_all(STDERR_FILENO, line);
+// What cannot be told on standard error is not told.
+fn say(rt: &impl Eprint, line: &str) {
+    let _ = rt.eprintln(line);
 }
 
-fn main() {
+fn main(rt: HostRuntime) {
     let mut input = [0u8; INPUT_SIZE];
     let mut text = [0u8; TEXT_SIZE];
-    let taken = take_input(&mut input);
+    let taken = take_input(rt.stdin(), &mut input);
     let filled = replay_input(&input, taken.read, &mut text);
-    if !io::write_all(STDOUT_FILENO, &text[..filled]) {
+    if rt.write_all(&text[..filled]).is_err() {
         say(
-            b"daybook: standard output: writing failed, the text is not whole; see where it goes and run this again\n",
+            &rt,
+            "daybook: standard output: writing failed, the text is not whole; see where it goes and run this again",
         );
     }
     if taken.failed {
         say(
-            b"daybook: standard input: reading failed, the text is of the bytes before; see to it and run this again\n",
+            &rt,
+            "daybook: standard input: reading failed, the text is of the bytes before; see to it and run this again",
         );
     }
 }

@@ -1,7 +1,6 @@
-// What a host in Rust or C calls: the exported functions of the static library. Each takes any numbers and any bytes,
-// and its contract fixes the result, by the documents' definitions and by those in specs/, which say how a reply is
-// told as numbers. In C a slice is a pointer and a length, an array the pointer alone; include/saplull.h states each of
-// them for C.
+// What a host in Rust or C calls; the crate host_c exports each of these functions under its name. Each takes any
+// numbers and any bytes, and its contract fixes the result, by the documents' definitions and by those in specs/, which
+// say how a reply is told as numbers.
 
 #![tactic(auto)]
 
@@ -54,8 +53,7 @@ pub const REPLY_WORDS: usize = 5;
 // `ledger_switch` takes it over.
 
 // How many words a book has.
-#[unsafe(no_mangle)]
-pub extern "C" fn ledger_words() -> u32
+pub fn ledger_words() -> u32
     ensures { result ≡ book_words }
 {
     BOOK_WORDS as u32
@@ -64,8 +62,7 @@ pub extern "C" fn ledger_words() -> u32
 // Opens the book from a page, a bundle's body of kind 0: n, f, k, 32 balances. Returns 0, and the book is
 // the page's, whatever it was; or the code that the page is refused by, 15 where it is not 131 bytes
 // long, and each word is as it was.
-#[unsafe(no_mangle)]
-pub extern "C" fn ledger_open(words: &mut [u32; BOOK_WORDS], page: &[u8]) -> u8
+pub fn ledger_open(words: &mut [u32; BOOK_WORDS], page: &[u8]) -> u8
     ensures { ToldOpening words.old page.now result words.new }
 {
     let handed = check_handed(0, 0, 0, page);
@@ -81,8 +78,7 @@ pub extern "C" fn ledger_open(words: &mut [u32; BOOK_WORDS], page: &[u8]) -> u8
 
 // Takes over a book held from before request 5: the book is what the held one becomes, whatever it was. The held one
 // stays as it was; the two must not overlap, as no buffer that is written may overlap another.
-#[unsafe(no_mangle)]
-pub extern "C" fn ledger_switch(held: &[u32; HELD_WORDS], words: &mut [u32; BOOK_WORDS])
+pub fn ledger_switch(held: &[u32; HELD_WORDS], words: &mut [u32; BOOK_WORDS])
     ensures { SwitchedAs held.now words.new }
 {
     switch(held, words);
@@ -114,8 +110,7 @@ fn reply_words(r: Reply) -> [u32; REPLY_WORDS]
 // it carries (K the count, P account, number, value and recipient, B the balance, R the code), and zeros. R 14 where
 // the kind is no message's, 0 or above 5, or where the seat is not 0 and the kind has none; then R 15 where the body is
 // not as long as its kind's. With every R each word of the book is as it was.
-#[unsafe(no_mangle)]
-pub extern "C" fn ledger_call(
+pub fn ledger_call(
     words: &mut [u32; BOOK_WORDS],
     kind: u8,
     seat: u8,
@@ -139,24 +134,21 @@ fn number_of(reply: ListReply) -> u32
 
 // Writes the waiting list, the accounts at which a transfer waits in the book, lowest first, into the front of the list
 // that is lent, 32 bytes or more. Returns how many; or 256 times 17 where the list is shorter, and it is as it was.
-#[unsafe(no_mangle)]
-pub extern "C" fn ledger_waiting(words: &[u32; BOOK_WORDS], list: &mut [u8]) -> u32
+pub fn ledger_waiting(words: &[u32; BOOK_WORDS], list: &mut [u8]) -> u32
     ensures { ToldList (list_refusal list.old) (waiting_accounts (ledger_in words.now)) list.old result list.new }
 {
     number_of(list_waiting(words, list))
 }
 
 // How many bytes a saved book has.
-#[unsafe(no_mangle)]
-pub extern "C" fn ledger_saved_size() -> u32
+pub fn ledger_saved_size() -> u32
     ensures { result ≡ saved_size }
 {
     SAVED_SIZE as u32
 }
 
 // Saves the book: its 5,532 bytes to keep, whatever the buffer held. The book stays as it was.
-#[unsafe(no_mangle)]
-pub extern "C" fn ledger_save(words: &[u32; BOOK_WORDS], bytes: &mut [u8; SAVED_SIZE])
+pub fn ledger_save(words: &[u32; BOOK_WORDS], bytes: &mut [u8; SAVED_SIZE])
     ensures { bytes.new ≡ saved words.now }
 {
     save(words, bytes);
@@ -178,24 +170,21 @@ fn number_of_load(reply: LoadReply) -> u8
 // Loads a saved book. Returns 0, and the words are those that were saved, whatever they were; or, tried in this order,
 // 101 for a wrong mark, 102 for a format that is not known, 103 for a length that is not that format's, 104 for a wrong
 // sum, and each word is as it was.
-#[unsafe(no_mangle)]
-pub extern "C" fn ledger_load(words: &mut [u32; BOOK_WORDS], bytes: &[u8]) -> u8
+pub fn ledger_load(words: &mut [u32; BOOK_WORDS], bytes: &[u8]) -> u8
     ensures { ToldLoad words.old bytes.now result words.new }
 {
     number_of_load(load(words, bytes))
 }
 
 // How many equal acks accept a transfer: the fewest of which twice as many exceed n + 3f.
-#[unsafe(no_mangle)]
-pub extern "C" fn ledger_acks_needed(seats: u8, faults: u8) -> u16
+pub fn ledger_acks_needed(seats: u8, faults: u8) -> u16
     ensures { Fewest seats faults result }
 {
     ((seats as u16) + 3 * (faults as u16)) / 2 + 1
 }
 
 // So many equal acks accept a transfer.
-#[unsafe(no_mangle)]
-pub extern "C" fn ledger_is_enough(seats: u8, faults: u8, acks: u8) -> bool
+pub fn ledger_is_enough(seats: u8, faults: u8, acks: u8) -> bool
     ensures { result ≡ enough seats faults acks }
 {
     is_enough(seats, faults, acks)
@@ -203,8 +192,7 @@ pub extern "C" fn ledger_is_enough(seats: u8, faults: u8, acks: u8) -> bool
 
 // The text that `daybook` writes for these bytes, at the front of a buffer of 36,828 bytes, which every
 // text fits; its length is returned.
-#[unsafe(no_mangle)]
-pub extern "C" fn daybook_text(bytes: &[u8], text: &mut [u8; TEXT_SIZE]) -> usize
+pub fn daybook_text(bytes: &[u8], text: &mut [u8; TEXT_SIZE]) -> usize
     ensures { Replayed (text_of bytes.now) text.old text.new result }
 {
     replay(bytes, text)
@@ -212,8 +200,7 @@ pub extern "C" fn daybook_text(bytes: &[u8], text: &mut [u8; TEXT_SIZE]) -> usiz
 
 // The waiting list of the ledger that a bundle leaves, lowest account first, in the front of the list that is lent: how
 // many were written. Where it is refused, 256 times the code: that of the bundle or of its opening, else 17.
-#[unsafe(no_mangle)]
-pub extern "C" fn daybook_waiting(bytes: &[u8], list: &mut [u8]) -> u32
+pub fn daybook_waiting(bytes: &[u8], list: &mut [u8]) -> u32
     ensures { ToldList (refusal_behind bytes.now list.old) (accounts_behind bytes.now) list.old result list.new }
 {
     number_of(list_after(bytes, list))
@@ -238,16 +225,14 @@ fn number_of_check(reply: BundleReply) -> u32
 
 // The check of a bundle. Returns how many entries it has, 1 to 1,000; or 65,536 times the
 // code, 13 to 16, and the entry.
-#[unsafe(no_mangle)]
-pub extern "C" fn bundle_check(bytes: &[u8]) -> u32
+pub fn bundle_check(bytes: &[u8]) -> u32
     ensures { result ≡ number_of_check (check_bundle bytes.now) }
 {
     number_of_check(check(bytes))
 }
 
 // The sum of a body, as a bundle's contents entry has it.
-#[unsafe(no_mangle)]
-pub extern "C" fn bundle_sum(body: &[u8]) -> u32
+pub fn bundle_sum(body: &[u8]) -> u32
     ensures { result ≡ body_sum body.now }
 {
     body_sum(body)
@@ -272,8 +257,7 @@ fn number_of_write(reply: WriteReply) -> u32
 // the code, and the entry, and the buffer is as it was: 18 for more than 999 whole records; 14 with the entry of the
 // lowest record (the first has entry 1) that has a kind of no message, or a seat where its kind has none; 15 where the
 // last record is not whole; 19 where the buffer is shorter than the bundle.
-#[unsafe(no_mangle)]
-pub extern "C" fn bundle_write(page: &[u8; PAGE_SIZE], records: &[u8], out: &mut [u8]) -> u32
+pub fn bundle_write(page: &[u8; PAGE_SIZE], records: &[u8], out: &mut [u8]) -> u32
     ensures { ToldWriting page.now records.now out.old result out.new }
 {
     number_of_write(write_records(opening_of(page), records, out))
@@ -336,8 +320,7 @@ fn evidence_words(found: Evidence, start: u16, slip: Transfer) -> [u32; EVIDENCE
 // reply. Of a pair: 0, 1, the seat, the entry of its ack in the first bundle and in the second, which bundle holds the
 // body that is shown (1 or 2), where that body starts there, and its account, number, value and recipient. Without a
 // pair: zeros. Where it is refused: the code (13 to 16, or 21), which bundle (1 or 2; 0 with 21), the entry, and zeros.
-#[unsafe(no_mangle)]
-pub extern "C" fn bundle_evidence<'a>(
+pub fn bundle_evidence<'a>(
     first: &'a [u8],
     second: &'a [u8],
     ruled: &[u8; SLIP_SIZE],

@@ -32,10 +32,10 @@ for tool in cargo valgrind; do
 done
 under_lock "$PWD" bench.sh
 
-mkdir -p target
+make_work
 echo "bench.sh: proving daybook and the library, which takes some minutes where they are not proved yet" >&2
-if ! (rt check daybook && rt staticlib host) >target/bench.log 2>&1; then
-    echo "bench.sh: daybook or the library was not built; target/bench.log says why" >&2
+if ! prove run daybook || ! prove_library; then
+    echo "bench.sh: daybook or the library was not built; target/daybook.log and target/host_c.log say why" >&2
     exit 1
 fi
 echo "bench.sh: building the second program and the benchmark" >&2
@@ -44,4 +44,4 @@ for package in reference trials; do
         { echo "bench.sh: $package/ was not built; what cargo says above is why" >&2; exit 1; }
 done
 echo "bench.sh: measuring" >&2
-exec target/rust/release/bench --daybook target/bin/daybook --reference target/rust/release/reference
+exec target/rust/release/bench --daybook crates/daybook/out/daybook --reference target/rust/release/reference

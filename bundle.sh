@@ -12,7 +12,6 @@ here=$(cd "$(dirname "${BASH_SOURCE[0]}")" && pwd -P)
 . "$here/.ci/lock"
 . "$here/.ci/proving"
 programs=$here/target/rust/release
-library=$here/target/staticlib/libhost.a
 
 # The tools do not notice a stream that is closed: they would write nowhere, or read nothing.
 refuse_closed() { # STREAM NAME WHAT-TO-DO
@@ -38,13 +37,15 @@ build() { # TOOL PACKAGE [OPTION]..
     fi
 }
 
-# Builds the library, with the lock, where it is not there or what it is made of has changed since.
+# Builds the library, with the lock, where it is not there or what it is made of has changed since. What rt keeps in
+# out/ is none of that.
 build_library() {
     take_lock "$here"
-    [ ! -f "$library" ] || [ -n "$(find "$here/crates" "$here/crates.txt" -newer "$library" -print -quit)" ] || return 0
+    [ ! -f "$library" ] || [ -n "$(find "$here/crates" "$here/crates.txt" -path "$here/crates/*/out" -prune -o \
+        -newer "$library" -print -quit)" ] || return 0
     need_rt
     echo "bundle.sh: proving and building the library, which takes half a minute where it is proved already" >&2
-    prove staticlib host || { echo "bundle.sh: the library was not built; target/host.log says why" >&2; exit 1; }
+    prove_library || { echo "bundle.sh: the library was not built; target/host_c.log says why" >&2; exit 1; }
 }
 
 # The tool runs without the lock, as the file that it is here: another run may remove it meanwhile.

@@ -35,7 +35,7 @@ need_rt
 
 # The program runs without the lock, as a copy: another run may build it anew meanwhile.
 take_lock "$here"
-if ! prove check daybook || ! cp "$here/target/bin/daybook" "$work/daybook"; then
+if ! prove run daybook || ! cp "$here/crates/daybook/out/daybook" "$work/daybook"; then
     echo "daybook.sh: daybook was not built; target/daybook.log says why" >&2
     exit 1
 fi

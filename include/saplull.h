@@ -1,4 +1,4 @@
-/* The functions of the static library libhost.a, for hosts in C11 and C++. `rt staticlib host` writes the library.
+/* The functions of the static library libhost.a, for hosts in C11 and C++. `./library.sh` writes the library.
  *
  * A book is SAPLULL_BOOK_WORDS words that the host owns and lends for the time of a call. The library keeps nothing
  * between calls: calls on different books may run at the same time, and so may calls that take one book as const; a

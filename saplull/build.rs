@@ -1,4 +1,4 @@
-//! Links the static library that `rt staticlib host` writes: target/staticlib/libhost.a, beside this package's folder.
+//! Links the static library that `./library.sh` writes: target/staticlib/libhost.a, beside this package's folder.
 
 use std::path::Path;
 
@@ -8,7 +8,7 @@ fn main() {
     let library = format!("{folder}/libhost.a");
     println!("cargo:rerun-if-changed={library}");
     if !Path::new(&library).exists() {
-        eprintln!("{library} is not there: run `rt staticlib host` in the folder above this package");
+        eprintln!("{library} is not there: run `./library.sh` in the folder above this package");
         std::process::exit(1);
     }
     println!("cargo:rustc-link-search=native={folder}");

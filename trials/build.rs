@@ -1,4 +1,4 @@
-//! Links the static library that the gate builds from crates/host: target/staticlib/libhost.a, beside this package's
+//! Links the static library that the gate builds from crates/host_c: target/staticlib/libhost.a, beside this package's
 //! folder.
 
 fn main() {

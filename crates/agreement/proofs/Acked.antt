@@ -21,7 +21,7 @@ use Rattle.model.specs.Records.{entry_of}
 use Rattle.model.specs.Transfers.{equal}
 use Rattle.model.specs.Refusals.{ack_from, out_of_range}
 use Rattle.model.specs.Switches.{Rules, switched, step_under}
-use Rattle.laws.proofs.Sums.{impossible, both}
+use Rattle.laws.proofs.Sums.{impossible}
 use Rattle.laws.proofs.Switching.{switched_keeps}
 use Rattle.laws.proofs.Steps.{Eligible, Recordable, entry_with_ack, retain_keeps, waiting_under, Happens}
 

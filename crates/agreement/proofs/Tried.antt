@@ -1,7 +1,7 @@
 -- The theorems at runs: what is proved of every run holds of those that try the statements, in the crate runs.
 use mathlib.Core.Path.{◌≡◌, refl, ap, sym, ◌∙◌}
 use mathlib.Core.Bool.{true, false}
-use mathlib.Core.List.{List, [], ◌∷◌, map}
+use mathlib.Core.List.{List, ◌∷◌, map}
 use lib.Dec.{lit<}
 use lib.ListN.{replicate}
 use Rattle.laws.specs.Types.{Empty, Full, AckSlot, Propose, First}

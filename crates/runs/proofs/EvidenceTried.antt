@@ -1,6 +1,6 @@
 -- The statement on evidence, tried: a run with a bad seat that is found, and one ack that no call of the run backs, by
 -- which an honest seat is. All is computed.
-use Prim.Native.Nat.{ℕ, ◌<◌}
+use Prim.Native.Nat.{ℕ}
 use native.Mathlib.Omega.{arith}
 use mathlib.Core.Path.{◌≡◌, refl}
 use mathlib.Core.Bool.{Bool, true, false, not, ◌&&◌}

@@ -17,7 +17,6 @@ use Rattle.runs.specs.Claims.{Claim}
 use Rattle.model.specs.declared.Refusal.TheVariants.{OutOfRange, PastNumber, AlreadyAcked, AckConflicting, ShortBuffer}
 use Rattle.model.specs.declared.ListReply.{ListReply}
 use Rattle.model.specs.declared.ListReply.TheVariants.{Listed, ListRefused}
-use Rattle.model.specs.Basics.{count}
 use Rattle.model.specs.Records.{seat_of, account_of, no_acks}
 use Rattle.model.specs.Transfers.{equal, conflict}
 use Rattle.model.specs.Openings.{open_reply}

@@ -1,6 +1,5 @@
 -- Each turn reads the next balance.
 use Rattle.std.proofs.Common.{arith, sym, ◌∙◌}
-use Rattle.model.specs.Bundles.{words_from}
 use Rattle.laws.proofs.Numbers.{words_count, words_at_lem}
 use Rattle.basics.proofs.Filling.{filled_more}
 use Rattle.pages.proofs.messages.balances_of.Goals as goal

@@ -75,7 +75,7 @@ def renames():
             continue
         camel = [n for n in ns if re.search(r"[A-Z]", n)]
         for n in ns:
-            if n not in camel:
+            if n not in camel and not any("specs" in home.split(os.sep) for home in found[n]):
                 table[n] = m + "_lem"
         if camel and m in found:
             standing[m] = found[m]

@@ -94,7 +94,7 @@ module _ (o : Opening) (bad : Seat → Bool) (run : Run) (opens : Opens o) (few 
       let l = ledger_at o e.at p in
       let ok = sound o opens e.at p (obeys_before o obeys (before w)) in
       let found = answer_accept l _ (Ack s t) (Accept k) s t k refl refl (happened_at o (Ack s t) (Accept k) obeys w is) in
-      let from = call_from o bad opens run kept.acks_genuine_lem obeys p e (Ack s t) (Accept k) s t w is refl found.0 in
+      let from = call_from o bad opens run kept.acks_genuine obeys p e (Ack s t) (Accept k) s t w is refl found.0 in
       accept_quorum o bad run opens l ok s t found.0 from found.1
 
   -- a slip that is put forward has a majority, or it is put forward late, by a seat that had accepted it
@@ -113,12 +113,12 @@ module _ (o : Opening) (bad : Seat → Bool) (run : Run) (opens : Opens o) (few 
       go m call (inl found) =
           inl
           (propose_majority o bad run opens l (sound o opens d.at q here) m u found
-          (call_from o bad opens run kept.acks_genuine_lem obeys q d m (Propose u) found.sender found.slip w call found.is_ack_lem found.records))
+          (call_from o bad opens run kept.acks_genuine obeys q d m (Propose u) found.sender found.slip w call found.is_ack_lem found.records))
       go m call (inr late) = inr ((all_reasons o opens d.at q here late.slip.account).why_retained u late.joins.is_retained)
 
   -- what the premise says at a ruling
   ruling_rightful : (p : Run) (e : Event) (t : Transfer) → Within (p ▹ e) run → ruled e.call ≡ some t → rightful p (some t) ≡ true
-  ruling_rightful p e t w is = rw is at (throughout_at (λ before e. rightful before (ruled e.call)) kept.rulings_rightful_lem w)
+  ruling_rightful p e t w is = rw is at (throughout_at (λ before e. rightful before (ruled e.call)) kept.rulings_rightful w)
 
   -- a ruling before another of the same account and number has the same slip
   earlier_ruling : (p q : Run) (e d : Event) (t u : Transfer) → Within (q ▹ d) run → Within (p ▹ e) q

@@ -124,7 +124,7 @@ module _ (o : Opening) (bad : Seat → Bool) (run : Run) (opens : Opens o) (few 
             record {
               size = entry.acks_size;
               stands = entry.acks_stand;
-              from = λ i u h fair. acked_by_later i u w (all_from o bad opens run kept.acks_genuine_lem z p here w t.account i u h fair);
+              from = λ i u h fair. acked_by_later i u w (all_from o bad opens run kept.acks_genuine z p here w t.account i u h fair);
             }
 
         -- each seat is bad, or its vote is for t
@@ -167,7 +167,7 @@ module _ (o : Opening) (bad : Seat → Bool) (run : Run) (opens : Opens o) (few 
         place (Full u) at (inl is) = inl (inr (at ∙ ap Full (equal_sound u t is)))
         place (Full u) at (inr is) =
             let clash = conflict_sound u t is in
-            let theirs = acked_by_later s u w (all_from o bad opens run kept.acks_genuine_lem z q (obeys_before o obeys w) w t.account s u at fair) in
+            let theirs = acked_by_later s u w (all_from o bad opens run kept.acks_genuine z q (obeys_before o obeys w) w t.account s u at fair) in
             absurd (clash.differ (acked_by_once o opens run obeys s u t theirs (all-acked s fair) clash.account clash.number))
 
         waits : (y : Slot) → e.pending ≡ y → waits_already y t ≡ true → Arrived s t e
@@ -308,7 +308,7 @@ module _ (o : Opening) (bad : Seat → Bool) (run : Run) (opens : Opens o) (few 
 pub theorem1 : Theorem1
 theorem1 o bad run t opens few at-honest obeys kept all-acked =
     record {
-      accepted_there_lem = arrived_accepted o bad run opens few obeys kept t all-acked;
+      accepted_there = arrived_accepted o bad run opens few obeys kept t all-acked;
       none_other_proposed = only_proposed o bad run opens few obeys kept t all-acked;
       none_other_accepted = only_accepted o bad run opens few obeys kept t all-acked;
     }

@@ -56,13 +56,13 @@ undisputed_claim =
     theorem1 page bad undisputed_run t witness_keeps.0 witness_keeps.1 kept.0 kept.1 kept.2 kept.3
 
 pub theorem1_tried : accepted_by (seat_of 0) t undisputed_run ≡ true
-theorem1_tried = undisputed_claim.accepted_there_lem undisputed_run (seat_of 0) at_end refl undisputed-keeps.4
+theorem1_tried = undisputed_claim.accepted_there undisputed_run (seat_of 0) at_end refl undisputed-keeps.4
 
 -- .. also where the last of the acks are refused,
 pub late_accepted : accepted_by (seat_of 0) t late_ack ≡ true
 late_accepted =
     let kept = late-keeps in
-    (theorem1 three_seats nobody late_ack t kept.0 kept.1 kept.2 kept.3 kept.4 kept.5).accepted_there_lem
+    (theorem1 three_seats nobody late_ack t kept.0 kept.1 kept.2 kept.3 kept.4 kept.5).accepted_there
     late_ack (seat_of 0) at_end refl kept.6
 
 -- .. and where one of the honest seats joins in.

@@ -158,7 +158,7 @@ witness_keeps = (
   lit≤ tt,
   refl,
   witness_obeys,
-  record { acks_genuine_lem = refl; rulings_rightful_lem = refl },
+  record { acks_genuine = refl; rulings_rightful = refl },
 )
 
 -- what an event does with a slip
@@ -218,7 +218,7 @@ genuine_needed = (
     no_claim page bad forged t u refl refl refl,
   ),
   refl,
-  λ keeps. false≢true keeps.acks_genuine_lem,
+  λ keeps. false≢true keeps.acks_genuine,
 )
 
 -- "All rulings for one account and number carry the same slip, whichever seats they reach." Here they carry t and u.
@@ -237,7 +237,7 @@ one_ruling_needed = (
     no_claim page bad rulings_differ t u refl refl refl,
   ),
   refl,
-  λ keeps. false≢true keeps.rulings_rightful_lem,
+  λ keeps. false≢true keeps.rulings_rightful,
 )
 
 -- "Before the first of them, some call put forward a slip with that account and number." Here one did so after it.
@@ -260,7 +260,7 @@ put-forward-needed = (
   ),
   refl,
   refl,
-  λ keeps. false≢true keeps.rulings_rightful_lem,
+  λ keeps. false≢true keeps.rulings_rightful,
 )
 
 -- "If all slips so put forward before it are equal, the ruling is for that slip." Here all
@@ -281,7 +281,7 @@ that_slip_needed = (
     no_claim page bad other_ruling t u refl refl refl,
   ),
   refl,
-  λ keeps. false≢true keeps.rulings_rightful_lem,
+  λ keeps. false≢true keeps.rulings_rightful,
 )
 
 -- "at most f of them". Here two seats are bad, and f is 1. They ack t at seat 0, and u at seat 1.
@@ -308,7 +308,7 @@ few_bad_needed = (
         then refl,
     no_claim page two_bad too_many_bad t u refl refl refl,
   ),
-  record { acks_genuine_lem = refl; rulings_rightful_lem = refl },
+  record { acks_genuine = refl; rulings_rightful = refl },
   λ few. two_above_one few,
 )
 
@@ -325,7 +325,7 @@ pub obeying-needed :
 unfolding rules_at ledger_at no_acks equal conflict has_most most_acked lowest_affordable apply settle_at_most settle step_under
 obeying-needed = (
   refl,
-  record { acks_genuine_lem = refl; rulings_rightful_lem = refl },
+  record { acks_genuine = refl; rulings_rightful = refl },
   no_claim page bad invented t u refl refl refl,
   λ obeys. accepts_not_notes obeys.1,
 )
@@ -361,7 +361,7 @@ left_free = (
       then refl then refl then refl then refl
       then refl then refl then refl then refl then refl
       then refl,
-  record { acks_genuine_lem = refl; rulings_rightful_lem = refl },
+  record { acks_genuine = refl; rulings_rightful = refl },
 )
 
 -- What else the premises say. A ruling counts, refused or not: this one is for a value above the opening sum.
@@ -370,7 +370,7 @@ refused_ruling = today ▹ ruling 0 (slip 0 1 14 1) (Refuse OutOfRange)
 
 pub refused_rulings_count : Obeys page refused_ruling × (Premises page bad refused_ruling → ⊥)
 unfolding rules_at ledger_at no_acks equal conflict has_most most_acked lowest_affordable apply settle_at_most settle step_under
-refused_rulings_count = (tt then refl, λ keeps. false≢true keeps.rulings_rightful_lem)
+refused_rulings_count = (tt then refl, λ keeps. false≢true keeps.rulings_rightful)
 
 -- "an earlier call at that sender": here the call comes after the ack
 abbrev ack_too_soon : Run
@@ -378,7 +378,7 @@ ack_too_soon = today ▹ ack 0 1 t Note ▹ acks 1 t
 
 pub acked_earlier : Obeys page ack_too_soon × (Premises page bad ack_too_soon → ⊥)
 unfolding rules_at ledger_at no_acks equal conflict has_most most_acked lowest_affordable apply settle_at_most settle step_under
-acked_earlier = (tt then refl then refl, λ keeps. false≢true keeps.acks_genuine_lem)
+acked_earlier = (tt then refl then refl, λ keeps. false≢true keeps.acks_genuine)
 
 -- a run has calls at honest seats alone: seat 4, not the bad seat 5, nor seat 6, for there is none
 pub honest-alone :

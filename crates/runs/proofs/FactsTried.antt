@@ -130,7 +130,7 @@ undisputed-keeps = (
       then refl
       then refl then refl then refl
       then refl,
-  record { acks_genuine_lem = refl; rulings_rightful_lem = refl },
+  record { acks_genuine = refl; rulings_rightful = refl },
   each_honest (λ s. acked_by s t undisputed_run ≡ true) refl refl refl refl refl,
   each_honest (λ s. reached (seat_of 0) s t undisputed_run ≡ true) refl refl refl refl refl,
 )
@@ -146,7 +146,7 @@ theorem1-computed = (refl, refl, refl)
 -- .. and Theorem 1 says so only of places where all of them have arrived
 pub undisputed_says : Undisputed page bad undisputed_run t → AllReached page bad (seat_of 0) t one_lacks → false ≡ true
 unfolding equal
-undisputed_says h = h.accepted_there_lem one_lacks (seat_of 0) (sooner at_end) refl
+undisputed_says h = h.accepted_there one_lacks (seat_of 0) (sooner at_end) refl
 
 -- Where fewer acks accept than there are honest seats, the last of their acks are refused, and have arrived all the
 -- same: n 3, f 0. Seat 1 is ahead, and its ack of the next number comes to seat 0 too early, and is lost.
@@ -191,7 +191,7 @@ late-keeps = (
   lit≤ tt,
   refl,
   tt then refl then refl then refl then refl then refl then refl then refl then refl then refl then refl,
-  record { acks_genuine_lem = refl; rulings_rightful_lem = refl },
+  record { acks_genuine = refl; rulings_rightful = refl },
   each_of_three (λ s. acked_by s t late_ack ≡ true) refl refl refl,
   each_of_three (λ s. reached (seat_of 0) s t late_ack ≡ true) refl refl refl,
 )
@@ -252,7 +252,7 @@ alone-keeps = (
   lit≤ tt,
   refl,
   tt then refl then refl then refl then refl then refl then refl then refl,
-  record { acks_genuine_lem = refl; rulings_rightful_lem = refl },
+  record { acks_genuine = refl; rulings_rightful = refl },
   refl,
   refl,
 )

@@ -130,7 +130,7 @@ joined_keeps = (
   lit≤ tt,
   refl,
   joined_obeys,
-  record { acks_genuine_lem = refl; rulings_rightful_lem = refl },
+  record { acks_genuine = refl; rulings_rightful = refl },
 )
 
 pub mixed_keeps : Opens page × FewBad page bad × (at_honest page bad mixed ≡ true) × Obeys page mixed × Premises page bad mixed
@@ -140,7 +140,7 @@ mixed_keeps = (
   lit≤ tt,
   refl,
   mixed_obeys,
-  record { acks_genuine_lem = refl; rulings_rightful_lem = refl },
+  record { acks_genuine = refl; rulings_rightful = refl },
 )
 
 -- What the first has in it. Before the ruling each of the five honest seats put t forward, and n - f is 5; four of them
@@ -306,7 +306,7 @@ unfolding rules_at ledger_at no_acks equal conflict has_most most_acked lowest_a
 joined-undisputed = (
   refl,
   undisputed-keeps.1 then refl then refl then refl then refl,
-  record { acks_genuine_lem = refl; rulings_rightful_lem = refl },
+  record { acks_genuine = refl; rulings_rightful = refl },
   each_honest (λ s. acked_by s t joined_undisputed ≡ true) refl refl refl refl refl,
 )
 

@@ -114,7 +114,7 @@ across_keeps = (
   lit≤ tt,
   refl,
   across_obeys,
-  record { acks_genuine_lem = refl; rulings_rightful_lem = refl },
+  record { acks_genuine = refl; rulings_rightful = refl },
 )
 
 -- each honest seat accepts the slip

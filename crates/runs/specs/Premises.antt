@@ -63,5 +63,5 @@ rightful before none = true
 rightful before (some t) = not (ruled_otherwise t before) && (ruled_on t before || founded t (proposals t before))
 
 pub record Premises (o : Opening) (bad : Seat → Bool) (run : Run) : Type 0 where
-  pub acks_genuine_lem : throughout (λ before e. genuine o bad before e.call) run ≡ true
-  pub rulings_rightful_lem : throughout (λ before e. rightful before (ruled e.call)) run ≡ true
+  pub acks_genuine : throughout (λ before e. genuine o bad before e.call) run ≡ true
+  pub rulings_rightful : throughout (λ before e. rightful before (ruled e.call)) run ≡ true

@@ -38,7 +38,7 @@ AllReached o bad z t run = (s : Seat) → honest o bad s ≡ true → reached z 
 -- A slip t that every honest seat acked: where acks of it from all of them arrived, none too early, it has been
 -- accepted; and nowhere is another slip with its account and number put forward or accepted.
 pub record Undisputed (o : Opening) (bad : Seat → Bool) (run : Run) (t : Transfer) : Type 0 where
-  pub accepted_there_lem : (p : Run) (z : Seat) → Within p run → honest o bad z ≡ true → AllReached o bad z t p → accepted_by z t p ≡ true
+  pub accepted_there : (p : Run) (z : Seat) → Within p run → honest o bad z ≡ true → AllReached o bad z t p → accepted_by z t p ≡ true
   pub none_other_proposed : (q : Run) (d : Event) (u : Transfer) → Within (q ▹ d) run → proposed d.call ≡ some u
       → t.account ≡ u.account → t.number ≡ u.number → t ≡ u
   pub none_other_accepted : (q : Run) (d : Event) (u : Transfer) → Within (q ▹ d) run → accepted d.call ≡ some u

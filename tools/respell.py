@@ -15,7 +15,7 @@ import re
 import sys
 
 WORD = re.compile(r"[^\s(){}\[\];,.\"⟨⟩:=`λ∷|&!?/\\<>*#@%$^~]+")
-NAMES = re.compile(r"^\s*(?:abbrev |unfoldable |pub )*([^\s(){}\[\];,.\"]+(?:, *[^\s(){}\[\];,.\"]+)*) : ")
+NAMES = re.compile(r"^\s*(?:abbrev |unfoldable |pub )*([^\s(){}\[\];,.\"]+(?:, *[^\s(){}\[\];,.\"]+)*) :(?: |$)")
 KINDS = re.compile(r"^\s*(?:pub )?(?:record|data|ruleset) (\S+)")
 
 
@@ -80,6 +80,16 @@ def renames():
         if camel and m in found:
             standing[m] = found[m]
     return found, table, standing
+
+
+def local_names(text, table, kept):
+    """Names that are bound in a file of specs/ or proofs/ alone, as a lemma's arguments."""
+    code = "\n".join(line.split("--", 1)[0] for line in text.split("\n") if not re.match(r"(pub )?use ", line))
+    found = {m.group(0) for m in WORD.finditer(code) if re.fullmatch(r"[a-z]\w*(-[a-z]\w*)+", m.group(0))}
+    cited = set(re.findall(r"^(?:pub )?use [^{]*\{([^}]*)\}", text, re.M))
+    cited = {n.strip() for names in cited for n in names.split(",")}
+    cited |= set(re.findall(r"\.([a-z][\w'-]*)", code))
+    return {n: snake(n) for n in found if n not in table and n not in kept and n not in cited}
 
 
 def imported_elsewhere(text):
@@ -150,7 +160,8 @@ def main():
             kept = imported_elsewhere(text) | local
             if path.endswith(".antt"):
                 text = lemmas_apart(path, text, standing)
-            new = source(text, table, "--" if path.endswith(".antt") else "//", kept)
+            own = local_names(text, table, kept) if path.endswith(".antt") and not of_one_function(path) else {}
+            new = source(text, {**table, **own}, "--" if path.endswith(".antt") else "//", kept)
         if new != was:
             open(path, "w", encoding="utf-8").write(new)
             count += 1

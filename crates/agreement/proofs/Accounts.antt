@@ -30,7 +30,7 @@ module _ (o : Opening) where
   -- so a call leaves it unused
   turn_unused : (l next : Ledger) (m : Message) (r : Reply) → Turn o l m r next
       → (b : Account) → o.accounts ≤ b.0 → Unused (entry_of l b) → Unused (entry_of next b)
-  turn_unused l next m r (keeps same none-accepted not-k) b above old = ((same b).0 ∙ old.0, (same b).1 ∙ old.1)
+  turn_unused l next m r (keeps same none_accepted not_k) b above old = ((same b).0 ∙ old.0, (same b).1 ∙ old.1)
   turn_unused l next m r (accepts t this done) b above old =
       let joined = set_entry l.entries t.account (with_pending done.entry t) in
       let other = entry_set_other l.entries t.account (with_pending done.entry t) b (λ same. omega (arith, done.fits.payer_known)) in

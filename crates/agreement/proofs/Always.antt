@@ -64,10 +64,10 @@ no_count (Refuse q) h = refl
 -- K's count is the rise in the sum of current numbers, and no other reply comes with one
 turn_count : (o : Opening) (l next : Ledger) (m : Message) (r : Reply) → Sound o l → Sound o next → Turn o l m r next
     → sum_currents next.entries ≡ sum_currents l.entries + count_of r
-turn_count o l next m r ok then_ok (keeps same none-accepted not-k) =
+turn_count o l next m r ok then_ok (keeps same none_accepted not_k) =
     let size : length next.entries ≡ length l.entries = then_ok.size ∙ sym ok.size in
     let sums = sum_same_each (λ e. e.current) next.entries l.entries (fresh_entry 0) size (λ i. (same (account_of i)).1) in
-    omega (arith, no_count r not-k)
+    omega (arith, no_count r not_k)
 turn_count o l next m r ok then_ok (accepts t this done) =
     let joined = set_entry l.entries t.account (with_pending done.entry t) in
     let before = sum_set_same (λ e. e.current) l.entries t.account.0 (with_pending done.entry t) (fresh_entry 0) done.same_current in
@@ -77,7 +77,7 @@ turn_count o l next m r ok then_ok (accepts t this done) =
 -- no waiting slip is covered after a call, if none was before
 turn_uncovered : (o : Opening) (l next : Ledger) (m : Message) (r : Reply) → Turn o l m r next
     → ((a : Account) → affordable (entry_of l a) ≡ false) → (a : Account) → affordable (entry_of next a) ≡ false
-turn_uncovered o l next m r (keeps same none-accepted not-k) old a = rw ((same a).0, (same a).2) (old a)
+turn_uncovered o l next m r (keeps same none_accepted not_k) old a = rw ((same a).0, (same a).2) (old a)
 turn_uncovered o l next m r (accepts t this done) old a =
     let joined = set_entry l.entries t.account (with_pending done.entry t) in
     rw done.entries_are (none_affordable (settle joined).entries (settle_done joined) a)
@@ -124,7 +124,7 @@ module _ (o : Opening) (opens : Opens o) (s : Seat) where
       happens = rw here at (happened_at o call.0 call.1 obeys at_end call.2)
 
       go : {next : Ledger} → Turn o l call.0 call.1 next → ⊥
-      go (keeps same none-accepted not-k) = impossible (cc (none-accepted, ap accepted call.2, this))
+      go (keeps same none_accepted not_k) = impossible (cc (none_accepted, ap accepted call.2, this))
       go (accepts w' that done) =
           let slip : u ≡ w' = cc (that, ap accepted call.2, this) in
           settled_clash (all_settled q obeys.0 p e w there t is) done.fits.none_waits slip done.is_next
@@ -192,7 +192,7 @@ module _ (o : Opening) (opens : Opens o) (s : Seat) where
 
   -- before request 5 nothing is
   nothing_before : (r : Run) → Obeys o r → (a : Account) → rank (rules_at s r) < rank since_request5 → RetainsNothing (entry_of (ledger_at o s r) a)
-  nothing_before r obeys a before-it =
+  nothing_before r obeys a before_it =
       (go (entry_of (ledger_at o s r) a).retained refl, unmarked (entry_of (ledger_at o s r) a).retained_proposed refl)
     where
       go : (p : Slot) → (entry_of (ledger_at o s r) a).retained ≡ p → p ≡ Empty
@@ -220,13 +220,13 @@ module _ (o : Opening) (opens : Opens o) (s : Seat) where
       let found = happened_found (λ e. same_seat e.at s && (passes (equal t) (ruled e.call) && taken e.call)) r h in
       let e = found.1 in
       let parts = both (same_seat e.at s) _ found.3 in
-      let both-parts = both (passes (equal t) (ruled e.call)) (taken e.call) parts.1 in
-      let slip = that_slip t (ruled e.call) both-parts.0 in
+      let both_parts = both (passes (equal t) (ruled e.call)) (taken e.call) parts.1 in
+      let slip = that_slip t (ruled e.call) both_parts.0 in
       let place = obeys_before o obeys (before found.2) in
       let l = ledger_at o e.at found.0 in
       let exactly = call_accepts o (rules_at e.at found.0) l e.call (group o opens) (sound o opens e.at found.0 place) (obeys_at o obeys found.2) in
-      let accepts-it = ruling_accepts e.call (rules_at e.at found.0) l t exactly slip both-parts.1 in
-      happened_holds (λ e. same_seat e.at s && passes (equal t) (accepted e.call)) found.2 (rw (parts.0, accepts-it, equal_refl t))
+      let accepts_it = ruling_accepts e.call (rules_at e.at found.0) l t exactly slip both_parts.1 in
+      happened_holds (λ e. same_seat e.at s && passes (equal t) (accepted e.call)) found.2 (rw (parts.0, accepts_it, equal_refl t))
 
   accepted_iff : (r : Run) → Obeys o r → (t : Transfer) → t.number ≡ (entry_of (ledger_at o s r) t.account).current + 1
       → accepted_by s t r ≡ enough o.seats o.faults (acks_for t (entry_of (ledger_at o s r) t.account).acks) || ruled_for s t r

@@ -7,7 +7,7 @@ use Rattle.agreement.proofs.Agree.{accepted_agree}
 use Rattle.agreement.proofs.EqualCounts.{counts_balances}
 
 pub demand3 : Demand3
-demand3 o bad run opens few at-honest obeys kept =
+demand3 o bad run opens few at_honest obeys kept =
     record {
       agree = accepted_agree o bad run opens few obeys kept;
       balances = λ p s a w fair. (slated o opens s p (obeys_before o obeys w)).balance_is a;

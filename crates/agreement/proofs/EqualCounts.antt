@@ -181,7 +181,7 @@ module _ (slip_of : Account → ℕ → Option Transfer) (o : Opening) where
   turn_balanced : (l next : Ledger) (m : Message) (r : Reply) → Opens o → Sound o l → Turn o l m r next
       → ((t : Transfer) → accepted (message m r) ≡ some t → slip_of t.account t.number ≡ some t)
       → Balanced l.entries → Balanced next.entries
-  turn_balanced l next m r opens ok (keeps same none-accepted not-k) slips bal = same_balanced l.entries next.entries same bal
+  turn_balanced l next m r opens ok (keeps same none_accepted not_k) slips bal = same_balanced l.entries next.entries same bal
   turn_balanced l next m r opens ok (accepts t this done) slips bal =
       let g = group o opens in
       let joined = set_entry l.entries t.account (with_pending done.entry t) in

@@ -83,7 +83,7 @@ module _ (o : Opening) (opens : Opens o) (s : Seat) where
       (listed : (v : Rules) (l : Ledger) (b a : List ℕ) (q : ListReply) → Q (waiting_list b q a) v l)
       (switches : (v : Rules) (l : Ledger) → Q switch v l)
       (made : (v : Rules) (l next : Ledger) (m : Message) (q : Reply) → Sound o l → Happens v l m q next → Q (message m q) v next)
-      (kept-switch : (c : Call) (v : Rules) (l : Ledger) → Sound o l → Q c v l → Q c (next_rules v) (switched v l))
+      (kept_switch : (c : Call) (v : Rules) (l : Ledger) → Sound o l → Q c v l → Q c (next_rules v) (switched v l))
       (kept : (c : Call) (v : Rules) (l next : Ledger) (m : Message) (q : Reply) → Sound o l → Happens v l m q next → Q c v l → Q c v next)
     where
       abbrev Past : Run → Rules → Ledger → Type 0
@@ -102,6 +102,6 @@ module _ (o : Opening) (opens : Opens o) (s : Seat) where
           run_induction Past (λ from p e w at. nothing_yet w)
           (λ r d v l other old. one_more_lem r d v l old (λ at. impossible (cc (other, seat_self s, at))))
           (λ r b a q v l old. one_more_lem r _ v l old (λ at. listed v l b a q))
-          (λ r v l ok old. one_more_lem r _ _ _ (λ p e w at. kept-switch e.call v l ok (old p e w at)) (λ at. switches (next_rules v) (switched v l)))
+          (λ r v l ok old. one_more_lem r _ _ _ (λ p e w at. kept_switch e.call v l ok (old p e w at)) (λ at. switches (next_rules v) (switched v l)))
           (λ r v m q l next ok h old.
           one_more_lem r _ v next (λ p e w at. kept e.call v l next m q ok h (old p e w at)) (λ at. made v l next m q ok h))

@@ -210,7 +210,7 @@ module _ (o : Opening) (opens : Opens o) (run : Run) (obeys : Obeys o run) where
           )
 
       end : Retains t (entry_of (ledger_at o s q) t.account) → (entry_of (ledger_at o s q) t.account).retained ≡ Full t
-      end (inl later-one) = absurd (omega arith)
+      end (inl later_one) = absurd (omega arith)
       end (inr held) = held
 
 -- the next number's mark is set, or, since request 5, the number is retained
@@ -244,9 +244,9 @@ still_used number v e e' current marked retained late old =
 -- retained: it is retained with its mark
 accepted_used : (number : ℕ) (v : Rules) (e : Entry) (t : Transfer) → t.number ≡ e.current + 1
     → ((u : Transfer) → e.retained ≡ Full u → u.number ≡ t.number → ⊥) → UsedUp number v e → UsedUp number v (waiting_under v e t)
-accepted_used number first_rules e t next none-held old = still_used number first_rules e (waiting_under first_rules e t) refl (λ h. h) refl (λ h. h) old
-accepted_used number since_request3 e t next none-held old = still_used number since_request3 e (waiting_under since_request3 e t) refl (λ h. h) refl (λ h. h) old
-accepted_used number since_request5 e t next none-held old =
+accepted_used number first_rules e t next none_held old = still_used number first_rules e (waiting_under first_rules e t) refl (λ h. h) refl (λ h. h) old
+accepted_used number since_request3 e t next none_held old = still_used number since_request3 e (waiting_under since_request3 e t) refl (λ h. h) refl (λ h. h) old
+accepted_used number since_request5 e t next none_held old =
     record {
       not_above = old.not_above;
       next_marked = λ this. inl (marked this (old.next_marked this));
@@ -257,8 +257,8 @@ accepted_used number since_request5 e t next none-held old =
     }
   where
     marked : number ≡ e.current + 1 → MarkedOrRetained number since_request5 e → e.proposed ≡ true
-    marked is (inl yes-marked) = yes-marked
-    marked is (inr (since, u, held, this)) = absurd (none-held u held (omega arith))
+    marked is (inl yes_marked) = yes_marked
+    marked is (inr (since, u, held, this)) = absurd (none_held u held (omega arith))
 
 -- at a switch what waits is retained with its mark
 taken_used : (number : ℕ) (o : Opening) (a : Account) (v : Rules) (e : Entry) → SoundEntry o a e → UsedUp number v e → UsedUp number (next_rules v) (takes_over v e)
@@ -428,10 +428,10 @@ module _ (o : Opening) (opens : Opens o) (s : Seat) where
   -- the same marks of the same numbers, at the same place or later
   marks_stay : (r r' : Run) (a : Account) (e e' : Entry) → Within r r' → e'.current ≡ e.current → e'.proposed ≡ e.proposed → e'.retained ≡ e.retained
       → e'.retained_proposed ≡ e.retained_proposed → Marked r a e → Marked r' a e'
-  marks_stay r r' a e e' w current proposed-same retained late why =
+  marks_stay r r' a e e' w current proposed_same retained late why =
       record {
         next_why = λ h t account number.
-            happened_later (puts_for s t) w (why.next_why (sym proposed-same ∙ h) t account (number ∙ ap (λ m. m + 1) current));
+            happened_later (puts_for s t) w (why.next_why (sym proposed_same ∙ h) t account (number ∙ ap (λ m. m + 1) current));
         retained_why = λ t held h. happened_later (puts_for s t) w (why.retained_why t (sym retained ∙ held) (sym late ∙ h));
       }
 

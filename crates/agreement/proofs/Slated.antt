@@ -24,8 +24,8 @@ opened_matches o =
 -- a call keeps the ledger its slate's
 turn_matches : (o : Opening) (l next : Ledger) (m : Message) (r : Reply) (s : Slate) → Group o → Sound o l → Turn o l m r next
     → Matches l.entries s → Matches next.entries (next_slate s (accepted (message m r)))
-turn_matches o l next m r s g ok (keeps same none-accepted not-k) match =
-    rw none-accepted (quiet_matches l.entries next.entries s same match)
+turn_matches o l next m r s g ok (keeps same none_accepted not_k) match =
+    rw none_accepted (quiet_matches l.entries next.entries s same match)
 turn_matches o l next m r s g ok (accepts t this done) match =
     let es = set_entry l.entries t.account (with_pending done.entry t) in
     let waits = done.waits_soundly in

@@ -93,9 +93,9 @@ none_yet n f recorded x must = is_not x.proposed (both (leb (n - f) recorded && 
 n_f_recorded : (l : Ledger) (x : Entry) → must_propose l.seats l.faults (acks_recorded x.acks) x ≡ true
     → l.seats ≤ acks_recorded x.acks + l.faults
 n_f_recorded l x must =
-    let enough-acks = leb (l.seats - l.faults) (acks_recorded x.acks) in
-    let parts = both (enough-acks && two_conflict x.acks) (not x.proposed) must in
-    let least = leb-true (l.seats - l.faults) (acks_recorded x.acks) (both enough-acks (two_conflict x.acks) parts.0).0 in
+    let enough_acks = leb (l.seats - l.faults) (acks_recorded x.acks) in
+    let parts = both (enough_acks && two_conflict x.acks) (not x.proposed) must in
+    let least = leb-true (l.seats - l.faults) (acks_recorded x.acks) (both enough_acks (two_conflict x.acks) parts.0).0 in
     omega arith
 
 -- from what happened
@@ -607,7 +607,7 @@ module _ {v : Rules} (o : Opening) (l next : Ledger) (m : Message) (r : Reply) (
   just_settled t is = go (turn o l next m r g ok h)
     where
       go : Turn o l m r next → BookedOrWaits t (entry_of next t.account)
-      go (keeps same none-accepted not-k) = impossible (cc)
+      go (keeps same none_accepted not_k) = impossible (cc)
       go (accepts u this done) = after (settle_entry u.account joined)
         where
           joined : List Entry

@@ -43,7 +43,7 @@ module _ (l : Ledger) (m : Message) where
   join_ties q r due (inl a) (inl b) = inl (a ∙ sym b)
   join_ties q r due (inl a) (inr (t, u, is, there, most, too)) = inr (u, t, a ∙ there, is, too, most)
   join_ties q r due (inr (t, u, is, there, most, too)) (inl b) = inr (t, u, is, b ∙ there, most, too)
-  join_ties q r due (inr (t, u, is, there, most, too)) (inr (x, y, also, that, has, as-well)) = inr (t, x, is, also, most, has)
+  join_ties q r due (inr (t, u, is, there, most, too)) (inr (x, y, also, that, has, as_well)) = inr (t, x, is, also, most, has)
 
 -- a message that meets the same under the first rules does the same
 alike : (l : Ledger) (m : Message) → rules_met first_rules l m ≡ rules_in l m → Alike l m

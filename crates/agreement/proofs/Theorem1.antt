@@ -50,7 +50,7 @@ abbrev Arrived : Seat → Transfer → Entry → Type 0
 Arrived s t e = Held s t e ⊎ ((p : Transfer) × (p.account ≡ t.account) × (p.number ≡ t.number) × BookedOrWaits p e)
 
 module _ (o : Opening) (bad : Seat → Bool) (run : Run) (opens : Opens o) (few : FewBad o bad) (obeys : Obeys o run) (kept : Premises o bad run)
-    (t : Transfer) (all-acked : AllAcked o bad t run)
+    (t : Transfer) (all_acked : AllAcked o bad t run)
   where
     honestly : (i : ℕ) → i < o.seats → bad (seat_of i) ≡ false → honest o bad (seat_of i) ≡ true
     honestly i below fair = rw (lt-ltb i o.seats below, fair)
@@ -60,9 +60,9 @@ module _ (o : Opening) (bad : Seat → Bool) (run : Run) (opens : Opens o) (few 
         → (i : ℕ) (v w : Transfer) → i < o.seats → bad (seat_of i) ≡ false → Full t ≡ Full v → vote x i ≡ Full w → v ≡ w
     honest_vote u x tally account number i v w below fair hv hw =
         let stands = tally.stands (seat_of i) w hw in
-        let acked-it = tally.from (seat_of i) w hw (honestly i below fair) in
+        let acked_it = tally.from (seat_of i) w hw (honestly i below fair) in
         let same =
-        acked_by_once o opens run obeys (seat_of i) t w (all-acked (seat_of i) (honestly i below fair)) acked-it
+        acked_by_once o opens run obeys (seat_of i) t w (all_acked (seat_of i) (honestly i below fair)) acked_it
         (account ∙ sym stands.1) (number ∙ sym stands.2) in
         let this : t ≡ v = cc in
         sym this ∙ same
@@ -143,7 +143,7 @@ module _ (o : Opening) (bad : Seat → Bool) (run : Run) (opens : Opens o) (few 
     -- t is in range in every sound ledger, since it was acked somewhere
     acked_eligible : (z : Seat) → honest o bad z ≡ true → (1 ≤ t.number) × ((l : Ledger) → Sound o l → out_of_range l t ≡ false)
     acked_eligible z fair =
-        let found = acked_by_found z t run (all-acked z fair) in
+        let found = acked_by_found z t run (all_acked z fair) in
         acked_in_range o opens run obeys found.0 found.1 t found.2 found.4
 
     -- an ack of t from an honest seat that is refused, and not as too early, had arrived before
@@ -168,7 +168,7 @@ module _ (o : Opening) (bad : Seat → Bool) (run : Run) (opens : Opens o) (few 
         place (Full u) at (inr is) =
             let clash = conflict_sound u t is in
             let theirs = acked_by_later s u w (all_from o bad opens run kept.acks_genuine z q (obeys_before o obeys w) w t.account s u at fair) in
-            absurd (clash.differ (acked_by_once o opens run obeys s u t theirs (all-acked s fair) clash.account clash.number))
+            absurd (clash.differ (acked_by_once o opens run obeys s u t theirs (all_acked s fair) clash.account clash.number))
 
         waits : (y : Slot) → e.pending ≡ y → waits_already y t ≡ true → Arrived s t e
         waits Empty at is = impossible (cc)
@@ -306,9 +306,9 @@ module _ (o : Opening) (bad : Seat → Bool) (run : Run) (opens : Opens o) (few 
         go (no yet) Empty at = decided_accepted o opens z p here t (held_enough p z w (λ s fairly. held yet at s (arrived s fairly)))
 
 pub theorem1 : Theorem1
-theorem1 o bad run t opens few at-honest obeys kept all-acked =
+theorem1 o bad run t opens few at_honest obeys kept all_acked =
     record {
-      accepted_there = arrived_accepted o bad run opens few obeys kept t all-acked;
-      none_other_proposed = only_proposed o bad run opens few obeys kept t all-acked;
-      none_other_accepted = only_accepted o bad run opens few obeys kept t all-acked;
+      accepted_there = arrived_accepted o bad run opens few obeys kept t all_acked;
+      none_other_proposed = only_proposed o bad run opens few obeys kept t all_acked;
+      none_other_accepted = only_accepted o bad run opens few obeys kept t all_acked;
     }

@@ -14,9 +14,9 @@ use Rattle.runs.specs.Proposals.{SameAcks}
 use Rattle.runs.specs.Switching.{MarkStands}
 use Rattle.runs.proofs.Examples.{page, t, u, bad, acks, witness, witness_keeps}
 use Rattle.runs.proofs.Ties.{one, other, w_last, t_last}
-use Rattle.runs.proofs.FactsTried.{undisputed_run, undisputed-keeps, three_seats, nobody, late_ack, late-keeps}
+use Rattle.runs.proofs.FactsTried.{undisputed_run, undisputed_keeps, three_seats, nobody, late_ack, late_keeps}
 use Rattle.runs.proofs.SwitchesTried.{w, as_it_was, across, across_keeps, held_on, no_switch_obeys}
-use Rattle.runs.proofs.LateTried.{joined_in, joined_keeps, mixed, mixed_keeps, joined_undisputed, joined-undisputed}
+use Rattle.runs.proofs.LateTried.{joined_in, joined_keeps, mixed, mixed_keeps, joined_undisputed, joined_undisputed_lem}
 use Rattle.runs.proofs.EvidenceTried.{three_acked, three_obey, bundle_one, bundle_other, both_genuine, bad_found}
 use Rattle.model.proofs.Rows.{unruled}
 use Rattle.agreement.proofs.Demand3.{demand3}
@@ -52,23 +52,23 @@ mixed_claim = claimed mixed mixed_keeps
 -- seat 0 accepts it, by Theorem 1
 pub undisputed_claim : Undisputed page bad undisputed_run t
 undisputed_claim =
-    let kept = undisputed-keeps in
+    let kept = undisputed_keeps in
     theorem1 page bad undisputed_run t witness_keeps.0 witness_keeps.1 kept.0 kept.1 kept.2 kept.3
 
 pub theorem1_tried : accepted_by (seat_of 0) t undisputed_run ≡ true
-theorem1_tried = undisputed_claim.accepted_there undisputed_run (seat_of 0) at_end refl undisputed-keeps.4
+theorem1_tried = undisputed_claim.accepted_there undisputed_run (seat_of 0) at_end refl undisputed_keeps.4
 
 -- .. also where the last of the acks are refused,
 pub late_accepted : accepted_by (seat_of 0) t late_ack ≡ true
 late_accepted =
-    let kept = late-keeps in
+    let kept = late_keeps in
     (theorem1 three_seats nobody late_ack t kept.0 kept.1 kept.2 kept.3 kept.4 kept.5).accepted_there
     late_ack (seat_of 0) at_end refl kept.6
 
 -- .. and where one of the honest seats joins in.
 pub undisputed_late : Undisputed page bad joined_undisputed t
 undisputed_late =
-    let kept = joined-undisputed in
+    let kept = joined_undisputed_lem in
     theorem1 page bad joined_undisputed t joined_keeps.0 joined_keeps.1 kept.0 kept.1 kept.2 kept.3
 
 -- A mark stands across two switches.

@@ -50,15 +50,15 @@ answered before m r after reply ledger kept =
 
 -- A message that brings no late P, whose rules were tried: refused with the words as they
 -- were, or served by its effect.
-module _ (ws : List ℕ) (m : Message) (in_time : late_in (ledger_in ws) m ≡ false) (q : Check) (q-is : q ≡ check_of (first_refusal (rules_in (ledger_in ws) m))) where
+module _ (ws : List ℕ) (m : Message) (in_time : late_in (ledger_in ws) m ≡ false) (q : Check) (q_is : q ≡ check_of (first_refusal (rules_in (ledger_in ws) m))) where
   pub refused : (r : Refusal) → q ≡ Failed r → Answered ws m (Refuse r) ws
   refused r found =
-      let step_is = sym (newest_step (ledger_in ws) m) ∙ refuses newest (ledger_in ws) m r in_time (failed (first_refusal (rules_in (ledger_in ws) m)) r (sym q-is ∙ found)) in
+      let step_is = sym (newest_step (ledger_in ws) m) ∙ refuses newest (ledger_in ws) m r in_time (failed (first_refusal (rules_in (ledger_in ws) m)) r (sym q_is ∙ found)) in
       answered ws m (Refuse r) ws (rw step_is) (rw step_is) (λ code e. refl)
 
   pub served : (r : Reply) (after : List ℕ) → q ≡ Passed → Taken (effect_in newest (ledger_in ws) m) r after → Answered ws m r after
   served r after found x =
-      let step_is = sym (newest_step (ledger_in ws) m) ∙ not_refused newest (ledger_in ws) m in_time (passed (first_refusal (rules_in (ledger_in ws) m)) (sym q-is ∙ found)) in
+      let step_is = sym (newest_step (ledger_in ws) m) ∙ not_refused newest (ledger_in ws) m in_time (passed (first_refusal (rules_in (ledger_in ws) m)) (sym q_is ∙ found)) in
       answered ws m r after (rw step_is x.reply) (rw step_is x.ledger) (λ code e. absurd (x.not_refused code e))
 
 -- An entry that is stored is overwritten where a turn is finished.
@@ -99,13 +99,13 @@ module _
         rw (here, stored, finished_again (ledger_in before) t.account e (tallied (ledger_in before) e t)) at x
 
 -- An ack that brings a late P, of what is retained.
-module _ (ws : List ℕ) (s : Seat) (t : Transfer) (p : Slot) (p-is : p ≡ late_slip (ledger_in ws) (entry_in ws t.account) s t) where
+module _ (ws : List ℕ) (s : Seat) (t : Transfer) (p : Slot) (p_is : p ≡ late_slip (ledger_in ws) (entry_in ws t.account) s t) where
   abbrev late : Bool
   late = late_in (ledger_in ws) (Ack s t)
 
   -- a place that is filled is the retained one, and the P is due
   due : (u : Transfer) → p ≡ Full u → (late ≡ true) × ((entry_in ws t.account).retained ≡ Full u)
-  due u found = go late refl (sym p-is ∙ found)
+  due u found = go late refl (sym p_is ∙ found)
     where
       go : (b : Bool) → late ≡ b → cond b (entry_in ws t.account).retained Empty ≡ Full u → (late ≡ true) × ((entry_in ws t.account).retained ≡ Full u)
       go true is h = (is, h)
@@ -113,7 +113,7 @@ module _ (ws : List ℕ) (s : Seat) (t : Transfer) (p : Slot) (p-is : p ≡ late
 
   -- an empty place is no late P: what is due is of a slip
   pub in_time : p ≡ Empty → late ≡ false
-  in_time found = go late refl (sym p-is ∙ found)
+  in_time found = go late refl (sym p_is ∙ found)
     where
       go : (b : Bool) → late ≡ b → cond b (entry_in ws t.account).retained Empty ≡ Empty → late ≡ false
       go true is h =
@@ -156,11 +156,11 @@ settled before mid after t n stored x =
 
 -- What the tally decides: K, else P, else N.
 module _
-    (ws : List ℕ) (t : Transfer) (y : Tally) (y-is : y ≡ tally_of t (entry_in ws t.account).acks)
-    (k : Bool) (k-is : k ≡ enough (ledger_in ws).seats (ledger_in ws).faults y.equal)
+    (ws : List ℕ) (t : Transfer) (y : Tally) (y_is : y ≡ tally_of t (entry_in ws t.account).acks)
+    (k : Bool) (k_is : k ≡ enough (ledger_in ws).seats (ledger_in ws).faults y.equal)
   where
     accepts_is : k ≡ enough (ledger_in ws).seats (ledger_in ws).faults (acks_for t (entry_in ws t.account).acks)
-    accepts_is = k-is ∙ ap (λ (z : Tally). enough (ledger_in ws).seats (ledger_in ws).faults z.equal) y-is
+    accepts_is = k_is ∙ ap (λ (z : Tally). enough (ledger_in ws).seats (ledger_in ws).faults z.equal) y_is
 
     -- what follows from the entry in words
     abbrev pub Decided : Reply → List ℕ → Type 0
@@ -170,9 +170,9 @@ module _
         → Taken (finished (ledger_in ws) t.account (waits (entry_in ws t.account) t)) r after → Decided r after
     tally_accepts r after holds x = rw (sym accepts_is ∙ holds) x
 
-    module _ (few : k ≡ false) (p : Bool) (p-is : p ≡ must_propose (ledger_in ws).seats (ledger_in ws).faults y.recorded (entry_in ws t.account)) where
+    module _ (few : k ≡ false) (p : Bool) (p_is : p ≡ must_propose (ledger_in ws).seats (ledger_in ws).faults y.recorded (entry_in ws t.account)) where
       proposes_is : p ≡ must_propose (ledger_in ws).seats (ledger_in ws).faults (acks_recorded (entry_in ws t.account).acks) (entry_in ws t.account)
-      proposes_is = p-is ∙ ap (λ (z : Tally). must_propose (ledger_in ws).seats (ledger_in ws).faults z.recorded (entry_in ws t.account)) y-is
+      proposes_is = p_is ∙ ap (λ (z : Tally). must_propose (ledger_in ws).seats (ledger_in ws).faults z.recorded (entry_in ws t.account)) y_is
 
       pub tally_proposes : (u : Transfer) (after : List ℕ) → p ≡ true → u ≡ most_acked (entry_in ws t.account).acks
           → ledger_in after ≡ with_entry (ledger_in ws) t.account (with_proposed (entry_in ws t.account)) → Decided (Propose u) after
@@ -181,6 +181,6 @@ module _
           (record { reply = ap Propose most; ledger = marked; not_refused = λ code e. impossible (cc) })
 
       pub tally_notes : p ≡ false → Decided Note ws
-      tally_notes not-due =
-          rw (sym accepts_is ∙ few, sym proposes_is ∙ not-due)
+      tally_notes not_due =
+          rw (sym accepts_is ∙ few, sym proposes_is ∙ not_due)
           (record { reply = refl; ledger = sym (with_entry_read (ledger_in ws) t.account); not_refused = λ code e. impossible (cc) })

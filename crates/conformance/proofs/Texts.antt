@@ -39,7 +39,7 @@ pub every_text : EveryText
 unfolding rules_at
 every_text bytes m s right opens =
     let page = opening_page bytes in
-    let page-opens : Opens (opening_page bytes) = record { full_page = refl; not_refused = opens } in
+    let page_opens : Opens (opening_page bytes) = record { full_page = refl; not_refused = opens } in
     let found = goes_on bytes page s (entry_count bytes - 1) 1 begins refl (each_asks bytes m right) tt in
     let xs = found.0 in
     let run : RunOfBundle bytes s found.0 = record { asked = found.1; obeys = found.2 } in
@@ -47,8 +47,8 @@ every_text bytes m s right opens =
       exchanges = xs;
       run = run;
       lines = every_run bytes m s xs right opens run;
-      facts = always page (run_of s xs) page-opens found.2;
-      accounted = accounted page page-opens s xs found.2;
+      facts = always page (run_of s xs) page_opens found.2;
+      accounted = accounted page page_opens s xs found.2;
     }
 
 pub every_list : EveryList

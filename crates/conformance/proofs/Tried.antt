@@ -68,7 +68,7 @@ whole_run = (
 )
 
 -- its calls in their order, its lines, and what its numbers add up to
-pub whole-facts :
+pub whole_facts :
     (run_of (seat_of 0) exchanges
     ≡ today ▹ acks 0 t ▹ ack 0 0 t Note ▹ ack 0 1 t Note ▹ ack 0 2 t Note ▹ ack 0 3 t Note ▹ ack 0 4 t (Accept 1)
     ▹ asked 0 (Inquiry (account_of 1)) (Balance 7))
@@ -76,7 +76,7 @@ pub whole-facts :
     × (sum_of (λ row. row.balance) rows ≡ sum_of (λ b. b) (opening_page case).balances)
     × (sum_of (λ row. row.current) rows ≡ sum_of (λ x. count_of x.reply) exchanges)
 unfolding case decimal
-whole-facts = (refl, refl, refl, refl)
+whole_facts = (refl, refl, refl, refl)
 
 -- that bundle is sound and opens
 pub whole_sound : (check_bundle case ≡ Sound 8) × (opened case ≡ Opened)

@@ -37,8 +37,8 @@ tests entry body rest = cond entry (some BadContents) (cond body (some BadEnd) r
 -- the check, by what its tests find
 pub by_tests : (i : ℕ) (p : Page) {entry body : Bool} → wrong_page i p ≡ entry → wrong_body p ≡ body
     → check_of (first_refusal (handed_rules i p)) ≡ check_of (tests entry body none)
-by_tests i p {entry} is-entry is_IsBody =
-    ap (λ (e : Bool). check_of (tests e (wrong_body p) none)) is-entry ∙ ap (λ (b : Bool). check_of (tests entry b none)) is_IsBody
+by_tests i p {entry} is_entry is_IsBody =
+    ap (λ (e : Bool). check_of (tests e (wrong_body p) none)) is_entry ∙ ap (λ (b : Bool). check_of (tests entry b none)) is_IsBody
 
 -- a refusal stands whatever follows
 found_first : (entry body : Bool) (rest : Option Refusal) (r : Refusal) → tests entry body none ≡ some r → tests entry body rest ≡ some r

@@ -151,9 +151,9 @@ module _ (es : List Entry) (a : Account) (at : Affordable es a) where
   -- and nothing at all in one that is neither payer nor recipient
   pub apply_apart : (b : Account) → b.0 ≢ a.0 → b.0 ≢ at.transfer.recipient.0 → entry_at (apply es a) b ≡ entry_at es b
   unfolding taken paid t
-  apply_apart b not-payer not-recipient =
-      rw (apply_is, entry_set_other taken t.recipient (credited (entry_at taken t.recipient) t.value) b not-recipient)
-      (entry_set_other es a paid b not-payer)
+  apply_apart b not_payer not_recipient =
+      rw (apply_is, entry_set_other taken t.recipient (credited (entry_at taken t.recipient) t.value) b not_recipient)
+      (entry_set_other es a paid b not_payer)
 
   pub apply_length : length (apply es a) ≡ length es
   unfolding taken

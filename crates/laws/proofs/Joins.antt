@@ -157,11 +157,11 @@ module _ (first second : List ℕ) where
 
     none_sooner : (k l : ℕ) → Pair first second k l → Before k l i j → ⊥
     none_sooner k l pair (inl lower) =
-        impossible (let none-there = outer.lowest k (omega arith) lower in cc (none-there, has_partner k l pair))
+        impossible (let none_there = outer.lowest k (omega arith) lower in cc (none_there, has_partner k l pair))
     none_sooner k l pair (inr (same, lower)) =
         impossible
-        (let none-there = inner.lowest l (omega arith) lower in
-        let this : is_pair first second i l ≡ true = rw same at pair.is in cc (none-there, this))
+        (let none_there = inner.lowest l (omega arith) lower in
+        let this : is_pair first second i l ≡ true = rw same at pair.is in cc (none_there, this))
 
     earliest_is : Earliest i j
     earliest_is =
@@ -202,8 +202,8 @@ module _ (first second : List ℕ) where
       go : (o : Option ℕ) → earliest first second ≡ o → with_partner first second o ≡ none → ⊥
       go none here h =
           impossible
-          (let none-there = first_none (λ k. is_some (partner_of first second k)) (entry_count first) 0 here i (omega arith) (omega (arith, pair.in_first)) in
-          cc (none-there, has_partner i j pair))
+          (let none_there = first_none (λ k. is_some (partner_of first second k)) (entry_count first) 0 here i (omega arith) (omega (arith, pair.in_first)) in
+          cc (none_there, has_partner i j pair))
       go (some a) here h = inside a here (partner_of first second a) refl h
 
 -- a pair the other way round

@@ -46,8 +46,8 @@ opened_group o opens = go (first_refusal (open_rules o)) refl opens
         let fail = none_holds (open_rules o) e in
         let seats = neither (ltb o.seats 1 || ltb 16 o.seats) (leb o.seats (5 * o.faults)) fail.0 in
         let size = neither (ltb o.seats 1) (ltb 16 o.seats) seats.0 in
-        let some-else = any (λ b. not (eqb b 0)) (drop o.accounts o.balances) in
-        let page = neither (ltb o.accounts 1 || ltb 32 o.accounts) some-else fail.1.0 in
+        let some_else = any (λ b. not (eqb b 0)) (drop o.accounts o.balances) in
+        let page = neither (ltb o.accounts 1 || ltb 32 o.accounts) some_else fail.1.0 in
         let accounts = neither (ltb o.accounts 1) (ltb 32 o.accounts) page.0 in
         record {
           seats_fit = ltb-false 16 o.seats size.1;

@@ -156,11 +156,11 @@ all_number q d (x ∷ xs) p i tells = go (p i) refl (all_number q d xs p (suc i)
 
 -- in a list that rises strictly none stands twice
 pub rising_once : (xs : List ℕ) → Rising xs → (i j : ℕ) → i < length xs → j < length xs → get_or xs i 0 ≡ get_or xs j 0 → i ≡ j
-rising_once xs rises i j i-inside j-inside same = go (dec_lt i j) (dec_lt j i)
+rising_once xs rises i j i_inside j_inside same = go (dec_lt i j) (dec_lt j i)
   where
     go : Dec (i < j) → Dec (j < i) → i ≡ j
-    go (yes l) _ = absurd (omega (arith, rises i j l j-inside))
-    go (no m) (yes l) = absurd (omega (arith, rises j i l i-inside))
+    go (yes l) _ = absurd (omega (arith, rises i j l j_inside))
+    go (no m) (yes l) = absurd (omega (arith, rises j i l i_inside))
     go (no m) (no n) = omega arith
 
 -- the first of a list that rises is the lowest, and the rest rises

@@ -231,8 +231,8 @@ settle_apart b =
     (λ es e apart. refl)
     (λ es a at rest apart.
     let once = at.affords_it in
-    let not-this = apart a once.transfer once.waits in
-    rest (λ c t h. apart c t (waited es a once c t h).1) ∙ apply_apart es a once b not-this.0 not-this.1)
+    let not_this = apart a once.transfer once.waits in
+    rest (λ c t h. apart c t (waited es a once c t h).1) ∙ apply_apart es a once b not_this.0 not_this.1)
 
 -- each waiting slip has its account's next number
 abbrev pub NextWaits : List Entry → Type 0

@@ -33,12 +33,12 @@ module _ {A : Type 0} (f : A → ℕ) where
 
   -- where no element behind the first k has a number, the first k have the whole sum
   pub sum_front : (xs : List A) (d : A) (k : ℕ) → ((i : ℕ) → k ≤ i → f (get_or xs i d) ≡ 0) → sum_of f (take k xs) ≡ sum_of f xs
-  sum_front [] d zero none-behind = refl
-  sum_front [] d (suc k) none-behind = refl
-  sum_front (x ∷ xs) d zero none-behind =
-      omega (arith, none-behind 0 (omega arith), sum_front xs d zero (λ i above. none-behind (suc i) (omega arith)))
-  sum_front (x ∷ xs) d (suc k) none-behind =
-      ap (λ (n : ℕ). f x + n) (sum_front xs d k (λ i above. none-behind (suc i) (omega arith)))
+  sum_front [] d zero none_behind = refl
+  sum_front [] d (suc k) none_behind = refl
+  sum_front (x ∷ xs) d zero none_behind =
+      omega (arith, none_behind 0 (omega arith), sum_front xs d zero (λ i above. none_behind (suc i) (omega arith)))
+  sum_front (x ∷ xs) d (suc k) none_behind =
+      ap (λ (n : ℕ). f x + n) (sum_front xs d k (λ i above. none_behind (suc i) (omega arith)))
 
   -- lists with the same number at each place have the same sum
   pub sum_same_each : (xs ys : List A) (d : A) → length xs ≡ length ys → ((i : ℕ) → f (get_or xs i d) ≡ f (get_or ys i d)) → sum_of f xs ≡ sum_of f ys

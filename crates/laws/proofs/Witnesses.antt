@@ -38,6 +38,6 @@ open_bounded o l before = go (first_refusal (open_rules o)) refl
   where
     go : (q : Option Refusal) → first_refusal (open_rules o) ≡ q → Bounded (open_ledger_by q (fresh_ledger o) l).entries
     go none e =
-        let sum-passed = (none_holds (open_rules o) e).1.1.0 in
-        fresh_bounded o (omega (arith, ltb-false 4_294_967_295 (sum_of (λ b. b) o.balances) sum-passed))
+        let sum_passed = (none_holds (open_rules o) e).1.1.0 in
+        fresh_bounded o (omega (arith, ltb-false 4_294_967_295 (sum_of (λ b. b) o.balances) sum_passed))
     go (some r) e = before

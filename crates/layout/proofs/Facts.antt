@@ -94,12 +94,12 @@ held_numbers : ((held 16 16 32).seats ≡ 16) × ((held 16 16 32).faults ≡ 16)
 unfolding held_in
 held_numbers = (refl, refl, refl, refl, refl, refl)
 
-held-entries :
+held_entries :
     (entry_of (held 6 1 2) (account_of 0) ≡ with_none_retained (entry 0))
     × (entry_of (held 6 1 2) (account_of 1) ≡ with_none_retained (entry 1))
     × (entry_of (held 6 1 2) (account_of 31) ≡ entry 31)
 unfolding no_acks entry_by entries_in ledger_in held_entries_in held_in
-held-entries = (refl, refl, refl)
+held_entries = (refl, refl, refl)
 
 -- and what it becomes at the switch: account 0, at which nothing waits, retains nothing; account 1
 -- retains what waits, with its mark

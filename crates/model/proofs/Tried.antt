@@ -37,13 +37,13 @@ abbrev balances : Ledger → List ℕ
 balances l = take 2 (map (λ e. e.balance) l.entries)
 
 -- .. at first: nothing is marked or retained
-pub opened-tried :
+pub opened_tried :
     ((entry_of opened (account_of 0)).acked ≡ false)
     × ((entry_of opened (account_of 0)).proposed ≡ false)
     × ((entry_of opened (account_of 0)).retained ≡ Empty)
     × ((entry_of opened (account_of 0)).retained_proposed ≡ false)
 unfolding open_ledger
-opened-tried = (refl, refl, refl, refl)
+opened_tried = (refl, refl, refl, refl)
 
 -- an opening that is refused leaves the ledger that there was: n 5, f 1 is
 pub refused_opening_tried : (balances opened ≡ 10 ∷ 3 ∷ []) × (balances (open_ledger (page_with 5 1 (7 ∷ [])) opened) ≡ 10 ∷ 3 ∷ [])

@@ -57,7 +57,7 @@ module _ (keys links : List ℕ) (m j next : ℕ) (few : m ≤ 1_000) (l : Lowes
   -- where it has, what follows it does
   module _ (within : next < 1_000) (same : same_keys keys j next ≡ true) where
     alike : (k : ℕ) → follows keys j k ≡ follows keys next k
-    alike k = let both-keys = keys_same keys j next same in rw (both-keys.0, both-keys.1) refl
+    alike k = let both_keys = keys_same keys j next same in rw (both_keys.0, both_keys.1) refl
 
     below_m : (suc j ≤ next) × (next < m)
     below_m = go l.is
@@ -163,23 +163,23 @@ module _ (keys : List ℕ) (m : ℕ) (few : m ≤ 1_000) where
 -- a search that passes over numbers of which none passes the test
 module _ {p : ℕ → Bool} {m : ℕ} where
   skip : (d i : ℕ) → Searched p m i → ((k : ℕ) → i ≤ k → k < i + d → k < m → p k ≡ false) → Searched p m (i + d)
-  skip zero i s none-there = rw (add-zero i) s
-  skip (suc d) i s none-there = go (dec_lt (i + d) m) (skip d i s (λ k from to inside. none-there k from (omega arith) inside))
+  skip zero i s none_there = rw (add-zero i) s
+  skip (suc d) i s none_there = go (dec_lt (i + d) m) (skip d i s (λ k from to inside. none_there k from (omega arith) inside))
     where
       same : i + suc d ≡ i + d + 1
       same = omega arith
 
       go : Dec (i + d < m) → Searched p m (i + d) → Searched p m (i + suc d)
-      go (yes below) so_far = rw same (searched_more so_far refl below (none-there (i + d) (omega arith) (omega arith) below))
+      go (yes below) so_far = rw same (searched_more so_far refl below (none_there (i + d) (omega arith) (omega arith) below))
       go (no over) so_far =
           let none_left : m - (i + d) ≡ 0 = omega arith in
           let none_then : m - (i + suc d) ≡ 0 = omega arith in
           record { rest = rw none_then (rw none_left at so_far.rest) }
 
   pub searched_to : (i x : ℕ) → i ≤ x → Searched p m i → ((k : ℕ) → i ≤ k → k < x → k < m → p k ≡ false) → Searched p m x
-  searched_to i x up s none-there =
+  searched_to i x up s none_there =
       let way : i + (x - i) ≡ x = omega arith in
-      rw way at (skip (x - i) i s (λ k from to inside. none-there k from (omega arith) inside))
+      rw way at (skip (x - i) i s (λ k from to inside. none_there k from (omega arith) inside))
 
 -- A walk along the links of a head's bucket: at entry j nothing before it was missed, and it lies in the bucket, if it
 -- is an entry.
@@ -219,13 +219,13 @@ module _ (keys links : List ℕ) (m head tail : ℕ) (few : m ≤ 1_000) (s : Li
 
     -- what does not follow makes no pair either
     passed_over : (k : ℕ) → follows keys j k ≡ false → meets keys head tail k ≡ false
-    passed_over k none-there = go (in_bucket keys (bucket_of (get_or keys j 0)) k) refl (same_keys keys j k) refl
+    passed_over k none_there = go (in_bucket keys (bucket_of (get_or keys j 0)) k) refl (same_keys keys j k) refl
       where
         go : (a : Bool) → in_bucket keys (bucket_of (get_or keys j 0)) k ≡ a → (b : Bool) → same_keys keys j k ≡ b → meets keys head tail k ≡ false
         go false out b keyed = elsewhere k (rw (w.there here) at out)
-        go true inside false keyed = impossible (cc (rw (inside, keyed) at none-there))
+        go true inside false keyed = impossible (cc (rw (inside, keyed) at none_there))
         go true inside true keyed =
-            let both-keys = keys_same keys j k keyed in rw (both-keys.0, both-keys.1) at missed
+            let both_keys = keys_same keys j k keyed in rw (both_keys.0, both_keys.1) at missed
 
     pub walk_higher : (j < get_or links (1_021 + j) 0) × (get_or links (1_021 + j) 0 ≤ 1_000)
     walk_higher = (go (s.nexts j (omega arith) here).is, few_links few (s.nexts j (omega arith) here))

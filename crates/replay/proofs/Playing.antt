@@ -56,11 +56,11 @@ module _ (bytes : List ℕ) (l : Ledger) (before : List ℕ) where
       }
 
   module _ {i : ℕ} {so_far : Ledger} {mid : List ℕ} {at : ℕ} (p : PlayedTo i so_far mid at) where
-    pub played_more : {after : List ℕ} {filled : ℕ} {next-ledger : Ledger} (page : Page) {next : ℕ}
+    pub played_more : {after : List ℕ} {filled : ℕ} {next_ledger : Ledger} (page : Page) {next : ℕ}
         → (i < entry_count bytes) × (page ≡ page_at bytes i) × (next ≡ i + 1) → entry_count bytes ≤ 1_000
-        → PlayedEntry i so_far (message_of page) mid at after filled next-ledger
-        → PlayedTo next next-ledger after filled
-    played_more {after} {filled} {next-ledger} page {next} taken few played =
+        → PlayedEntry i so_far (message_of page) mid at after filled next_ledger
+        → PlayedTo next next_ledger after filled
+    played_more {after} {filled} {next_ledger} page {next} taken few played =
         record {
           lines = p.lines ++ line;
           from_one = omega (arith, taken.2);
@@ -75,8 +75,8 @@ module _ (bytes : List ℕ) (l : Ledger) (before : List ℕ) where
               (then p.writes e.writes);
         }
       where
-        e : PlayedEntry i so_far (message_of (page_at bytes i)) mid at after filled next-ledger
-        e = subst (λ (x : Page). PlayedEntry i so_far (message_of x) mid at after filled next-ledger) taken.1 played
+        e : PlayedEntry i so_far (message_of (page_at bytes i)) mid at after filled next_ledger
+        e = subst (λ (x : Page). PlayedEntry i so_far (message_of x) mid at after filled next_ledger) taken.1 played
 
         one : entry_count bytes - i ≡ suc (entry_count bytes - suc i)
         one = let inside = taken.0 in omega arith

@@ -92,10 +92,10 @@ evidence_says claim genuine =
     claim page bad three_acked bundle_one forged unruled (seat_of 0) 1 2 First witness_keeps.0 three_obey genuine honest_found.0
 
 -- .. and with less of a premise it would be false: with the acks of the first bundle alone, and so with none.
-pub both-needed :
+pub both_needed :
     ((o : Opening) (bad : Seat → Bool) (run : Run) (first second : List ℕ) (ruled : Transfer) (seat : Seat) (i j : ℕ) (shown : Which)
     → Opens o → Obeys o run → Genuine o bad run first → evidence first second ruled ≡ FoundPair seat i j shown → honest o bad seat ≡ false)
     → ⊥
-both-needed claim =
+both_needed claim =
     let apart = claim page bad three_acked bundle_one forged unruled (seat_of 0) 1 2 First witness_keeps.0 three_obey one_genuine honest_found.0 in
     impossible (cc (apart, honest_found.1))

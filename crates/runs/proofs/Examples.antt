@@ -94,9 +94,9 @@ accepts t run = happened (λ e. passes (equal t) (accepted e.call)) run
 -- where two accepted slips conflict, demand 3's claim fails
 pub no_claim : (o : Opening) (bad : Seat → Bool) (run : Run) (t u : Transfer)
     → conflict t u ≡ true → accepts t run ≡ true → accepts u run ≡ true → Claim o bad run → ⊥
-no_claim o bad run t u differ yes-t yes-u claim =
-    let one = happened_found (λ e. passes (equal t) (accepted e.call)) run yes-t in
-    let other = happened_found (λ e. passes (equal u) (accepted e.call)) run yes-u in
+no_claim o bad run t u differ yes_t yes_u claim =
+    let one = happened_found (λ e. passes (equal t) (accepted e.call)) run yes_t in
+    let other = happened_found (λ e. passes (equal u) (accepted e.call)) run yes_u in
     let apart = conflict_sound t u differ in
     apart.differ
     (claim.agree one.0 other.0 one.1 other.1 t u
@@ -176,13 +176,13 @@ is_ruling e = passes (λ t. true) (ruled e.call)
 
 -- The witness has what the premises are about: seats ack slips that conflict, t is put forward, accepted by an ack at
 -- seat 0 and by a ruling at seat 2.
-pub witness-has :
+pub witness_has :
     (happened (acks_that t) witness && happened (acks_that u) witness && conflict t u ≡ true)
     × (happened (puts_forward t) witness ≡ true)
     × (happened (λ e. takes 0 t e && not (is_ruling e)) witness ≡ true)
     × (happened (λ e. takes 2 t e && is_ruling e) witness ≡ true)
 unfolding equal conflict
-witness-has = (refl, refl, refl, refl)
+witness_has = (refl, refl, refl, refl)
 
 -- Runs in which one premise is missing, and all else is as it is in the witness. Each is a run at honest seats that
 -- obeys the definitions, and demand 3's claim fails in it.
@@ -244,11 +244,11 @@ one_ruling_needed = (
 abbrev early_ruling : Run
 early_ruling = accept_t (put_forward_t (split ▹ ruling 4 u (Accept 1)))
 
-pub put-forward-needed :
+pub put_forward_needed :
     Fails bad early_ruling × (acks_genuine bad early_ruling ≡ true) × (some_slip (proposals u early_ruling) ≡ true)
     × (Premises page bad early_ruling → ⊥)
 unfolding rules_at ledger_at no_acks equal conflict has_most most_acked lowest_affordable apply settle_at_most settle step_under
-put-forward-needed = (
+put_forward_needed = (
   (
     refl,
     tt
@@ -320,10 +320,10 @@ invented = today ▹ ack 0 5 t (Accept 1) ▹ ack 1 5 u (Accept 1)
 accepts_not_notes : Accept 1 ≡ Note → ⊥
 accepts_not_notes e = impossible (cc)
 
-pub obeying-needed :
+pub obeying_needed :
     (at_honest page bad invented ≡ true) × Premises page bad invented × (Claim page bad invented → ⊥) × (Obeys page invented → ⊥)
 unfolding rules_at ledger_at no_acks equal conflict has_most most_acked lowest_affordable apply settle_at_most settle step_under
-obeying-needed = (
+obeying_needed = (
   refl,
   record { acks_genuine = refl; rulings_rightful = refl },
   no_claim page bad invented t u refl refl refl,
@@ -381,11 +381,11 @@ unfolding rules_at ledger_at no_acks equal conflict has_most most_acked lowest_a
 acked_earlier = (tt then refl then refl, λ keeps. false≢true keeps.acks_genuine)
 
 -- a run has calls at honest seats alone: seat 4, not the bad seat 5, nor seat 6, for there is none
-pub honest-alone :
+pub honest_alone :
     (at_honest page bad (today ▹ acks 4 t) ≡ true)
     × (at_honest page bad (today ▹ acks 5 t) ≡ false)
     × (at_honest page bad (today ▹ acks 6 t) ≡ false)
-honest-alone = (refl, refl, refl)
+honest_alone = (refl, refl, refl)
 
 -- bad seats are counted among the n: the first and the last of them, and none behind
 pub seats_counted : (count_below (eqb 0) 6 ≡ 1) × (count_below (eqb 5) 6 ≡ 1) × (count_below (eqb 6) 6 ≡ 0)
@@ -451,7 +451,7 @@ slate_runs_obey = (tt then refl then refl then refl, tt then refl then refl then
 
 -- .. and what the slates say, of seat 1 too, which is not called. In the witness v has left at
 -- seat 4 and has not come to seat 0.
-pub slate-facts :
+pub slate_facts :
     (slate poor 0 one_waits ≡ (0, 0) ∷ (5, 0) ∷ [])
     × (slate poor 0 both_booked ≡ (0, 1) ∷ (5, 1) ∷ [])
     × (slate poor 0 one_more ≡ (5, 1) ∷ (0, 2) ∷ [])
@@ -462,10 +462,10 @@ pub slate-facts :
     × (slate page 0 witness ≡ (6, 1) ∷ (7, 0) ∷ [])
     × (slate page 4 witness ≡ (12, 1) ∷ (1, 1) ∷ [])
 unfolding slate_at leave_all leave_at_most equal
-slate-facts = (refl, refl, refl, refl, refl, refl, refl, refl, refl)
+slate_facts = (refl, refl, refl, refl, refl, refl, refl, refl, refl)
 
 -- "the one with the lowest account leaves", in whichever order they came
-pub lowest-first :
+pub lowest_first :
     (lowest (λ s. true) (t ∷ v ∷ []) ≡ some t)
     × (lowest (λ s. true) (v ∷ t ∷ []) ≡ some t)
-lowest-first = (refl, refl)
+lowest_first = (refl, refl)

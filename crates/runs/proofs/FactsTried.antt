@@ -54,7 +54,7 @@ must before e = must_accept (rules_at e.at before) (ledger_at page e.at before) 
 -- A call accepts exactly if it is an ack that makes enough or a ruling, and is not refused. So it is at every call of
 -- these runs. At single ones: an ack that makes enough; one that would, from a seat whose ack is recorded, but is
 -- refused; one of another slip; one that does not make enough; a ruling, and a refused one.
-pub accepts-tried :
+pub accepts_tried :
     (throughout (rightly_k page) witness ≡ true)
     × (throughout (rightly_k page) undisputed_run ≡ true)
     × (throughout (rightly_k poor) one_more ≡ true)
@@ -66,7 +66,7 @@ pub accepts-tried :
     × (must one_lacks (ruling 1 t (Accept 1)) ≡ true)
     × (must undisputed_run (ruling 0 t (Refuse PastNumber)) ≡ false)
 unfolding rules_at ledger_at no_acks equal conflict has_most most_acked lowest_affordable apply settle_at_most settle step_under
-accepts-tried = (refl, refl, refl, refl, refl, refl, refl, refl, refl, refl)
+accepts_tried = (refl, refl, refl, refl, refl, refl, refl, refl, refl, refl)
 
 -- Of a slip at a seat, after a run: it was accepted there; twice its recorded acks exceed n + 3f; a ruling that is
 -- not refused named it; it waits.
@@ -79,7 +79,7 @@ reasons o s t run =
 -- named it, and then it waits. In this order: one that waits by acks; one that waits by a ruling; one with four acks of
 -- five, put forward; one that only a refused ruling named; one accepted at another seat, by acks, and by a ruling. A
 -- slip that is booked is not of the next number: it was accepted, and nothing of it is left.
-pub accepted-tried :
+pub accepted_tried :
     (reasons page 4 v waits ≡ (true, true, false, true))
     × (reasons poor 0 (slip 0 1 5 1) one_waits ≡ (true, false, true, true))
     × (reasons page 0 t one_lacks ≡ (false, false, false, false))
@@ -88,7 +88,7 @@ pub accepted-tried :
     × (reasons poor 1 (slip 0 1 5 1) one_waits ≡ (false, false, false, false))
     × (reasons page 0 t undisputed_run ≡ (true, false, false, false))
 unfolding rules_at ledger_at no_acks equal conflict has_most most_acked lowest_affordable apply settle_at_most settle step_under
-accepted-tried = (refl, refl, refl, refl, refl, refl, refl)
+accepted_tried = (refl, refl, refl, refl, refl, refl, refl)
 
 -- the sum of all current numbers at seat 0
 abbrev currents : Run → ℕ
@@ -115,14 +115,14 @@ each_honest P p0 p1 p2 p3 p4 s fair = go s.0 fair
 
 -- It is a run as Theorem 1 means it: it keeps the premises, every honest seat acked t, and
 -- all their acks reached seat 0.
-pub undisputed-keeps :
+pub undisputed_keeps :
     (at_honest page bad undisputed_run ≡ true)
     × Obeys page undisputed_run
     × Premises page bad undisputed_run
     × AllAcked page bad t undisputed_run
     × AllReached page bad (seat_of 0) t undisputed_run
 unfolding rules_at ledger_at no_acks equal conflict has_most most_acked lowest_affordable apply settle_at_most settle step_under
-undisputed-keeps = (
+undisputed_keeps = (
   refl,
   tt
       then refl then refl then refl then refl then refl
@@ -136,12 +136,12 @@ undisputed-keeps = (
 )
 
 -- Seat 0 has accepted t then. Where one ack has not arrived yet, or three were lost, t is not accepted
-pub theorem1-computed :
+pub theorem1_computed :
     (accepted_by (seat_of 0) t undisputed_run ≡ true)
     × (accepted_by (seat_of 0) t one_lacks ≡ false)
     × (accepted_by (seat_of 1) t undisputed_run ≡ false)
 unfolding equal
-theorem1-computed = (refl, refl, refl)
+theorem1_computed = (refl, refl, refl)
 
 -- .. and Theorem 1 says so only of places where all of them have arrived
 pub undisputed_says : Undisputed page bad undisputed_run t → AllReached page bad (seat_of 0) t one_lacks → false ≡ true
@@ -177,7 +177,7 @@ each_of_three P p0 p1 p2 s fair = go s.0 fair
     go (suc (suc zero)) h = p2
     go (suc (suc (suc i))) h = impossible (cc (le-ltb (suc (suc (suc i))) 3 (omega arith)))
 
-pub late-keeps :
+pub late_keeps :
     Opens three_seats
     × FewBad three_seats nobody
     × (at_honest three_seats nobody late_ack ≡ true)
@@ -186,7 +186,7 @@ pub late-keeps :
     × AllAcked three_seats nobody t late_ack
     × AllReached three_seats nobody (seat_of 0) t late_ack
 unfolding rules_at ledger_at no_acks equal conflict has_most most_acked open_reply lowest_affordable apply settle_at_most settle step_under
-late-keeps = (
+late_keeps = (
   record { full_page = refl; not_refused = refl },
   lit≤ tt,
   refl,
@@ -198,7 +198,7 @@ late-keeps = (
 
 -- Which acks have arrived: seat 3's at seat 0, and not at seat 1, where it was lost; of t, not of u. The bad seat's ack
 -- of u has, and its ack of t after it, though refused. The late ack has, the early one has not.
-pub reached-tried :
+pub reached_tried :
     (reached (seat_of 0) (seat_of 3) t undisputed_run ≡ true)
     × (reached (seat_of 1) (seat_of 3) t undisputed_run ≡ false)
     × (reached (seat_of 0) (seat_of 3) u undisputed_run ≡ false)
@@ -207,7 +207,7 @@ pub reached-tried :
     × (reached (seat_of 0) (seat_of 2) t late_ack ≡ true)
     × (reached (seat_of 0) (seat_of 1) t2 late_ack ≡ false)
 unfolding equal
-reached-tried = (refl, refl, refl, refl, refl, refl, refl)
+reached_tried = (refl, refl, refl, refl, refl, refl, refl)
 
 -- Theorem 1 needs every honest seat's ack of t. In this run of Examples.antt, which keeps the premises, seats 0 to 2
 -- ack t, seats 3 and 4 ack u, and u is put forward.
@@ -242,12 +242,12 @@ abbrev pub ◌is◌ : ℕ → ℕ → Type 0
 m is n = m ≡ n
 
 -- It is a run as demand 3 means it, and keeps the premises. What its slate says after the second slip, and at the end.
-pub alone-keeps :
+pub alone_keeps :
     Opens single × FewBad single nobody × (at_honest single nobody alone ≡ true) × Obeys single alone × Premises single nobody alone
     × (slate single 0 two ≡ (2, 2) ∷ (11, 0) ∷ [])
     × (slate single 0 alone ≡ (8, 2) ∷ (5, 1) ∷ [])
 unfolding rules_at ledger_at no_acks equal conflict has_most most_acked open_reply lowest_affordable apply settle_at_most settle step_under slate_at leave_all leave_at_most
-alone-keeps = (
+alone_keeps = (
   record { full_page = refl; not_refused = refl },
   lit≤ tt,
   refl,
@@ -308,12 +308,12 @@ facts_say f = (
 )
 
 -- .. and a slip that waits by a ruling; the ack that seat 0 recorded from seat 3; the greatest opening sum.
-pub facts-say-too :
+pub facts_say_too :
     (Facts poor one_waits → true ≡ true)
     × (Facts page one_lacks → (3 < 6) × (account_of 0 ≡ account_of 0) × (1 is 1))
     × (Facts (page_with 1 0 (4_294_967_295 ∷ [])) today → 4_294_967_295 < 4_294_967_296)
 unfolding rules_at ledger_at no_acks equal conflict has_most most_acked lowest_affordable apply settle_at_most settle step_under
-facts-say-too = (
+facts_say_too = (
   λ f. f.accepted_exactly one_waits (seat_of 0) (slip 0 1 5 1) at_end refl,
   λ f. f.acks_stand one_lacks (seat_of 0) (seat_of 3) (account_of 0) t at_end refl,
   λ f. (f.sums today (seat_of 0) at_end).1,
@@ -352,12 +352,12 @@ disputed_obeys = tt then refl then refl then refl then refl then refl then refl 
 
 -- After it accepted a slip, a seat puts forward only this one for its number. It is not said of another seat, nor of
 -- the next number, nor of what came before. (Runs that break it are in LateTried.antt.)
-pub proposals-say :
+pub proposals_say :
     (Facts two_seats disputed → seat_of 0 ≡ seat_of 1 → (t ≡ t) × (2 ≤ 2))
     × (Facts two_seats disputed → 1 is 2 → (t ≡ t2) × (2 ≤ 2))
     × (Facts two_seats disputed → Within (accepted_there ▹ ack 1 1 u (Propose t) ▹ ruling 1 t (Accept 1)) accepted_there → (t ≡ t) × (2 ≤ 2))
 unfolding rules_at
-proposals-say = (
+proposals_say = (
   λ f same.
       f.only_accepted_proposed (today ▹ ack 0 0 t Note) accepted_there (ack 0 1 t (Accept 1)) (ack 1 1 u (Propose t)) t t
       (sooner at_end) (sooner (sooner (sooner at_end))) same refl refl refl refl,

@@ -17,7 +17,7 @@ use Rattle.runs.specs.Proposals.{SameAcks, PutForwardAlike}
 use Rattle.runs.specs.Undisputed.{AllAcked}
 use Rattle.runs.specs.Switching.{LateAlone}
 use Rattle.runs.proofs.Examples.{page, t, u, v, bad, today, acks, ack, ruling, ◌then◌, puts_forward, takes, slate}
-use Rattle.runs.proofs.FactsTried.{single, two_seats, undisputed_run, each_honest, undisputed-keeps, ◌is◌}
+use Rattle.runs.proofs.FactsTried.{single, two_seats, undisputed_run, each_honest, undisputed_keeps, ◌is◌}
 use Rattle.runs.proofs.SwitchesTried.{as_it_was, switches}
 use Rattle.model.specs.declared.Refusal.TheVariants.{PastNumber, AlreadyAccepted}
 use Rattle.model.specs.Records.{seat_of, account_of, entry_of, no_acks}
@@ -146,7 +146,7 @@ mixed_keeps = (
 -- What the first has in it. Before the ruling each of the five honest seats put t forward, and n - f is 5; four of them
 -- had accepted it, and seat 4 had not. v is put forward too, and nothing else. Seat 4 takes t by the ruling, at which
 -- it is booked, and v with it; in the end all slates have booked t.
-pub joined-has :
+pub joined_has :
     (proposed_for (seat_of 0) t before_ruling && proposed_for (seat_of 1) t before_ruling && proposed_for (seat_of 2) t before_ruling
     && proposed_for (seat_of 3) t before_ruling && proposed_for (seat_of 4) t before_ruling ≡ true)
     × (page.seats - page.faults ≡ 5)
@@ -161,10 +161,10 @@ pub joined-has :
     × (slate page 3 joined_in ≡ (6, 1) ∷ (7, 0) ∷ [])
     × (slate page 4 joined_in ≡ (12, 1) ∷ (1, 1) ∷ [])
 unfolding slate_at leave_all leave_at_most equal
-joined-has = (refl, refl, refl, refl, refl, refl, refl, refl, refl, refl, refl, refl)
+joined_has = (refl, refl, refl, refl, refl, refl, refl, refl, refl, refl, refl, refl)
 
 -- who had which rules in the second
-pub mixed-has :
+pub mixed_has :
     (rules_at (seat_of 0) mixed ≡ since_request5)
     × (rules_at (seat_of 1) mixed ≡ since_request5)
     × (rules_at (seat_of 2) mixed ≡ first_rules)
@@ -172,7 +172,7 @@ pub mixed-has :
     × (rules_at (seat_of 4) mixed ≡ since_request5)
     × (slate page 4 mixed ≡ (12, 1) ∷ (1, 1) ∷ [])
 unfolding rules_at slate_at leave_all leave_at_most equal
-mixed-has = (refl, refl, refl, refl, refl, refl)
+mixed_has = (refl, refl, refl, refl, refl, refl)
 
 -- What seats hold, at the end of the two: seat 0 retains t with its mark, seat 4 both slips, each with its mark; in
 -- the second run seat 3, which switched when t was booked, retains nothing, nor does seat 2; and seat 4, which
@@ -238,7 +238,7 @@ late_says_earlier f = f.latest_retained as_it_was (as_it_was ▹ ack 0 0 t (Acce
 -- The same where the slip waits: at seat 4 v, before the ruling, with its late P; in the second run seat 4
 -- had accepted v under the first rules. At a seat under those nothing is retained, what waits neither;
 -- under the newest that is not said.
-pub late-says-waiting :
+pub late_says_waiting :
     (Facts page before_ruling → (account_of 1 ≡ account_of 1) × (true ≡ true) × (1 is 1))
     × (Facts page before_ruling → true ≡ true)
     × (Facts page before_ruling → 1 is 1 → Full v ≡ Full v)
@@ -247,7 +247,7 @@ pub late-says-waiting :
     × (Facts page mixed → (Empty ≡ Empty) × (false ≡ false))
     × (Facts page joined_in → 2 < 2 → (Full t ≡ Empty) × (true ≡ false))
 unfolding rules_at ledger_at no_acks equal conflict has_most most_acked lowest_affordable apply settle_at_most settle step_under
-late-says-waiting = (
+late_says_waiting = (
   λ f. f.retained_stands before_ruling (seat_of 4) (account_of 1) v at_end refl,
   λ f. f.retained_marked before_ruling (seat_of 4) (account_of 1) v at_end refl,
   λ f.
@@ -261,12 +261,12 @@ late-says-waiting = (
 
 -- In place of what it comes: of 6 at seat 0, where t is booked, and of 8 at seat 4, where v waits; at a seat under
 -- earlier rules it does not come.
-pub in-place-says :
+pub in_place_says :
     (Facts page (accepts today) → true ≡ true → (some PastNumber ≡ some PastNumber) ⊎ (some PastNumber ≡ some AlreadyAccepted))
     × (Facts page at_switch → true ≡ true → (some AlreadyAccepted ≡ some PastNumber) ⊎ (some AlreadyAccepted ≡ some AlreadyAccepted))
     × (Facts page mixed → false ≡ true → (some PastNumber ≡ some PastNumber) ⊎ (some PastNumber ≡ some AlreadyAccepted))
 unfolding rules_at ledger_at no_acks equal conflict has_most most_acked lowest_affordable apply settle_at_most settle step_under
-in-place-says = (
+in_place_says = (
   λ f. f.in_place (accepts today) (seat_of 0) (Ack (seat_of 4) u) at_end,
   λ f. f.in_place at_switch (seat_of 4) (Ack (seat_of 5) v') at_end,
   λ f. f.in_place mixed (seat_of 2) (Ack (seat_of 4) u) at_end,
@@ -279,13 +279,13 @@ used_up = today ▹ ack 0 0 t Note ▹ ack 0 1 u (Propose t) ▹ ruling 0 u (Acc
 -- What the next numbers' marks say there: at seat 0 nothing was put forward for account 1's; at seat 4 t was for
 -- account 0's; of account 1's there, where v waits, nothing is said. And what the mark of a retained slip says, where
 -- another was put forward before the acceptance: t, and then the ruling is for u.
-pub marks-say :
+pub marks_say :
     (Facts page before_ruling → false ≡ false)
     × (Facts page before_ruling → true ≡ true)
     × (Facts page before_ruling → Full v ≡ Empty → false ≡ true)
     × (Facts two_seats used_up → true ≡ true)
 unfolding rules_at ledger_at no_acks equal conflict has_most most_acked lowest_affordable apply settle_at_most settle step_under
-marks-say = (
+marks_say = (
   λ f. f.next_marked before_ruling (seat_of 0) v at_end refl refl,
   λ f. f.next_marked before_ruling (seat_of 4) t at_end refl refl,
   λ f. f.next_marked before_ruling (seat_of 4) v at_end refl,
@@ -297,15 +297,15 @@ marks-say = (
 abbrev pub joined_undisputed : Run
 joined_undisputed = undisputed_run ▹ ack 1 1 t Note ▹ ack 1 2 t Note ▹ ack 1 3 t (Accept 1) ▹ ack 1 5 u (Propose t)
 
-pub joined-undisputed :
+pub joined_undisputed_lem :
     (at_honest page bad joined_undisputed ≡ true)
     × Obeys page joined_undisputed
     × Premises page bad joined_undisputed
     × AllAcked page bad t joined_undisputed
 unfolding rules_at ledger_at no_acks equal conflict has_most most_acked lowest_affordable apply settle_at_most settle step_under
-joined-undisputed = (
+joined_undisputed_lem = (
   refl,
-  undisputed-keeps.1 then refl then refl then refl then refl,
+  undisputed_keeps.1 then refl then refl then refl then refl,
   record { acks_genuine = refl; rulings_rightful = refl },
   each_honest (λ s. acked_by s t joined_undisputed ≡ true) refl refl refl refl refl,
 )
@@ -321,12 +321,12 @@ u_there = ledger_at single (seat_of 0) (today ▹ ack 0 0 u (Accept 1))
 abbrev third : Message
 third = Ack (seat_of 0) (slip 0 1 6 1)
 
-pub late-not-alike :
+pub late_not_alike :
     ((step t_there third).reply ≡ Propose t)
     × ((step u_there third).reply ≡ Propose u)
     × SameAcks t_there third u_there third
 unfolding rules_at ledger_at no_acks equal conflict has_most most_acked lowest_affordable apply settle_at_most settle step step_under
-late-not-alike = (refl, refl, λ s. refl)
+late_not_alike = (refl, refl, λ s. refl)
 
 -- .. so that two P's are alike is not said of these
 pub alike_unless_late : PutForwardAlike → true ≡ false → true ≡ false → t ≡ u
@@ -341,12 +341,12 @@ late_alone_says f = (λ none. (f.otherwise none).0, ap (λ (l : Ledger). (entry_
 
 -- A run in which a seat puts another slip forward than the one that it accepted, or does it under earlier rules, or
 -- puts forward twice, breaks the facts.
-pub late-breaks :
+pub late_breaks :
     (Facts two_seats (today ▹ ruling 0 t (Accept 1) ▹ ack 0 1 u (Propose u)) → ⊥)
     × (Facts two_seats (as_it_was ▹ ruling 0 t (Accept 1) ▹ ack 0 1 u (Propose t)) → ⊥)
     × (Facts two_seats (today ▹ ack 0 1 u (Propose t) ▹ ack 0 1 u (Propose t)) → ⊥)
 unfolding rules_at
-late-breaks = (
+late_breaks = (
   λ f.
       let same = (f.only_accepted_proposed today (today ▹ ruling 0 t (Accept 1)) (ruling 0 t (Accept 1)) (ack 0 1 u (Propose u)) t u at_end at_end refl refl refl refl refl).0 in
       absurd (omega (arith, ap (λ (x : Transfer). x.value) same)),

@@ -124,7 +124,7 @@ accepted_by_all v run =
 
 -- It has in it what the request is about: all five honest seats accept w, which no ruling names, and x; both x and y
 -- were put forward; who had switched when w was booked, and who in the end; and all five slates say the same.
-pub across-has :
+pub across_has :
     (accepted_by_all w across ≡ true)
     × (happened (λ e. passes (equal w) (ruled e.call)) across ≡ false)
     × (accepted_by_all x across ≡ true)
@@ -137,9 +137,9 @@ pub across-has :
     × (rules_at (seat_of 2) across ≡ since_request3)
     × (rules_at (seat_of 4) across ≡ first_rules)
 unfolding rules_at equal
-across-has = (refl, refl, refl, refl, refl, refl, refl, refl, refl, refl, refl)
+across_has = (refl, refl, refl, refl, refl, refl, refl, refl, refl, refl, refl)
 
-pub across-slates :
+pub across_slates :
     (slate page 0 booked ≡ (10, 1) ∷ (3, 0) ∷ [])
     × (slate page 0 across ≡ (6, 2) ∷ (7, 0) ∷ [])
     × (slate page 1 across ≡ (6, 2) ∷ (7, 0) ∷ [])
@@ -147,7 +147,7 @@ pub across-slates :
     × (slate page 3 across ≡ (6, 2) ∷ (7, 0) ∷ [])
     × (slate page 4 across ≡ (6, 2) ∷ (7, 0) ∷ [])
 unfolding slate_at leave_all leave_at_most equal
-across-slates = (refl, refl, refl, refl, refl, refl)
+across_slates = (refl, refl, refl, refl, refl, refl)
 
 -- Each seat starts under rules of its own choice: of two that get the same slip, seat 0 refuses it under the newest,
 -- and seat 1 acks it under the first.

@@ -101,12 +101,12 @@ more_t = ledger_at page (seat_of 1) (today ▹ ack 1 0 t Note ▹ ack 1 1 t Note
 abbrev more_u : Ledger
 more_u = ledger_at page (seat_of 2) (today ▹ ack 2 3 u Note ▹ ack 2 4 u Note ▹ ack 2 2 u Note ▹ ack 2 0 t Note)
 
-pub same-acks-needed :
+pub same_acks_needed :
     ((step more_t (Ack (seat_of 4) u)).reply ≡ Propose t)
     × ((step more_u (Ack (seat_of 1) t)).reply ≡ Propose u)
     × (SameAcks more_t (Ack (seat_of 4) u) more_u (Ack (seat_of 1) t) → ⊥)
 unfolding rules_at ledger_at no_acks equal conflict has_most most_acked lowest_affordable apply settle_at_most settle step step_under
-same-acks-needed = (refl, refl, λ same. let held : Full t ≡ Full u = same (seat_of 2) in apart held)
+same_acks_needed = (refl, refl, λ same. let held : Full t ≡ Full u = same (seat_of 2) in apart held)
   where
     apart : Full t ≡ Full u → ⊥
     apart held = let slips : t ≡ u = cc in absurd (omega (arith, ap (λ (v : Transfer). v.value) slips))

@@ -37,10 +37,10 @@ module _ (words out after : List ℕ) (at m : ℕ) (size : length words ≡ book
       let bytes = summed words ++ number_bytes 4 s in
       let count = length-append (summed words) (number_bytes 4 s) in
       let filled = (whole (then w last) (omega (arith, summed_length words size))).0 in
-      let whole-front : at - 0 ≡ at = omega arith in
+      let whole_front : at - 0 ≡ at = omega arith in
       let none = drop_of_length-le out {i = length bytes} (omega (arith, summed_length words size)) in
       filled ∙ ap (λ (rest : List ℕ). bytes ++ rest) none ∙ append-nil bytes
-      ∙ ap (λ (sum : ℕ). summed words ++ number_bytes 4 sum) (is ∙ ap (λ (n : ℕ). body_sum (take n after)) whole-front ∙ sum_of_front)
+      ∙ ap (λ (sum : ℕ). summed words ++ number_bytes 4 sum) (is ∙ ap (λ (n : ℕ). body_sum (take n after)) whole_front ∙ sum_of_front)
 
 -- The answer of a load, by what its tests find.
 pub by_tests : (bytes : List ℕ) {m f l s : Bool} → wrong_mark bytes ≡ m → unknown_format bytes ≡ f → wrong_length bytes ≡ l → wrong_sum bytes ≡ s

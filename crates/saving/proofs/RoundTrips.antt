@@ -97,12 +97,12 @@ module _ (loaded : List ℕ) (bytes_small : Bytes loaded) where
   unfolding words_saved
   saved_small = words_small loaded bytes_small book_words words_at
 
-  module _ (is-mark : number4 loaded 0 ≡ number4 mark 0) (is-format : number4 loaded 4 ≡ format) (size : length loaded ≡ saved_size) where
+  module _ (is_mark : number4 loaded 0 ≡ number4 mark 0) (is_format : number4 loaded 4 ≡ format) (size : length loaded ≡ saved_size) where
     front_back : summed words ≡ take sum_at loaded
     unfolding words_saved
     front_back =
-        let first = ap (number_bytes 4) (sym is-mark) ∙ number_written 4 loaded 0 bytes_small (omega arith) in
-        let second = ap (number_bytes 4) (sym is-format) ∙ number_written 4 loaded 4 bytes_small (omega arith) in
+        let first = ap (number_bytes 4) (sym is_mark) ∙ number_written 4 loaded 0 bytes_small (omega arith) in
+        let second = ap (number_bytes 4) (sym is_format) ∙ number_written 4 loaded 4 bytes_small (omega arith) in
         let others = words_back loaded bytes_small book_words words_at (omega arith) ∙ ap (take (4 * book_words)) (sym (drop-drop 4 4 loaded)) in
         joined first (joined second others ∙ sym (take-add 4 (4 * book_words) (drop 4 loaded))) ∙ sym (take-add 4 (4 + 4 * book_words) loaded)
 

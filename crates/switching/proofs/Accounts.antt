@@ -24,7 +24,7 @@ use Rattle.store.proofs.Entering.{Entered, one_entered}
 module _
     (before mid : List ℕ) (a : Account) (e : Entry) (inside : a.0 < 32)
     (took : ledger_in mid ≡ with_entry (ledger_in before) a (with_retained_of e (entry_in before a)))
-    (p : Slot) (p-is : p ≡ (entry_in mid a).pending)
+    (p : Slot) (p_is : p ≡ (entry_in mid a).pending)
   where
     abbrev stored : Entry
     stored = with_retained_of e (entry_in before a)
@@ -33,7 +33,7 @@ module _
     here = rw took (with_entry_same (ledger_in before) a stored (omega (arith, entries_length before)))
 
     waits : p ≡ e.pending
-    waits = p-is ∙ ap (λ (x : Entry). x.pending) here
+    waits = p_is ∙ ap (λ (x : Entry). x.pending) here
 
     -- a store that changes what was taken
     changed : (after : List ℕ) (change : Entry → Entry) → ledger_in after ≡ with_entry (ledger_in mid) a (change (entry_in mid a))
@@ -48,13 +48,13 @@ module _
 
     -- the slip that waits is of the account
     pub its_account : (t : Transfer) → p ≡ Full t → t.account ≡ a
-    its_account t found = (pending_of mid a t inside (sym p-is ∙ found)).0
+    its_account t found = (pending_of mid a t inside (sym p_is ∙ found)).0
 
     pub slip_waits : (after : List ℕ) (t : Transfer) → p ≡ Full t → RetainedStored mid t after
         → ledger_in after ≡ with_entry (ledger_in before) a (retains_waiting e)
     slip_waits after t found kept =
         let own = its_account t found in
-        let value = (pending_of mid a t inside (sym p-is ∙ found)).1 in
+        let value = (pending_of mid a t inside (sym p_is ∙ found)).1 in
         let is = subst (λ (b : Account). ledger_in after ≡ with_entry (ledger_in mid) b (with_retained (entry_in mid b) t)) own (kept.retained value) in
         changed after (λ x. with_retained x t) is
         ∙ ap (λ (x : Slot). with_entry (ledger_in before) a (retains_from x e)) (sym found ∙ waits)

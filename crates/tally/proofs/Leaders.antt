@@ -113,5 +113,5 @@ module _ (acks : List AckSlot) (number : ℕ) where
             }
           where
             not_lower : (u : Transfer) (k : ℕ) → ack_at acks k ≡ Full u → acks_for v acks ≤ acks_for u acks → Dec (k < seat) → seat ≤ k
-            not_lower u k at no-fewer (yes below) = absurd (omega (arith, first k u below at))
-            not_lower u k at no-fewer (no above) = omega arith
+            not_lower u k at no_fewer (yes below) = absurd (omega (arith, first k u below at))
+            not_lower u k at no_fewer (no above) = omega arith

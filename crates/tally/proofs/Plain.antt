@@ -31,7 +31,7 @@ module _ {M : Type 1} {𝓤 : Ura M} {𝓛 : Logic 𝓤} {K : Type 0} {Γ : List
 
   -- and so is what a transfer, a seat and a place own, which end each list of parameters
   pub ack_owned : K → (t : Transfer) (p : Seat) (s : Slot) (vs ps us : List Val) → Is X.the_row t vs → Is P.the_row p ps → Is S.the_row s us → Step K 𝓛 (‵ (owns (X.the_row ∷ P.the_row ∷ S.the_row ∷ []) (t, (p, (s, tt))) (vs, (ps, (us, tt)))) ∷ Γ) G Γ G
-  ack_owned k t p s vs ps us t-is p-is s-is = step (λ z. nothing k $ owned k S.the_row (Is S.the_row) (EL.makes S.the_type S'.the_plain 𝓛) s us s-is $ fjoin k $ owned k P.the_row (Is P.the_row) (LL.makes P.the_type P'.the_plain 𝓛) p ps p-is $ fjoin k $ owned k X.the_row (Is X.the_row) (LL.makes X.the_type X'.the_plain 𝓛) t vs t-is $ fjoin k $ z)
+  ack_owned k t p s vs ps us t_is p_is s_is = step (λ z. nothing k $ owned k S.the_row (Is S.the_row) (EL.makes S.the_type S'.the_plain 𝓛) s us s_is $ fjoin k $ owned k P.the_row (Is P.the_row) (LL.makes P.the_type P'.the_plain 𝓛) p ps p_is $ fjoin k $ owned k X.the_row (Is X.the_row) (LL.makes X.the_type X'.the_plain 𝓛) t vs t_is $ fjoin k $ z)
 
 module _ {M : Type 1} {𝓤 : Ura M} (𝓛 : Logic 𝓤) where
   -- the machine values have their MIR types

@@ -134,14 +134,14 @@ reads_from {bytes} {i = i} {s} (m ∷ ms) here fit small left =
     )
 
 -- Bytes that say how many pages they have, at most 1,000, of which all are right and none is left out: they are sound.
-module _ (bytes : List ℕ) (ps : List Page) (count : entry_count bytes ≡ length ps) (some-page : 1 ≤ length ps) (few : length ps ≤ 1_000)
+module _ (bytes : List ℕ) (ps : List Page) (count : entry_count bytes ≡ length ps) (some_page : 1 ≤ length ps) (few : length ps ≤ 1_000)
     (size : length bytes ≡ 2 + 8 * length ps + length (bodies_of ps)) (found : Checks bytes 0 (2 + 8 * length ps) ps) where
   header_right : bad_header bytes ≡ false
   header_right =
       rw (
         le-ltb (length bytes) 2 (omega arith),
         count,
-        le-ltb (length ps) 1 some-page,
+        le-ltb (length ps) 1 some_page,
         le-ltb 1_000 (length ps) few,
         le-ltb (length bytes) (2 + 8 * length ps) (omega arith),
       )

@@ -38,11 +38,11 @@ build() { # TOOL PACKAGE [OPTION]..
 }
 
 # Builds the library, with the lock, where it is not there or what it is made of has changed since. What rt keeps in
-# out/ is none of that.
+# out/ of a crate is none of that.
 build_library() {
     take_lock "$here"
-    [ ! -f "$library" ] || [ -n "$(find "$here/crates" "$here/crates.txt" -path "$here/crates/*/out" -prune -o \
-        -newer "$library" -print -quit)" ] || return 0
+    [ ! -f "$library" ] || [ "$here/crates.txt" -nt "$library" ] || [ -n "$(find "$here/crates" -mindepth 2 \
+        -path "$here/crates/*/out" -prune -o -newer "$library" -print -quit)" ] || return 0
     need_rt
     echo "bundle.sh: proving and building the library, which takes half a minute where it is proved already" >&2
     prove_library || { echo "bundle.sh: the library was not built; target/host_c.log says why" >&2; exit 1; }

@@ -113,7 +113,7 @@ module _ (o : Opening) (bad : Seat → Bool) (run : Run) (opens : Opens o) (few 
       go m call (inl found) =
           inl
           (propose_majority o bad run opens l (sound o opens d.at q here) m u found
-          (call_from o bad opens run kept.acks_genuine obeys q d m (Propose u) found.sender found.slip w call found.is_ack_lem found.records))
+          (call_from o bad opens run kept.acks_genuine obeys q d m (Propose u) found.sender found.slip w call found.is_ack found.records))
       go m call (inr late) = inr ((all_reasons o opens d.at q here late.slip.account).why_retained u late.joins.is_retained)
 
   -- what the premise says at a ruling

@@ -78,7 +78,7 @@ pub record Recording (l : Ledger) (s : Seat) (t : Transfer) : Type 0 where
 pub record Proposes (l : Ledger) (m : Message) (u : Transfer) (next : Ledger) : Type 0 where
   pub sender : Seat
   pub slip : Transfer
-  pub is_ack_lem : m ≡ Ack sender slip
+  pub is_ack : m ≡ Ack sender slip
   pub records : Recording l sender slip
   pub nothing_proposed : (entry_of l slip.account).proposed ≡ false
   pub marks : next ≡ with_entry l slip.account (with_proposed (entry_with_ack l sender slip))
@@ -106,7 +106,7 @@ proposing l next m s t u e fit new must most same =
     record {
       sender = s;
       slip = t;
-      is_ack_lem = e;
+      is_ack = e;
       records = record { eligible = fit; recordable = new };
       nothing_proposed = none_yet l.seats l.faults (acks_recorded (entry_with_ack l s t).acks) (entry_with_ack l s t) must;
       marks = same;
@@ -339,7 +339,7 @@ pub record ProposesLate (v : Rules) (l : Ledger) (m : Message) (u : Transfer) (n
   pub sender : Seat
   pub slip : Transfer
   pub since : v ≡ since_request5
-  pub is_ack_lem : m ≡ Ack sender slip
+  pub is_ack : m ≡ Ack sender slip
   pub joins : Joining l sender slip u
   pub marks : next ≡ with_entry l slip.account (with_retained_proposed (entry_of l slip.account))
 
@@ -356,7 +356,7 @@ answer_propose l next m r u reply (noted s t e f fit new few same) = impossible 
 answer_propose l next m r u reply (accepted_by_ruling t e f fit same) = impossible (cc)
 answer_propose l next m r u reply (joined s t v since e f join same) =
     let slip : v ≡ u = cc in
-    inr (record { sender = s; slip = t; since = since; is_ack_lem = e; joins = rw (← slip) join; marks = same })
+    inr (record { sender = s; slip = t; since = since; is_ack = e; joins = rw (← slip) join; marks = same })
 answer_propose l next m r u reply (told a e f same) = impossible (cc)
 
 -- B means: the account's balance.
@@ -547,7 +547,7 @@ module _ (v : Rules) (o : Opening) (l next : Ledger) (m : Message) (r : Reply) (
   now_held s t kind taken (joined z u w since e f join same) =
       let slip : t ≡ u = cc in
       let clash : Conflict w t = rw slip (conflict_sound w u join.conflicting) in
-      inr (w, record { sender = z; slip = u; since = since; is_ack_lem = e; joins = join; marks = same }, clash)
+      inr (w, record { sender = z; slip = u; since = since; is_ack = e; joins = join; marks = same }, clash)
   now_held s t kind taken (told a e f same) = impossible (cc)
 
 -- What a call keeps of each entry: current numbers never fall, and a slip that has been booked or waits stays so.

@@ -1,3 +1,3 @@
--- What the functions' proofs share. Each function's own proof stands in its folder.
+-- What the functions' proofs share. Where a function's proof needs more, it stands in the function's folder.
 pub mod Opening
 pub mod Fresh

@@ -1,5 +1,5 @@
--- What the functions' proofs share, the laws for callers, and worked facts. Each function's
--- own proof stands in its folder.
+-- What the functions' proofs share, the laws for callers, and worked facts. Where a function's proof needs more, it
+-- stands in the function's folder.
 pub mod Carrying
 pub mod Decimals
 pub mod Facts

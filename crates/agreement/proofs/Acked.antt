@@ -1,12 +1,12 @@
 -- A seat acks at most one slip per account and number; and an ack that a ledger holds from an honest seat
 -- is a slip that this seat acked.
+use Rattle.std.specs.Prelude.{Some}
 use Prim.Native.Nat.{ℕ, ◌+◌, ◌≤◌, ◌<◌}
 use native.Mathlib.Omega.{arith}
 use mathlib.Core.Path.{◌≡◌, refl, ap, sym, ◌∙◌}
 use mathlib.Core.Logic.{◌⊎◌, inl, inr}
 use mathlib.Core.Bool.{Bool, true, false, ◌&&◌}
-use mathlib.Core.Option.{some}
-use Rattle.laws.specs.Types.{Seat, Account, Transfer, Full, Entry, Ledger, Opening, Message, Circulated, Ack, Reply, Acknowledge}
+use Rattle.laws.specs.Types.{Seat, Account, Transfer, Entry, Ledger, Opening, Message, Circulated, Ack, Reply, Acknowledge}
 use Rattle.runs.specs.Runs.{Opens, honest, Call, message, waiting_list, switch, Event, Run, ◌▹◌, Within, at_end, sooner, throughout, same_seat, rules_at, ledger_at, Obeys, acked, passes}
 use Rattle.runs.specs.Premises.{implies, acked_by, genuine}
 use Rattle.agreement.proofs.Places.{before, Order, same_event, earlier, later, order, happened_later, throughout_at, obeys_before}
@@ -54,7 +54,7 @@ number_rises {v} o l next m r g ok =
 module _ (o : Opening) (opens : Opens o) where
   -- the last number is not below that of what the seat acked
   abbrev pub AckedUpTo : Call → Ledger → Type 0
-  AckedUpTo c l = (t : Transfer) → acked c ≡ some t → t.number ≤ last_number (entry_of l t.account)
+  AckedUpTo c l = (t : Transfer) → acked c ≡ Some t → t.number ≤ last_number (entry_of l t.account)
 
   acked_now : {v : Rules} (l next : Ledger) (m : Message) (q : Reply) → Sound o l → Happens v l m q next → AckedUpTo (message m q) next
   acked_now l next m q ok h t is =
@@ -73,7 +73,7 @@ module _ (o : Opening) (opens : Opens o) where
 
 -- the call that acked a slip
 pub acked_by_found : (s : Seat) (t : Transfer) (r : Run) → acked_by s t r ≡ true
-    → (p : Run) × (e : Event) × Within (p ▹ e) r × (e.at ≡ s) × (acked e.call ≡ some t)
+    → (p : Run) × (e : Event) × Within (p ▹ e) r × (e.at ≡ s) × (acked e.call ≡ Some t)
 acked_by_found = deed_found acked
 
 -- what a seat has acked at a place, it has acked at each later one
@@ -82,7 +82,7 @@ acked_by_later s t w h = happened_later (λ e. same_seat e.at s && passes (equal
 
 module _ (o : Opening) (opens : Opens o) (run : Run) (obeys : Obeys o run) where
   -- what the ledger was at the call that acked a slip
-  acked_marks : (p : Run) (e : Event) (t : Transfer) → Within (p ▹ e) run → acked e.call ≡ some t
+  acked_marks : (p : Run) (e : Event) (t : Transfer) → Within (p ▹ e) run → acked e.call ≡ Some t
       → Marks (ledger_at o e.at p) (step_under (rules_at e.at p) (ledger_at o e.at p) (Circulated t)).next t
   acked_marks p e t w is =
       answer_acknowledge o (ledger_at o e.at p) _ (Circulated t) Acknowledge t (group o opens)
@@ -90,7 +90,7 @@ module _ (o : Opening) (opens : Opens o) (run : Run) (obeys : Obeys o run) where
       (happened_at o (Circulated t) Acknowledge obeys w (acked_is e.call t is))
 
   -- the slip was in range, and is so in every sound ledger; and it has a number
-  pub acked_in_range : (p : Run) (e : Event) (t : Transfer) → Within (p ▹ e) run → acked e.call ≡ some t
+  pub acked_in_range : (p : Run) (e : Event) (t : Transfer) → Within (p ▹ e) run → acked e.call ≡ Some t
       → (1 ≤ t.number) × ((l : Ledger) → Sound o l → out_of_range l t ≡ false)
   acked_in_range p e t w is =
       let fit = (acked_marks p e t w is).eligible in
@@ -98,7 +98,7 @@ module _ (o : Opening) (opens : Opens o) (run : Run) (obeys : Obeys o run) where
       (omega (arith, fit.is_next), λ l too. same_range o l (ledger_at o e.at p) t too ok ∙ fit.in_range)
 
   -- the number of a slip that is acked is above the last one
-  not_yet : (p : Run) (e : Event) (t : Transfer) → Within (p ▹ e) run → acked e.call ≡ some t
+  not_yet : (p : Run) (e : Event) (t : Transfer) → Within (p ▹ e) run → acked e.call ≡ Some t
       → last_number (entry_of (ledger_at o e.at p) t.account) < t.number
   not_yet p e t w is =
       let marks = acked_marks p e t w is in
@@ -106,18 +106,18 @@ module _ (o : Opening) (opens : Opens o) (run : Run) (obeys : Obeys o run) where
 
   -- an earlier ack of the same number at the same seat cannot be
   never_again : (p q : Run) (e d : Event) (t u : Transfer) → Within (q ▹ d) run → Within (p ▹ e) q → e.at ≡ d.at
-      → acked e.call ≡ some t → acked d.call ≡ some u → t.account ≡ u.account → t.number ≡ u.number → ⊥
+      → acked e.call ≡ Some t → acked d.call ≡ Some u → t.account ≡ u.account → t.number ≡ u.number → ⊥
   never_again p q e d t u w first seat ist isu account number =
       let past = acked_so_far o opens d.at q (obeys_before o obeys (before w)) p e first seat t ist in
       omega (arith, not_yet q d u w isu, rw account at past)
 
   -- a seat acks at most one slip per account and number
   pub acked_once : (p q : Run) (e d : Event) (t u : Transfer) → Within (p ▹ e) run → Within (q ▹ d) run → e.at ≡ d.at
-      → acked e.call ≡ some t → acked d.call ≡ some u → t.account ≡ u.account → t.number ≡ u.number → t ≡ u
+      → acked e.call ≡ Some t → acked d.call ≡ Some u → t.account ≡ u.account → t.number ≡ u.number → t ≡ u
   acked_once p q e d t u w v seat ist isu account number = go (order run w v)
     where
       go : Order p q e d → t ≡ u
-      go (same_event place event) = let both : some t ≡ some u = sym ist ∙ (ap (λ (x : Event). acked x.call) event ∙ isu) in cc
+      go (same_event place event) = let both : Some t ≡ Some u = sym ist ∙ (ap (λ (x : Event). acked x.call) event ∙ isu) in cc
       go (earlier first) = absurd (never_again p q e d t u v first seat ist isu account number)
       go (later first) = absurd (never_again q p d e u t w first (sym seat) isu ist (sym account) (sym number))
 
@@ -130,7 +130,7 @@ module _ (o : Opening) (opens : Opens o) (run : Run) (obeys : Obeys o run) where
 
 -- Where acks are genuine, the acks that an entry holds from honest seats are slips that these acked, in this run.
 abbrev pub FromSenders : Opening → (Seat → Bool) → Run → Entry → Type 0
-FromSenders o bad r e = (i : Seat) (t : Transfer) → ack_from e i ≡ Full t → honest o bad i ≡ true → acked_by i t r ≡ true
+FromSenders o bad r e = (i : Seat) (t : Transfer) → ack_from e i ≡ Some t → honest o bad i ≡ true → acked_by i t r ≡ true
 
 module _ (o : Opening) (bad : Seat → Bool) (opens : Opens o) where
   -- of an entry with one more ack
@@ -139,7 +139,7 @@ module _ (o : Opening) (bad : Seat → Bool) (opens : Opens o) where
       → FromSenders o bad r (entry_of l t.account) → FromSenders o bad r (entry_with_ack l s t)
   recorded_from r l s t ok fit new genuinely old i u h fair = go (recorded_read o l s t (group o opens) ok fit new i u h)
     where
-      go : ((i ≡ s) × (u ≡ t)) ⊎ (ack_from (entry_of l t.account) i ≡ Full u) → acked_by i u r ≡ true
+      go : ((i ≡ s) × (u ≡ t)) ⊎ (ack_from (entry_of l t.account) i ≡ Some u) → acked_by i u r ≡ true
       go (inl this) = rw (this.0, this.1) (genuinely (rw this.0 at fair))
       go (inr before) = old i u before fair
 

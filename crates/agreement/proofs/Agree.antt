@@ -1,9 +1,9 @@
 -- The first point of demand 3: any two accepted slips with equal account and number are equal.
+use Rattle.std.specs.Prelude.{Option, Some, None}
 use Prim.Native.Nat.{ℕ}
 use mathlib.Core.Path.{◌≡◌, refl, ap, sym, ◌∙◌}
 use mathlib.Core.Bool.{Bool, true, false, not, cond}
 use mathlib.Core.List.{List, [], ◌∷◌, ◌++◌}
-use mathlib.Core.Option.{Option, none, some}
 use mathlib.Core.Logic.{◌⊎◌, inl, inr}
 use Rattle.laws.specs.Types.{Seat, Transfer, Ledger, Opening, Message, Ack, Accept, Propose}
 use Rattle.runs.specs.Runs.{Opens, FewBad, message, Event, Run, start, ◌▹◌, Within, at_end, sooner, happened, rules_at, ledger_at, Obeys, accepted, proposed, ruled, passes}
@@ -27,7 +27,7 @@ pub record FirstRuling (t : Transfer) (r : Run) : Type 0 where
   pub event : Event
   pub slip : Transfer
   pub within : Within (place ▹ event) r
-  pub rules : ruled event.call ≡ some slip
+  pub rules : ruled event.call ≡ Some slip
   pub likewise_it : same_number t slip ≡ true
   pub none_sooner : ruled_on t place ≡ false
 
@@ -61,20 +61,20 @@ first_ruling t (r ▹ e) h = go (ruled_on t r) refl (first_ruling t r)
 
 -- what each slip is that was put forward with a slip's account and number
 proposals_all : (t u : Transfer) (r : Run)
-    → ((q : Run) (d : Event) (w : Transfer) → Within (q ▹ d) r → proposed d.call ≡ some w → same_number u w ≡ true → t ≡ w)
+    → ((q : Run) (d : Event) (w : Transfer) → Within (q ▹ d) r → proposed d.call ≡ Some w → same_number u w ≡ true → t ≡ w)
     → every (equal t) (proposals u r) ≡ true
 proposals_all t u (start from) h = refl
 proposals_all t u (r ▹ e) h = go (proposed e.call) refl (proposals_all t u r (λ q d w within. h q d w (sooner within)))
   where
-    add : (w : Transfer) (b : Bool) → same_number u w ≡ b → proposed e.call ≡ some w → every (equal t) (proposals u r) ≡ true
+    add : (w : Transfer) (b : Bool) → same_number u w ≡ b → proposed e.call ≡ Some w → every (equal t) (proposals u r) ≡ true
         → every (equal t) (cond b (w ∷ []) [] ++ proposals u r) ≡ true
     add w true same is rest = let this = h r e w at_end is same in rw (← this, equal_refl t) rest
     add w false same is rest = rest
 
     go : (x : Option Transfer) → proposed e.call ≡ x → every (equal t) (proposals u r) ≡ true
         → every (equal t) (likewise u x ++ proposals u r) ≡ true
-    go none is rest = rest
-    go (some w) is rest = add w (same_number u w) refl is rest
+    go None is rest = rest
+    go (Some w) is rest = add w (same_number u w) refl is rest
 
 -- a ruling that is founded on slips that are all t is for t
 founded_on : (t u : Transfer) (slips : List Transfer) → every (equal t) slips ≡ true → founded u slips ≡ true → u ≡ t
@@ -98,7 +98,7 @@ module _ (o : Opening) (bad : Seat → Bool) (run : Run) (opens : Opens o) (few 
       accept_quorum o bad run opens l ok s t found.0 from found.1
 
   -- a slip that is put forward has a majority, or it is put forward late, by a seat that had accepted it
-  pub proposed_why : (q : Run) (d : Event) (u : Transfer) → Within (q ▹ d) run → proposed d.call ≡ some u
+  pub proposed_why : (q : Run) (d : Event) (u : Transfer) → Within (q ▹ d) run → proposed d.call ≡ Some u
       → Majority o bad run u ⊎ (accepted_by d.at u q ≡ true)
   proposed_why q d u w is = let found = put_forward o u obeys w is in go found.0 found.2 found.3
     where
@@ -117,12 +117,12 @@ module _ (o : Opening) (bad : Seat → Bool) (run : Run) (opens : Opens o) (few 
       go m call (inr late) = inr ((all_reasons o opens d.at q here late.slip.account).why_retained u late.joins.is_retained)
 
   -- what the premise says at a ruling
-  ruling_rightful : (p : Run) (e : Event) (t : Transfer) → Within (p ▹ e) run → ruled e.call ≡ some t → rightful p (some t) ≡ true
+  ruling_rightful : (p : Run) (e : Event) (t : Transfer) → Within (p ▹ e) run → ruled e.call ≡ Some t → rightful p (Some t) ≡ true
   ruling_rightful p e t w is = rw is at (throughout_at (λ before e. rightful before (ruled e.call)) kept.rulings_rightful w)
 
   -- a ruling before another of the same account and number has the same slip
   earlier_ruling : (p q : Run) (e d : Event) (t u : Transfer) → Within (q ▹ d) run → Within (p ▹ e) q
-      → ruled e.call ≡ some t → ruled d.call ≡ some u → t.account ≡ u.account → t.number ≡ u.number → t ≡ u
+      → ruled e.call ≡ Some t → ruled d.call ≡ Some u → t.account ≡ u.account → t.number ≡ u.number → t ≡ u
   earlier_ruling p q e d t u w first ist isu account number = go (equal u t) refl
     where
       go : (b : Bool) → equal u t ≡ b → t ≡ u
@@ -137,11 +137,11 @@ module _ (o : Opening) (bad : Seat → Bool) (run : Run) (opens : Opens o) (few 
 
   -- all rulings for one account and number carry the same slip
   rulings_agree : (p q : Run) (e d : Event) (t u : Transfer) → Within (p ▹ e) run → Within (q ▹ d) run
-      → ruled e.call ≡ some t → ruled d.call ≡ some u → t.account ≡ u.account → t.number ≡ u.number → t ≡ u
+      → ruled e.call ≡ Some t → ruled d.call ≡ Some u → t.account ≡ u.account → t.number ≡ u.number → t ≡ u
   rulings_agree p q e d t u w v ist isu account number = go (order run w v)
     where
       go : Order p q e d → t ≡ u
-      go (same_event place event) = let both : some t ≡ some u = sym ist ∙ (ap (λ (x : Event). ruled x.call) event ∙ isu) in cc
+      go (same_event place event) = let both : Some t ≡ Some u = sym ist ∙ (ap (λ (x : Event). ruled x.call) event ∙ isu) in cc
       go (earlier first) = earlier_ruling p q e d t u v first ist isu account number
       go (later first) = sym (earlier_ruling q p d e u t w first isu ist (sym account) (sym number))
 
@@ -151,14 +151,14 @@ module _ (o : Opening) (bad : Seat → Bool) (run : Run) (opens : Opens o) (few 
   pub ruled_only : (t u : Transfer)
       → ((w : Transfer) → Majority o bad run w → t.account ≡ w.account → t.number ≡ w.number → t ≡ w)
       → ((w : Transfer) → Quorum o bad run w → t.account ≡ w.account → t.number ≡ w.number → t ≡ w)
-      → (q : Run) (d : Event) → Within (q ▹ d) run → ruled d.call ≡ some u
+      → (q : Run) (d : Event) → Within (q ▹ d) run → ruled d.call ≡ Some u
       → t.account ≡ u.account → t.number ≡ u.number → u ≡ t
   ruled_only t u major many q d w is account number =
       let test : Event → Bool = λ e. passes (same_number u) (ruled e.call) in
       let first = first_ruling u run (happened_holds test w (rw is (same_number_lem u u refl refl))) in
       let alike = number_same u first.slip first.likewise_it in
       let same = rulings_agree q first.place d first.event u first.slip w first.within is first.rules alike.0 alike.1 in
-      let right = ruling_rightful first.place first.event u first.within (first.rules ∙ ap some (sym same)) in
+      let right = ruling_rightful first.place first.event u first.within (first.rules ∙ ap Some (sym same)) in
       founded_on t u (proposals u first.place) (all_t first.place (before first.within) first.none_sooner)
       (rw first.none_sooner at (both (not (ruled_otherwise u first.place)) _ right).1)
     where
@@ -166,7 +166,7 @@ module _ (o : Opening) (bad : Seat → Bool) (run : Run) (opens : Opens o) (few 
       ruling e = passes (same_number u) (ruled e.call)
 
       -- what was put forward while there was no ruling
-      only : (q : Run) (d : Event) (w : Transfer) → Within (q ▹ d) run → happened ruling q ≡ false → proposed d.call ≡ some w
+      only : (q : Run) (d : Event) (w : Transfer) → Within (q ▹ d) run → happened ruling q ≡ false → proposed d.call ≡ Some w
           → same_number u w ≡ true → t ≡ w
       only q d w v none_yet isw alike = go (proposed_why q d w v isw)
         where
@@ -198,15 +198,15 @@ module _ (o : Opening) (bad : Seat → Bool) (run : Run) (opens : Opens o) (few 
               go false unmet = refl
 
   -- so it is for a slip with a quorum
-  quorum_ruled : (t u : Transfer) → Quorum o bad run t → (q : Run) (d : Event) → Within (q ▹ d) run → ruled d.call ≡ some u
+  quorum_ruled : (t u : Transfer) → Quorum o bad run t → (q : Run) (d : Event) → Within (q ▹ d) run → ruled d.call ≡ Some u
       → t.account ≡ u.account → t.number ≡ u.number → u ≡ t
   quorum_ruled t u quorum =
       ruled_only t u (λ w. quorum_proposed o bad run opens few obeys t w quorum) (λ w. quorums_agree o bad run opens few obeys t w quorum)
 
   -- any two accepted slips with equal account and number are equal
   pub accepted_agree : (p q : Run) (e d : Event) (t u : Transfer)
-      → Within (p ▹ e) run → accepted e.call ≡ some t
-      → Within (q ▹ d) run → accepted d.call ≡ some u
+      → Within (p ▹ e) run → accepted e.call ≡ Some t
+      → Within (q ▹ d) run → accepted d.call ≡ Some u
       → t.account ≡ u.account → t.number ≡ u.number → t ≡ u
   accepted_agree p q e d t u w ist v isu account number = go (accepted_is e.call t ist) (accepted_is d.call u isu)
     where

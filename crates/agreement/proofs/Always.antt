@@ -1,14 +1,14 @@
 -- What holds of every run that obeys the definitions, premises or not: the statement is `Always` in Facts.antt of the
 -- crate runs.
+use Rattle.std.specs.Prelude.{Some, None}
 use Prim.Native.Nat.{◌+◌, ◌≤◌, ◌<◌}
 use native.Mathlib.Omega.{arith}
 use mathlib.Core.Path.{◌≡◌, refl, ap, sym, ◌∙◌}
 use mathlib.Core.Logic.{◌⊎◌, inl, inr}
 use mathlib.Core.Bool.{Bool, true, false, ◌&&◌, ◌||◌, or-true}
-use mathlib.Core.Option.{some}
 use lib.ListN.{length}
 use borrow.Author.Tests.{leb-false}
-use Rattle.laws.specs.Types.{Seat, Account, Transfer, Slot, Empty, Full, Entry, Ledger, Opening, Message, Request, Circulated, Ack, Decision, Inquiry, Reply, Circulate, Acknowledge, Accept, Propose, Note, Balance, Refuse}
+use Rattle.laws.specs.Types.{Seat, Account, Transfer, Slot, Entry, Ledger, Opening, Message, Request, Circulated, Ack, Decision, Inquiry, Reply, Circulate, Acknowledge, Accept, Propose, Note, Balance, Refuse}
 use Rattle.runs.specs.Runs.{Opens, Call, message, waiting_list, switch, Event, Run, ◌▹◌, Within, same_seat, rules_at, ledger_at, Conforms, Obeys, is_accept, accepted, proposed, ruled, passes, at_end}
 use Rattle.runs.proofs.Found.{happened_found, that_slip}
 use Rattle.runs.specs.Facts.{answered_k, count_of, must_accept, accepted_by, taken, ruled_for, Always}
@@ -42,7 +42,7 @@ call_accepts o v l (waiting_list b q a) g ok h = refl
 call_accepts o v l switch g ok h = refl
 
 -- a ruling that is not refused accepts its slip
-ruling_accepts : (c : Call) (v : Rules) (l : Ledger) (t : Transfer) → answered_k c ≡ must_accept v l c → ruled c ≡ some t → taken c ≡ true → accepted c ≡ some t
+ruling_accepts : (c : Call) (v : Rules) (l : Ledger) (t : Transfer) → answered_k c ≡ must_accept v l c → ruled c ≡ Some t → taken c ≡ true → accepted c ≡ Some t
 ruling_accepts (message (Request u) r) v l t exactly is ok = impossible (cc)
 ruling_accepts (message (Circulated u) r) v l t exactly is ok = impossible (cc)
 ruling_accepts (message (Ack s u) r) v l t exactly is ok = impossible (cc)
@@ -93,7 +93,7 @@ uncovered o opens s =
 module _ (o : Opening) (opens : Opens o) (s : Seat) where
   -- every accepted slip has been booked, or waits
   abbrev SettledCall : Call → Ledger → Type 0
-  SettledCall c l = (t : Transfer) → accepted c ≡ some t → BookedOrWaits t (entry_of l t.account)
+  SettledCall c l = (t : Transfer) → accepted c ≡ Some t → BookedOrWaits t (entry_of l t.account)
 
   all_settled : (r : Run) → Obeys o r → (p : Run) (e : Event) → Within (p ▹ e) r → e.at ≡ s → SettledCall e.call (ledger_at o s r)
   all_settled =
@@ -108,7 +108,7 @@ module _ (o : Opening) (opens : Opens o) (s : Seat) where
 
   -- so a later call accepts no slip of its number
   accepts_no_more : (p q : Run) (e d : Event) (t u : Transfer) → Obeys o (q ▹ d) → Within (p ▹ e) q → e.at ≡ s → d.at ≡ s
-      → accepted e.call ≡ some t → accepted d.call ≡ some u → t.account ≡ u.account → t.number ≡ u.number → ⊥
+      → accepted e.call ≡ Some t → accepted d.call ≡ Some u → t.account ≡ u.account → t.number ≡ u.number → ⊥
   accepts_no_more p q e d t u obeys w there here is this account number = go (turn o l _ call.0 call.1 (group o opens) ok happens)
     where
       l : Ledger
@@ -129,7 +129,7 @@ module _ (o : Opening) (opens : Opens o) (s : Seat) where
           let slip : u ≡ w' = cc (that, ap accepted call.2, this) in
           settled_clash (all_settled q obeys.0 p e w there t is) done.fits.none_waits slip done.is_next
         where
-          settled_clash : BookedOrWaits t (entry_of l t.account) → (entry_of l w'.account).pending ≡ Empty → u ≡ w'
+          settled_clash : BookedOrWaits t (entry_of l t.account) → (entry_of l w'.account).pending ≡ None → u ≡ w'
               → w'.number ≡ (entry_of l w'.account).current + 1 → ⊥
           settled_clash (inl past) none_waits slip next =
               omega (arith, number, ap (λ (x : Transfer). x.number) slip, ap (λ (a : Account). (entry_of l a).current) (account ∙ ap (λ (x : Transfer). x.account) slip))
@@ -138,18 +138,18 @@ module _ (o : Opening) (opens : Opens o) (s : Seat) where
 
   -- a seat accepts at most one slip for an account and number
   accepted_once : (run p q : Run) (e d : Event) (t u : Transfer) → Obeys o run → Within (p ▹ e) run → Within (q ▹ d) run → e.at ≡ s → d.at ≡ s
-      → accepted e.call ≡ some t → accepted d.call ≡ some u → t.account ≡ u.account → t.number ≡ u.number → t ≡ u
+      → accepted e.call ≡ Some t → accepted d.call ≡ Some u → t.account ≡ u.account → t.number ≡ u.number → t ≡ u
   accepted_once run p q e d t u obeys w v there here is this account number = go (order run w v)
     where
       go : Order p q e d → t ≡ u
-      go (same_event place event) = let both : some t ≡ some u = sym is ∙ (ap (λ (x : Event). accepted x.call) event ∙ this) in cc
+      go (same_event place event) = let both : Some t ≡ Some u = sym is ∙ (ap (λ (x : Event). accepted x.call) event ∙ this) in cc
       go (earlier first) = absurd (accepts_no_more p q e d t u (obeys_before o obeys v) first there here is this account number)
       go (later first) = absurd (accepts_no_more q p d e u t (obeys_before o obeys w) first here there this is (sym account) (sym number))
 
   -- after it, only the accepted slip is put forward for its number, late: what another P carries is of an
   -- eligible slip's account and number
   only_accepted : (p q : Run) (e : Event) (c : Call) (t u : Transfer) → Obeys o (q ▹ record { at = s; call = c }) → Within (p ▹ e) q → e.at ≡ s
-      → accepted e.call ≡ some t → proposed c ≡ some u → t.account ≡ u.account → t.number ≡ u.number
+      → accepted e.call ≡ Some t → proposed c ≡ Some u → t.account ≡ u.account → t.number ≡ u.number
       → (t ≡ u) × (rank since_request5 ≤ rank (rules_at s q))
   only_accepted p q e c t u obeys w there is puts account number =
       go (put_forward o {e = record { at = s; call = c }} u obeys at_end puts).3
@@ -174,7 +174,7 @@ module _ (o : Opening) (opens : Opens o) (s : Seat) where
           (same, rw late.since (omega arith))
 
   -- what is retained is of its account, was accepted, and is the latest
-  latest_accepted : (r : Run) → Obeys o r → (a : Account) (t : Transfer) → (entry_of (ledger_at o s r) a).retained ≡ Full t
+  latest_accepted : (r : Run) → Obeys o r → (a : Account) (t : Transfer) → (entry_of (ledger_at o s r) a).retained ≡ Some t
       → (t.account ≡ a) × (accepted_by s t r ≡ true)
       × (t.number ≡ (entry_of (ledger_at o s r) a).current + bit (is_waiting (entry_of (ledger_at o s r) a)))
   latest_accepted r obeys a t held =
@@ -186,18 +186,18 @@ module _ (o : Opening) (opens : Opens o) (s : Seat) where
       stands : SoundEntry o a e
       stands = (sound o opens s r obeys).each a
 
-      number : (e.pending ≡ Full t) ⊎ ((e.pending ≡ Empty) × (t.number ≡ e.current)) → t.number ≡ e.current + bit (is_waiting e)
+      number : (e.pending ≡ Some t) ⊎ ((e.pending ≡ None) × (t.number ≡ e.current)) → t.number ≡ e.current + bit (is_waiting e)
       number (inl waits) = rw waits (stands.pending_stands t waits).1
-      number (inr none) = rw none.0 (omega (arith, none.1))
+      number (inr missing) = rw missing.0 (omega (arith, missing.1))
 
   -- before request 5 nothing is
   nothing_before : (r : Run) → Obeys o r → (a : Account) → rank (rules_at s r) < rank since_request5 → RetainsNothing (entry_of (ledger_at o s r) a)
   nothing_before r obeys a before_it =
       (go (entry_of (ledger_at o s r) a).retained refl, unmarked (entry_of (ledger_at o s r) a).retained_proposed refl)
     where
-      go : (p : Slot) → (entry_of (ledger_at o s r) a).retained ≡ p → p ≡ Empty
-      go Empty is = refl
-      go (Full t) is = absurd (omega (arith, ap rank ((latest o opens s r obeys a).slip t is).0))
+      go : (p : Slot) → (entry_of (ledger_at o s r) a).retained ≡ p → p ≡ None
+      go None is = refl
+      go (Some t) is = absurd (omega (arith, ap rank ((latest o opens s r obeys a).slip t is).0))
 
       unmarked : (b : Bool) → (entry_of (ledger_at o s r) a).retained_proposed ≡ b → b ≡ false
       unmarked true is = absurd (omega (arith, ap rank ((latest o opens s r obeys a).mark is)))
@@ -205,12 +205,12 @@ module _ (o : Opening) (opens : Opens o) (s : Seat) where
 
   -- a slip of the next number that was accepted waits
   accepted_waits : (r : Run) → Obeys o r → (t : Transfer) → t.number ≡ (entry_of (ledger_at o s r) t.account).current + 1
-      → accepted_by s t r ≡ true → (entry_of (ledger_at o s r) t.account).pending ≡ Full t
+      → accepted_by s t r ≡ true → (entry_of (ledger_at o s r) t.account).pending ≡ Some t
   accepted_waits r obeys t next h =
       let found = deed_found accepted s t r h in
       go (all_settled r obeys found.0 found.1 found.2 found.3 t found.4)
     where
-      go : BookedOrWaits t (entry_of (ledger_at o s r) t.account) → (entry_of (ledger_at o s r) t.account).pending ≡ Full t
+      go : BookedOrWaits t (entry_of (ledger_at o s r) t.account) → (entry_of (ledger_at o s r) t.account).pending ≡ Some t
       go (inl past) = absurd (omega arith)
       go (inr waits) = waits
 
@@ -255,9 +255,9 @@ module _ (o : Opening) (opens : Opens o) (s : Seat) where
       same_test _ _ (λ h. rw (accepted_waits r obeys t next h) (equal_refl t)) (λ h. back (entry_of (ledger_at o s r) t.account).pending refl h)
     where
       back : (x : Slot) → (entry_of (ledger_at o s r) t.account).pending ≡ x → holds t x ≡ true → accepted_by s t r ≡ true
-      back Empty is h = impossible (cc)
-      back (Full u) is h =
-          ((all_reasons o opens s r obeys t.account).why_waits t (is ∙ ap Full (equal_sound u t h))).was_accepted
+      back None is h = impossible (cc)
+      back (Some u) is h =
+          ((all_reasons o opens s r obeys t.account).why_waits t (is ∙ ap Some (equal_sound u t h))).was_accepted
 
   -- current numbers never fall
   never_falls : (a : Account) {p q : Run} → Obeys o q → Within p q → (entry_of (ledger_at o s p) a).current ≤ (entry_of (ledger_at o s q) a).current

@@ -1,8 +1,8 @@
 -- What a call did, read back: the call and the reply that "acks", "accepts", "puts forward" and "rules" stand for.
+use Rattle.std.specs.Prelude.{Option, Some, None}
 use Prim.Native.Nat.{ℕ}
 use mathlib.Core.Path.{◌≡◌, refl, ap, sym}
 use mathlib.Core.Bool.{Bool, true, false, cond, not, ◌&&◌}
-use mathlib.Core.Option.{Option, none, some}
 use Rattle.laws.specs.Types.{Seat, Transfer, Message, Request, Circulated, Ack, Decision, Inquiry, Reply, Circulate, Acknowledge, Accept, Propose, Note, Balance, Refuse}
 use Rattle.runs.specs.Runs.{Call, message, waiting_list, switch, Event, Run, ◌▹◌, Within, happened, same_seat, is_acknowledge, is_accept, acked, accepted, proposed, passes}
 use Rattle.runs.proofs.Found.{happened_found, that_slip}
@@ -32,12 +32,12 @@ is_accept_lem (Balance b) e = impossible (cc)
 is_accept_lem (Refuse q) e = impossible (cc)
 
 -- a slip that is there only if a test holds
-only_if : (b : Bool) (t u : Transfer) → cond b (some t) none ≡ some u → (b ≡ true) × (t ≡ u)
+only_if : (b : Bool) (t u : Transfer) → cond b (Some t) None ≡ Some u → (b ≡ true) × (t ≡ u)
 only_if true t u e = (refl, cc)
 only_if false t u e = impossible (cc)
 
 -- it acked t
-pub acked_is : (c : Call) (t : Transfer) → acked c ≡ some t → c ≡ message (Circulated t) Acknowledge
+pub acked_is : (c : Call) (t : Transfer) → acked c ≡ Some t → c ≡ message (Circulated t) Acknowledge
 acked_is (message (Request u) r) t e = impossible (cc)
 acked_is (message (Circulated u) r) t e =
     let found = only_if (is_acknowledge r) u t e in
@@ -53,7 +53,7 @@ pub data Accepts (c : Call) (t : Transfer) : Type 0 where
   by_ack : (s : Seat) (k : ℕ) → c ≡ message (Ack s t) (Accept k) → Accepts c t
   by_ruling : (k : ℕ) → c ≡ message (Decision t) (Accept k) → Accepts c t
 
-pub accepted_is : (c : Call) (t : Transfer) → accepted c ≡ some t → Accepts c t
+pub accepted_is : (c : Call) (t : Transfer) → accepted c ≡ Some t → Accepts c t
 accepted_is (message (Request u) r) t e = impossible (cc)
 accepted_is (message (Circulated u) r) t e = impossible (cc)
 accepted_is (message (Ack s u) r) t e =
@@ -69,7 +69,7 @@ accepted_is (waiting_list before r after) t e = impossible (cc)
 accepted_is switch t e = impossible (cc)
 
 -- it is a message
-pub accepting_call : (c : Call) (t : Transfer) → accepted c ≡ some t → (m : Message) × (r : Reply) × (c ≡ message m r)
+pub accepting_call : (c : Call) (t : Transfer) → accepted c ≡ Some t → (m : Message) × (r : Reply) × (c ≡ message m r)
 accepting_call c t e = go (accepted_is c t e)
   where
     go : Accepts c t → (m : Message) × (r : Reply) × (c ≡ message m r)
@@ -77,7 +77,7 @@ accepting_call c t e = go (accepted_is c t e)
     go (by_ruling k is) = (Decision t, Accept k, is)
 
 -- it put u forward
-pub proposed_is : (c : Call) (u : Transfer) → proposed c ≡ some u → (m : Message) × (c ≡ message m (Propose u))
+pub proposed_is : (c : Call) (u : Transfer) → proposed c ≡ Some u → (m : Message) × (c ≡ message m (Propose u))
 proposed_is (message m r) u e = (m, ap (message m) (carried r u e))
 proposed_is (waiting_list before r after) u e = impossible (cc)
 proposed_is switch u e = impossible (cc)
@@ -98,14 +98,14 @@ brings_is s t (waiting_list before r after) e = impossible (cc)
 brings_is s t switch e = impossible (cc)
 
 -- a slip that is there and passes the test
-pub passes_is : (test : Transfer → Bool) (x : Option Transfer) → passes test x ≡ true → (t : Transfer) × (x ≡ some t) × (test t ≡ true)
-passes_is test none e = impossible (cc)
-passes_is test (some t) e = (t, refl, e)
+pub passes_is : (test : Transfer → Bool) (x : Option Transfer) → passes test x ≡ true → (t : Transfer) × (x ≡ Some t) × (test t ≡ true)
+passes_is test None e = impossible (cc)
+passes_is test (Some t) e = (t, refl, e)
 
 -- the call at a seat that did it with slip t
 pub deed_found : (did : Call → Option Transfer) (s : Seat) (t : Transfer) (r : Run)
     → happened (λ e. same_seat e.at s && passes (equal t) (did e.call)) r ≡ true
-    → (p : Run) × (e : Event) × Within (p ▹ e) r × (e.at ≡ s) × (did e.call ≡ some t)
+    → (p : Run) × (e : Event) × Within (p ▹ e) r × (e.at ≡ s) × (did e.call ≡ Some t)
 deed_found did s t r h =
     let found = happened_found (λ e. same_seat e.at s && passes (equal t) (did e.call)) r h in
     let e = found.1 in

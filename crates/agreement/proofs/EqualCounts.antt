@@ -1,6 +1,7 @@
 -- The third point of demand 3: counts determine balances. What an account has, and has paid for its numbers up to its
 -- count, is what it opened with and what the numbers of all accounts up to their counts brought it; and by agreement
 -- one slip answers to each number.
+use Rattle.std.specs.Prelude.{Option, Some, None}
 use Prim.Native.Nat.{ℕ, zero, suc, ◌+◌, ◌<◌}
 use native.Mathlib.Decide.{ℕ_discrete, dec_lt}
 use native.Mathlib.Omega.{arith}
@@ -8,11 +9,10 @@ use mathlib.Core.Path.{◌≡◌, refl, ap, sym, ◌∙◌}
 use mathlib.Core.Logic.{◌≢◌, ◌⊎◌, inl, inr}
 use mathlib.Core.Bool.{Bool, true, false, cond, ◌&&◌}
 use mathlib.Core.List.{List}
-use mathlib.Core.Option.{Option, none, some}
 use lib.Dec.{eqb}
 use lib.ListN.{length, get_or}
 use borrow.Author.Tests.{eq-eqb, ne_eqb}
-use Rattle.laws.specs.Types.{Seat, Account, Transfer, Full, Entry, Ledger, Opening, Message, Reply}
+use Rattle.laws.specs.Types.{Seat, Account, Transfer, Entry, Ledger, Opening, Message, Reply}
 use Rattle.runs.specs.Runs.{Opens, message, Event, Run, start, ◌▹◌, Within, at_end, ledger_at, Obeys, accepted}
 use Rattle.agreement.proofs.Places.{before, within_trans, nothing_yet, last_or_sooner, obeys_before}
 use Rattle.agreement.proofs.Soundness.{opened_entry, next_waits, group, Sound, bounded}
@@ -56,12 +56,12 @@ below_change f g (suc n) a lower h = go (ℕ_discrete n a) (below_change f g n a
 
 -- what a slip takes, and what it brings to account b; nothing where there is none
 abbrev value_of : Option Transfer → ℕ
-value_of none = 0
-value_of (some t) = t.value
+value_of None = 0
+value_of (Some t) = t.value
 
 abbrev brought : Account → Option Transfer → ℕ
-brought b none = 0
-brought b (some t) = share b t.recipient t.value
+brought b None = 0
+brought b (Some t) = share b t.recipient t.value
 
 -- Given the slip of each account and number.
 module _ (slip_of : Account → ℕ → Option Transfer) (o : Opening) where
@@ -79,7 +79,7 @@ module _ (slip_of : Account → ℕ → Option Transfer) (o : Opening) where
 
   -- The entries' waiting slips are the slips of their numbers, and the entries balance.
   record Balanced (es : List Entry) : Type 0 where
-    waits_are : (a : Account) (t : Transfer) → (entry_at es a).pending ≡ Full t → slip_of a t.number ≡ some t
+    waits_are : (a : Account) (t : Transfer) → (entry_at es a).pending ≡ Some t → slip_of a t.number ≡ Some t
     equation : (b : Account)
         → (entry_at es b).balance + paid b (entry_at es b).current
         ≡ get_or o.balances b.0 0 + received b (λ a. (entry_at es a).current)
@@ -94,7 +94,7 @@ module _ (slip_of : Account → ℕ → Option Transfer) (o : Opening) where
       number : suc (entry_at es a).current ≡ t.number
       number = omega (arith, next a t at.waits)
 
-      this : slip_of a (suc (entry_at es a).current) ≡ some t
+      this : slip_of a (suc (entry_at es a).current) ≡ Some t
       this = ap (slip_of a) number ∙ bal.waits_are a t at.waits
 
       current_here : (entry_at (apply es a) a).current ≡ suc (entry_at es a).current
@@ -144,7 +144,7 @@ module _ (slip_of : Account → ℕ → Option Transfer) (o : Opening) where
   -- entries with the same balances and current numbers, whose waiting slips are the slips of their numbers
   restated : (es es' : List Entry)
       → ((a : Account) → ((entry_at es' a).balance ≡ (entry_at es a).balance) × ((entry_at es' a).current ≡ (entry_at es a).current))
-      → ((a : Account) (t : Transfer) → (entry_at es' a).pending ≡ Full t → slip_of a t.number ≡ some t)
+      → ((a : Account) (t : Transfer) → (entry_at es' a).pending ≡ Some t → slip_of a t.number ≡ Some t)
       → Balanced es → Balanced es'
   unfolding received
   restated es es' same waits bal =
@@ -179,7 +179,7 @@ module _ (slip_of : Account → ℕ → Option Transfer) (o : Opening) where
 
   -- a call keeps the entries balanced, if an accepted slip is the slip of its number
   turn_balanced : (l next : Ledger) (m : Message) (r : Reply) → Opens o → Sound o l → Turn o l m r next
-      → ((t : Transfer) → accepted (message m r) ≡ some t → slip_of t.account t.number ≡ some t)
+      → ((t : Transfer) → accepted (message m r) ≡ Some t → slip_of t.account t.number ≡ Some t)
       → Balanced l.entries → Balanced next.entries
   turn_balanced l next m r opens ok (keeps same none_accepted not_k) slips bal = same_balanced l.entries next.entries same bal
   turn_balanced l next m r opens ok (accepts t this done) slips bal =
@@ -190,7 +190,7 @@ module _ (slip_of : Account → ℕ → Option Transfer) (o : Opening) where
       set_each (λ a x. (x.balance ≡ (entry_of l a).balance) × (x.current ≡ (entry_of l a).current)) l.entries t.account
       (with_pending done.entry t) (done.same_balance, done.same_current) (λ a. (refl, refl)) in
       let pending =
-      set_each (λ a x. (u : Transfer) → x.pending ≡ Full u → slip_of a u.number ≡ some u) l.entries t.account
+      set_each (λ a x. (u : Transfer) → x.pending ≡ Some u → slip_of a u.number ≡ Some u) l.entries t.account
       (with_pending done.entry t) (λ u h. let same : t ≡ u = cc in rw (← same) (slips t this)) bal.waits_are in
       rw done.entries_are
       (settle_balanced joined (bounded o (with_entry l t.account (with_pending done.entry t)) g waits)
@@ -200,7 +200,7 @@ module _ (slip_of : Account → ℕ → Option Transfer) (o : Opening) where
 
   -- so at every place of a run in which each accepted slip is the slip of its number
   all_balanced : Opens o → (run : Run)
-      → ((p : Run) (e : Event) (t : Transfer) → Within (p ▹ e) run → accepted e.call ≡ some t → slip_of t.account t.number ≡ some t)
+      → ((p : Run) (e : Event) (t : Transfer) → Within (p ▹ e) run → accepted e.call ≡ Some t → slip_of t.account t.number ≡ Some t)
       → (s : Seat) (r : Run) → Obeys o r → Within r run → Balanced (ledger_at o s r).entries
   all_balanced opens run slips s =
       run_induction o opens s (λ r v l. Within r run → Balanced l.entries) (λ from w. opened_balanced)
@@ -216,21 +216,21 @@ is_of : Account → ℕ → Transfer → Bool
 is_of a m t = same_account t.account a && eqb t.number m
 
 first_of : Account → ℕ → Option Transfer → Option Transfer → Option Transfer
-first_of a m none other = other
-first_of a m (some t) other = cond (is_of a m t) (some t) other
+first_of a m None other = other
+first_of a m (Some t) other = cond (is_of a m t) (Some t) other
 
 accepted_for : Run → Account → ℕ → Option Transfer
-accepted_for (start from) a m = none
+accepted_for (start from) a m = None
 accepted_for (r ▹ e) a m = first_of a m (accepted e.call) (accepted_for r a m)
 
 -- where accepted slips of one account and number are equal, it is each of them
 found_slip : (run : Run)
     → ((p q : Run) (e d : Event) (t u : Transfer)
-    → Within (p ▹ e) run → accepted e.call ≡ some t
-    → Within (q ▹ d) run → accepted d.call ≡ some u
+    → Within (p ▹ e) run → accepted e.call ≡ Some t
+    → Within (q ▹ d) run → accepted d.call ≡ Some u
     → t.account ≡ u.account → t.number ≡ u.number → t ≡ u)
-    → (r : Run) → Within r run → (p : Run) (e : Event) (t : Transfer) → Within (p ▹ e) r → accepted e.call ≡ some t
-    → accepted_for r t.account t.number ≡ some t
+    → (r : Run) → Within r run → (p : Run) (e : Event) (t : Transfer) → Within (p ▹ e) r → accepted e.call ≡ Some t
+    → accepted_for r t.account t.number ≡ Some t
 unfolding accepted_for first_of is_of
 found_slip run agree (start from) w p e t v is = nothing_yet v
 found_slip run agree (r ▹ d) w p e t v is =
@@ -238,19 +238,19 @@ found_slip run agree (r ▹ d) w p e t v is =
   where
     go : (x : Option Transfer) → accepted d.call ≡ x
         → ((p ≡ r) × (e ≡ d)) ⊎ Within (p ▹ e) r
-        → (Within (p ▹ e) r → accepted e.call ≡ some t → accepted_for r t.account t.number ≡ some t)
-        → first_of t.account t.number x (accepted_for r t.account t.number) ≡ some t
-    go none isd (inl last) rest = impossible (cc (is, isd, last.1))
-    go none isd (inr yet) rest = rest yet is
-    go (some u) isd place rest = pick (is_of t.account t.number u) refl place
+        → (Within (p ▹ e) r → accepted e.call ≡ Some t → accepted_for r t.account t.number ≡ Some t)
+        → first_of t.account t.number x (accepted_for r t.account t.number) ≡ Some t
+    go None isd (inl last) rest = impossible (cc (is, isd, last.1))
+    go None isd (inr yet) rest = rest yet is
+    go (Some u) isd place rest = pick (is_of t.account t.number u) refl place
       where
         pick : (b : Bool) → is_of t.account t.number u ≡ b → ((p ≡ r) × (e ≡ d)) ⊎ Within (p ▹ e) r
-            → cond b (some u) (accepted_for r t.account t.number) ≡ some t
+            → cond b (Some u) (accepted_for r t.account t.number) ≡ Some t
         pick true same place =
             let alike = number_same u t same in
-            ap some (agree r p d e u t w isd (within_trans v w) is alike.0 alike.1)
+            ap Some (agree r p d e u t w isd (within_trans v w) is alike.0 alike.1)
         pick false other (inl last) =
-            let both : some u ≡ some t = sym isd ∙ (ap (λ (x : Event). accepted x.call) (sym last.1) ∙ is) in
+            let both : Some u ≡ Some t = sym isd ∙ (ap (λ (x : Event). accepted x.call) (sym last.1) ∙ is) in
             let same : u ≡ t = cc in
             impossible (cc (other, same_number_lem t t refl refl, same))
         pick false other (inr yet) = rest yet is
@@ -258,8 +258,8 @@ found_slip run agree (r ▹ d) w p e t v is =
 -- equal counts, equal balances
 pub counts_balances : (o : Opening) (run : Run) → Opens o → Obeys o run
     → ((p q : Run) (e d : Event) (t u : Transfer)
-    → Within (p ▹ e) run → accepted e.call ≡ some t
-    → Within (q ▹ d) run → accepted d.call ≡ some u
+    → Within (p ▹ e) run → accepted e.call ≡ Some t
+    → Within (q ▹ d) run → accepted d.call ≡ Some u
     → t.account ≡ u.account → t.number ≡ u.number → t ≡ u)
     → (p q : Run) (s z : Seat) → Within p run → Within q run
     → ((a : Account) → a.0 < o.accounts → (entry_of (ledger_at o s p) a).current ≡ (entry_of (ledger_at o z q) a).current)
@@ -267,7 +267,7 @@ pub counts_balances : (o : Opening) (run : Run) → Opens o → Obeys o run
 unfolding received
 counts_balances o run opens obeys agree p q s z w v equal b =
     let slips = accepted_for run in
-    let known : (r : Run) (e : Event) (t : Transfer) → Within (r ▹ e) run → accepted e.call ≡ some t → accepted_for run t.account t.number ≡ some t =
+    let known : (r : Run) (e : Event) (t : Transfer) → Within (r ▹ e) run → accepted e.call ≡ Some t → accepted_for run t.account t.number ≡ Some t =
     λ r e t. found_slip run agree run at_end r e t in
     let one = all_balanced slips o opens run known s p (obeys_before o obeys w) w in
     let two = all_balanced slips o opens run known z q (obeys_before o obeys v) v in

@@ -1,5 +1,6 @@
 -- Counting seats: two quorums share an honest seat, and a slip with a quorum outnumbers every other
 -- wherever n - f acks are recorded.
+use Rattle.std.specs.Prelude.{Some, None, is_some}
 use Prim.Native.Nat.{ℕ, zero, suc, ◌+◌, ◌*◌, ◌≤◌, ◌<◌}
 use native.Mathlib.Decide.{dec_lt}
 use native.Mathlib.Omega.{arith}
@@ -7,11 +8,11 @@ use mathlib.Core.Path.{◌≡◌, refl, ap, sym, ◌∙◌}
 use mathlib.Core.Bool.{Bool, true, false}
 use mathlib.Core.List.{List, [], ◌∷◌}
 use lib.ListN.{length, get_or}
-use Rattle.laws.specs.Types.{Transfer, Slot, Empty, Full}
+use Rattle.laws.specs.Types.{Transfer, Slot}
 use Rattle.runs.specs.Runs.{count_below}
 use Rattle.model.specs.Basics.{bit, count}
 use Rattle.model.specs.Transfers.{equal}
-use Rattle.model.specs.Acks.{holds, is_full}
+use Rattle.model.specs.Acks.{holds}
 use Rattle.laws.proofs.Sums.{impossible}
 use Rattle.laws.proofs.Equality.{equal_sound, equal_refl}
 
@@ -53,12 +54,12 @@ count_more p n (suc m) le none = go (dec_lt n (suc m)) (count_more p n m)
 -- the votes of two tallies, of which those of seats that are not bad agree
 module _ (bad : ℕ → Bool) (n f : ℕ) (v w : ℕ → Slot)
     (few : count_below bad n ≤ f)
-    (agree : (i : ℕ) (t u : Transfer) → i < n → bad i ≡ false → v i ≡ Full t → w i ≡ Full u → t ≡ u)
+    (agree : (i : ℕ) (t u : Transfer) → i < n → bad i ≡ false → v i ≡ Some t → w i ≡ Some u → t ≡ u)
   where
     -- what a place that holds a slip has
-    held : (t : Transfer) (x : Slot) → holds t x ≡ true → x ≡ Full t
-    held t Empty e = impossible (cc)
-    held t (Full u) e = ap Full (equal_sound u t e)
+    held : (t : Transfer) (x : Slot) → holds t x ≡ true → x ≡ Some t
+    held t None e = impossible (cc)
+    held t (Some u) e = ap Some (equal_sound u t e)
 
     -- a seat votes for different slips only if it is bad
     not_both : (t u : Transfer) → equal t u ≡ false → (i : ℕ) → i < n
@@ -88,22 +89,22 @@ module _ (bad : ℕ → Bool) (n f : ℕ) (v w : ℕ → Slot)
 
     -- a seat that is not bad and voted for t there, and for any slip here, voted for t here
     also_here : (t : Transfer) (i : ℕ) → i < n
-        → bit (holds t (v i)) + bit (is_full (w i)) ≤ 1 + bit (bad i) + bit (holds t (w i))
+        → bit (holds t (v i)) + bit (is_some (w i)) ≤ 1 + bit (bad i) + bit (holds t (w i))
     also_here t i below = go (holds t (v i)) refl (w i) refl (bad i) refl
       where
         go : (x : Bool) → holds t (v i) ≡ x → (y : Slot) → w i ≡ y → (b : Bool) → bad i ≡ b
-            → bit x + bit (is_full y) ≤ 1 + bit b + bit (holds t y)
-        go false e y d b h = omega (arith, bit_most (is_full y))
-        go true e Empty d b h = omega arith
-        go true e (Full u) d true h = omega arith
-        go true e (Full u) d false h =
+            → bit x + bit (is_some y) ≤ 1 + bit b + bit (holds t y)
+        go false e y d b h = omega (arith, bit_most (is_some y))
+        go true e None d b h = omega arith
+        go true e (Some u) d true h = omega arith
+        go true e (Some u) d false h =
             let same : u ≡ t = sym (agree i t u below h (held t (v i) e) d) in
             rw (same, equal_refl t) (omega arith)
 
     -- more votes for t there than half of n + 3f, at least n - f votes here, and none has more of these than u: u is t
     pub quorum_most : (t u : Transfer)
         → n + 3 * f < 2 * count_below (λ i. holds t (v i)) n
-        → n ≤ count_below (λ i. is_full (w i)) n + f
+        → n ≤ count_below (λ i. is_some (w i)) n + f
         → count_below (λ i. holds t (w i)) n ≤ count_below (λ i. holds u (w i)) n
         → t ≡ u
     quorum_most t u many recorded most = go (equal t u) refl
@@ -112,5 +113,5 @@ module _ (bad : ℕ → Bool) (n f : ℕ) (v w : ℕ → Slot)
         go true e = equal_sound t u e
         go false e =
             let apart = count_lift (λ i. holds t (v i)) (λ i. holds u (w i)) bad (λ i. false) n (not_both t u e) in
-            let here = count_lift (λ i. holds t (v i)) (λ i. is_full (w i)) bad (λ i. holds t (w i)) n (also_here t) in
+            let here = count_lift (λ i. holds t (v i)) (λ i. is_some (w i)) bad (λ i. holds t (w i)) n (also_here t) in
             absurd (omega (arith, count_never n))

@@ -1,12 +1,12 @@
 -- What happened at a message of a run; and every ledger that an opening and calls can make is sound, with no premises
 -- on the run. By this, three ways to show what holds of a seat's ledger in a run, each from what a message does to a
 -- sound ledger: at every place (`run_induction`), from a place on (`stays`), and of every earlier call (`past_calls`).
+use Rattle.std.specs.Prelude.{Some}
 use Prim.Native.Nat.{ℕ}
 use mathlib.Core.Path.{◌≡◌, refl, ap, sym, subst, ◌∙◌}
 use mathlib.Core.Logic.{◌⊎◌, inl, inr}
 use mathlib.Core.Bool.{false}
 use mathlib.Core.List.{List}
-use mathlib.Core.Option.{some}
 use Rattle.laws.specs.Types.{Seat, Transfer, Ledger, Opening, Message, Reply, Propose, ListReply}
 use Rattle.runs.specs.Runs.{Opens, Call, message, waiting_list, switch, Event, Run, start, ◌▹◌, Within, at_end, sooner, same_seat, rules_at, ledger_at, Conforms, Obeys, proposed}
 use Rattle.agreement.proofs.Places.{started_under, the_start, nothing_yet, last_or_sooner, seat_self, obeys_at, one_event, ledger_induction}
@@ -27,7 +27,7 @@ happened_at o {p} {e = e} m q obeys w is =
     (subst (Conforms (rules_at e.at p) (ledger_at o e.at p)) is (obeys_at o obeys w))
 
 -- what a call did that put u forward: the message, and why, on a tally or late
-pub put_forward : (o : Opening) {p r : Run} {e : Event} (u : Transfer) → Obeys o r → Within (p ▹ e) r → proposed e.call ≡ some u
+pub put_forward : (o : Opening) {p r : Run} {e : Event} (u : Transfer) → Obeys o r → Within (p ▹ e) r → proposed e.call ≡ Some u
     → (m : Message) × (next : Ledger) × (e.call ≡ message m (Propose u))
     × (Proposes (ledger_at o e.at p) m u next ⊎ ProposesLate (rules_at e.at p) (ledger_at o e.at p) m u next)
 put_forward o {e = e} u obeys w is =

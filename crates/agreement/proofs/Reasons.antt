@@ -1,12 +1,12 @@
 -- Why a slip waits at a seat, or is retained, and why a number was booked: a call there accepted it.
+use Rattle.std.specs.Prelude.{Some}
 use Prim.Native.Nat.{ℕ, ◌≤◌}
 use native.Mathlib.Decide.{ℕ_discrete}
 use native.Mathlib.Omega.{arith}
 use mathlib.Core.Path.{◌≡◌, refl, ap, sym, subst, ◌∙◌}
 use mathlib.Core.Logic.{◌⊎◌, inl, inr}
 use mathlib.Core.Bool.{Bool, true, ◌&&◌}
-use mathlib.Core.Option.{some}
-use Rattle.laws.specs.Types.{Seat, Account, Transfer, Full, Entry, Ledger, Opening, Message, Decision, Reply, Accept}
+use Rattle.laws.specs.Types.{Seat, Account, Transfer, Entry, Ledger, Opening, Message, Decision, Reply, Accept}
 use Rattle.runs.specs.Runs.{Opens, message, waiting_list, switch, Event, Run, ◌▹◌, Within, at_end, sooner, same_seat, ledger_at, Obeys, accepted, ruled, passes}
 use Rattle.runs.specs.Facts.{accepted_by, taken, ruled_for}
 use Rattle.agreement.proofs.Places.{happened_holds, happened_later, seat_self}
@@ -41,15 +41,15 @@ module _ (o : Opening) (opens : Opens o) (s : Seat) where
 
   -- and so of whatever waits in an account's entry, of each number up to its current one, and of what it retains
   pub record Reasons (r : Run) (a : Account) (e : Entry) : Type 0 where
-    pub why_waits : (t : Transfer) → e.pending ≡ Full t → Reason r e t
+    pub why_waits : (t : Transfer) → e.pending ≡ Some t → Reason r e t
     pub why_booked : (m : ℕ) → 1 ≤ m → m ≤ e.current → WasAccepted r a m
-    pub why_retained : (t : Transfer) → e.retained ≡ Full t → accepted_by s t r ≡ true
+    pub why_retained : (t : Transfer) → e.retained ≡ Some t → accepted_by s t r ≡ true
 
   -- reasons stay reasons where acks, current and the waiting slip stay, and there is one for what is
   -- retained, at the same place or later
   reasons_stay : (r r' : Run) (a : Account) (e e' : Entry) → Within r r'
       → e'.acks ≡ e.acks → e'.current ≡ e.current → e'.pending ≡ e.pending
-      → ((t : Transfer) → e'.retained ≡ Full t → accepted_by s t r ≡ true) → Reasons r a e → Reasons r' a e'
+      → ((t : Transfer) → e'.retained ≡ Some t → accepted_by s t r ≡ true) → Reasons r a e → Reasons r' a e'
   reasons_stay r r' a e e' w acks current pending retained why =
       record {
         why_waits = λ t waits. stays t (why.why_waits t (sym pending ∙ waits));
@@ -68,7 +68,7 @@ module _ (o : Opening) (opens : Opens o) (s : Seat) where
           go (inr ruling) = inr (happened_later (is_ruled t) {p = r} {r = r'} w ruling)
 
   -- where its waiting slip is booked, its number has a reason too
-  booked_reasons : (r : Run) (a : Account) (e e' : Entry) (t : Transfer) → SoundEntry o a e → e.pending ≡ Full t → Cleared t e e'
+  booked_reasons : (r : Run) (a : Account) (e e' : Entry) (t : Transfer) → SoundEntry o a e → e.pending ≡ Some t → Cleared t e e'
       → Reasons r a e → Reasons r a e'
   booked_reasons r a e e' t stands waits clear why =
       record {
@@ -86,7 +86,7 @@ module _ (o : Opening) (opens : Opens o) (s : Seat) where
     now : Run
     now = r ▹ record { at = s; call = message m q }
 
-    now_accepted : (t : Transfer) → accepted (message m q) ≡ some t → accepted_by s t now ≡ true
+    now_accepted : (t : Transfer) → accepted (message m q) ≡ Some t → accepted_by s t now ≡ true
     unfolding now
     now_accepted t is =
         happened_holds (is_accepted t) {p = r} {r = r ▹ record { at = s; call = message m q }} {e = record { at = s; call = message m q }} at_end
@@ -114,8 +114,8 @@ module _ (o : Opening) (opens : Opens o) (s : Seat) where
 
         -- an entry that a call puts has the same current number
         known : (t : Transfer) (x : Entry) → x.current ≡ (entry_of l t.account).current
-            → ((u : Transfer) → x.retained ≡ Full u → ((entry_of l t.account).retained ≡ Full u) ⊎ (accepted_by s u now ≡ true))
-            → ((u : Transfer) → x.pending ≡ Full u → Reason now x u) → Reasons now t.account x
+            → ((u : Transfer) → x.retained ≡ Some u → ((entry_of l t.account).retained ≡ Some u) ⊎ (accepted_by s u now ≡ true))
+            → ((u : Transfer) → x.pending ≡ Some u → Reason now x u) → Reasons now t.account x
         known t x same retains waits =
             record {
               why_waits = waits;
@@ -123,16 +123,16 @@ module _ (o : Opening) (opens : Opens o) (s : Seat) where
               why_retained = λ u h. go u (retains u h);
             }
           where
-            go : (u : Transfer) → ((entry_of l t.account).retained ≡ Full u) ⊎ (accepted_by s u now ≡ true) → accepted_by s u now ≡ true
+            go : (u : Transfer) → ((entry_of l t.account).retained ≡ Some u) ⊎ (accepted_by s u now ≡ true) → accepted_by s u now ≡ true
             go u (inl before) = (later t.account).why_retained u before
             go u (inr this) = this
 
         -- what the rules retain where t is accepted is what was retained, or t
-        newly : (e : Entry) (t : Transfer) → accepted (message m q) ≡ some t
-            → (u : Transfer) → (retain_under v e t).retained ≡ Full u → (e.retained ≡ Full u) ⊎ (accepted_by s u now ≡ true)
+        newly : (e : Entry) (t : Transfer) → accepted (message m q) ≡ Some t
+            → (u : Transfer) → (retain_under v e t).retained ≡ Some u → (e.retained ≡ Some u) ⊎ (accepted_by s u now ≡ true)
         newly e t is u h = go (retained_or v e t u h)
           where
-            go : (e.retained ≡ Full u) ⊎ (t ≡ u) → (e.retained ≡ Full u) ⊎ (accepted_by s u now ≡ true)
+            go : (e.retained ≡ Some u) ⊎ (t ≡ u) → (e.retained ≡ Some u) ⊎ (accepted_by s u now ≡ true)
             go (inl before) = inl before
             go (inr this) = inr (subst (λ w. accepted_by s w now ≡ true) this (now_accepted t is))
 
@@ -190,7 +190,7 @@ module _ (o : Opening) (opens : Opens o) (s : Seat) where
           reasons_stay r (r ▹ record { at = s; call = switch }) a x (takes_over v x) (sooner at_end) (ap (λ (y : Entry). y.acks) same)
           (ap (λ (y : Entry). y.current) same) (ap (λ (y : Entry). y.pending) same) (λ t h. go t (takes_over_from v x t h)) old
         where
-          go : (t : Transfer) → (x.retained ≡ Full t) ⊎ (x.pending ≡ Full t) → accepted_by s t r ≡ true
+          go : (t : Transfer) → (x.retained ≡ Some t) ⊎ (x.pending ≡ Some t) → accepted_by s t r ≡ true
           go t (inl before) = old.why_retained t before
           go t (inr waits) = (old.why_waits t waits).was_accepted
 

@@ -1,13 +1,13 @@
 -- What a seat retains, and what it puts forward: under the rules since request 5 the latest accepted slip, before them
 -- nothing; and at most one slip, one time, for an account and number.
+use Rattle.std.specs.Prelude.{Some, None}
 use Prim.Native.Nat.{ℕ, ◌+◌, ◌≤◌, ◌<◌}
 use native.Mathlib.Omega.{arith}
 use mathlib.Core.Path.{◌≡◌, refl, ap, sym, subst, ◌∙◌}
 use mathlib.Core.Logic.{◌⊎◌, inl, inr}
 use mathlib.Core.Bool.{true}
-use mathlib.Core.Option.{some}
 use lib.ListN.{length}
-use Rattle.laws.specs.Types.{Seat, Account, Transfer, Slot, Empty, Full, Entry, Ledger, Opening, Message, Reply, Propose}
+use Rattle.laws.specs.Types.{Seat, Account, Transfer, Slot, Entry, Ledger, Opening, Message, Reply, Propose}
 use Rattle.runs.specs.Runs.{Opens, Call, message, waiting_list, switch, Event, Run, ◌▹◌, Within, at_end, sooner, same_seat, rules_at, ledger_at, Obeys, accepted, proposed, passes}
 use Rattle.runs.proofs.Found.{happened_found}
 use Rattle.runs.specs.Facts.{puts_for, proposed_for}
@@ -31,7 +31,7 @@ use Rattle.laws.proofs.Switching.{takes_over, switched_entry}
 use Rattle.laws.proofs.Steps.{Eligible, entry_with_ack, waiting_under, Happens}
 
 -- a slip of the next number, where nothing waits, is not retained
-none_next : (o : Opening) (l : Ledger) (t u : Transfer) → Group o → Sound o l → Eligible l t → (entry_of l t.account).retained ≡ Full u
+none_next : (o : Opening) (l : Ledger) (t u : Transfer) → Group o → Sound o l → Eligible l t → (entry_of l t.account).retained ≡ Some u
     → u.number ≡ t.number → ⊥
 none_next o l t u g ok fit held number =
     omega (
@@ -43,9 +43,9 @@ none_next o l t u g ok fit held number =
 -- What an entry retains under a set of rules: something since request 5 alone, and then what waits, if anything
 -- does, or else what was booked last.
 pub record Latest (v : Rules) (e : Entry) : Type 0 where
-  pub slip : (t : Transfer) → e.retained ≡ Full t
-      → (v ≡ since_request5) × ((e.pending ≡ Full t) ⊎ ((e.pending ≡ Empty) × (t.number ≡ e.current)))
-  pub waiting : v ≡ since_request5 → (t : Transfer) → e.pending ≡ Full t → e.retained ≡ Full t
+  pub slip : (t : Transfer) → e.retained ≡ Some t
+      → (v ≡ since_request5) × ((e.pending ≡ Some t) ⊎ ((e.pending ≡ None) × (t.number ≡ e.current)))
+  pub waiting : v ≡ since_request5 → (t : Transfer) → e.pending ≡ Some t → e.retained ≡ Some t
   pub mark : e.retained_proposed ≡ true → v ≡ since_request5
 
 -- where a slip is accepted
@@ -67,15 +67,15 @@ taken_latest first_rules e old =
 taken_latest since_request3 e old =
     record { slip = λ t h. go t e.pending refl h; waiting = λ since t h. waits t e.pending refl h; mark = λ h. refl }
   where
-    waits : (t : Transfer) (p : Slot) → e.pending ≡ p → (retains_from p e).pending ≡ Full t → (retains_from p e).retained ≡ Full t
-    waits t Empty is h = impossible (cc)
-    waits t (Full u) is h = sym is ∙ h
+    waits : (t : Transfer) (p : Slot) → e.pending ≡ p → (retains_from p e).pending ≡ Some t → (retains_from p e).retained ≡ Some t
+    waits t None is h = impossible (cc)
+    waits t (Some u) is h = sym is ∙ h
 
-    go : (t : Transfer) (p : Slot) → e.pending ≡ p → (retains_from p e).retained ≡ Full t
+    go : (t : Transfer) (p : Slot) → e.pending ≡ p → (retains_from p e).retained ≡ Some t
         → (since_request5 ≡ since_request5)
-        × (((retains_from p e).pending ≡ Full t) ⊎ (((retains_from p e).pending ≡ Empty) × (t.number ≡ (retains_from p e).current)))
-    go t Empty is h = impossible (cc)
-    go t (Full u) is h = (refl, inl (is ∙ h))
+        × (((retains_from p e).pending ≡ Some t) ⊎ (((retains_from p e).pending ≡ None) × (t.number ≡ (retains_from p e).current)))
+    go t None is h = impossible (cc)
+    go t (Some u) is h = (refl, inl (is ∙ h))
 taken_latest since_request5 e old = old
 
 step_latest : (v : Rules) (o : Opening) (l next : Ledger) (m : Message) (r : Reply) → Group o → Sound o l → Happens v l m r next
@@ -94,7 +94,7 @@ step_latest v o l next m r g ok h old =
           mark = λ this. was.mark (sym mark ∙ this);
         }
 
-    booked : (a : Account) (e e' : Entry) (t : Transfer) → SoundEntry o a e → e.pending ≡ Full t → Cleared t e e' → Latest v e → Latest v e'
+    booked : (a : Account) (e e' : Entry) (t : Transfer) → SoundEntry o a e → e.pending ≡ Some t → Cleared t e e' → Latest v e → Latest v e'
     booked a e e' t stands waits clear was =
         record {
           slip = λ u this. let found = was.slip u (sym clear.retained_same ∙ this) in (found.0, inr (clear.none_pending, number u found.1));
@@ -102,9 +102,9 @@ step_latest v o l next m r g ok h old =
           mark = λ this. was.mark (sym clear.late_same ∙ this);
         }
       where
-        number : (u : Transfer) → (e.pending ≡ Full u) ⊎ ((e.pending ≡ Empty) × (u.number ≡ e.current)) → u.number ≡ e'.current
+        number : (u : Transfer) → (e.pending ≡ Some u) ⊎ ((e.pending ≡ None) × (u.number ≡ e.current)) → u.number ≡ e'.current
         number u (inl that) = let same : t ≡ u = cc in ap (λ (x : Transfer). x.number) (sym same) ∙ sym clear.current_is
-        number u (inr none) = impossible (cc (none.0, waits))
+        number u (inr missing) = impossible (cc (missing.0, waits))
 
     puts : (t : Transfer) (x : Entry) → Puts v l m r t x → Latest v x
     puts t x (puts_mark e f fit is) = rw is (as_before (entry_of l t.account) _ refl refl refl refl (old t.account))
@@ -127,7 +127,7 @@ module _ (o : Opening) (opens : Opens o) (s : Seat) where
 -- The slip is the latest that was accepted under the rules since request 5, and is
 -- retained; or a later one was accepted.
 abbrev Retains : Transfer → Entry → Type 0
-Retains t e = (t.number < e.current + bit (is_waiting e)) ⊎ (e.retained ≡ Full t)
+Retains t e = (t.number < e.current + bit (is_waiting e)) ⊎ (e.retained ≡ Some t)
 
 retains_step : (v : Rules) (o : Opening) (l next : Ledger) (m : Message) (r : Reply) (t : Transfer) → Group o → Sound o l → v ≡ since_request5 → Happens v l m r next
     → (a : Account) → Retains t (entry_of l a) → Retains t (entry_of next a)
@@ -140,7 +140,7 @@ retains_step v o l next m r t g ok since =
     on_balance : (e e' : Entry) → SameButBalance e e' → Retains t e → Retains t e'
     on_balance e e' same old = rw same old
 
-    on_booked : (a : Account) (e e' : Entry) (u : Transfer) → SoundEntry o a e → e.pending ≡ Full u → Cleared u e e' → Retains t e → Retains t e'
+    on_booked : (a : Account) (e e' : Entry) (u : Transfer) → SoundEntry o a e → e.pending ≡ Some u → Cleared u e e' → Retains t e → Retains t e'
     on_booked a e e' u stands waits clear (inl past) =
         let waited : bit (is_waiting e) ≡ 1 = rw waits in
         inl (omega (arith, clear.current_is, (stands.pending_stands u waits).1))
@@ -178,9 +178,9 @@ since_5 since_request5 h = refl
 module _ (o : Opening) (opens : Opens o) (run : Run) (obeys : Obeys o run) where
   -- for as long as it is the latest
   pub retains_latest : (p q : Run) (e : Event) (t : Transfer) → Within (p ▹ e) q → Within q run
-      → accepted e.call ≡ some t → rank since_request5 ≤ rank (rules_at e.at p)
+      → accepted e.call ≡ Some t → rank since_request5 ≤ rank (rules_at e.at p)
       → t.number ≡ (entry_of (ledger_at o e.at q) t.account).current + bit (is_waiting (entry_of (ledger_at o e.at q) t.account))
-      → (entry_of (ledger_at o e.at q) t.account).retained ≡ Full t
+      → (entry_of (ledger_at o e.at q) t.account).retained ≡ Some t
   retains_latest p q e t w v is above number = end (stays o opens s P switches steps (obeys_before o obeys v) w at_first).1
     where
       s : Seat
@@ -209,14 +209,14 @@ module _ (o : Opening) (opens : Opens o) (run : Run) (obeys : Obeys o run) where
                 (just_retained (rules_at s p) o (ledger_at o s p) _ call.0 call.1 t (group o opens) ok since (sym (ap accepted call.2) ∙ is) happens)),
           )
 
-      end : Retains t (entry_of (ledger_at o s q) t.account) → (entry_of (ledger_at o s q) t.account).retained ≡ Full t
+      end : Retains t (entry_of (ledger_at o s q) t.account) → (entry_of (ledger_at o s q) t.account).retained ≡ Some t
       end (inl later_one) = absurd (omega arith)
       end (inr held) = held
 
 -- the next number's mark is set, or, since request 5, the number is retained
 abbrev MarkedOrRetained : ℕ → Rules → Entry → Type 0
 MarkedOrRetained number v e =
-    (e.proposed ≡ true) ⊎ ((v ≡ since_request5) × (u : Transfer) × (e.retained ≡ Full u) × (u.number ≡ number))
+    (e.proposed ≡ true) ⊎ ((v ≡ since_request5) × (u : Transfer) × (e.retained ≡ Some u) × (u.number ≡ number))
 
 -- A number is used up in an entry, under a set of rules: something was put forward for it, so nothing is any
 -- more. It is not above the next; if it is the next, its mark is set, or, since request 5, it is retained; and if
@@ -224,7 +224,7 @@ MarkedOrRetained number v e =
 pub record UsedUp (number : ℕ) (v : Rules) (e : Entry) : Type 0 where
   pub not_above : number ≤ e.current + 1
   pub next_marked : number ≡ e.current + 1 → MarkedOrRetained number v e
-  pub late_marked : (u : Transfer) → e.retained ≡ Full u → u.number ≡ number → e.retained_proposed ≡ true
+  pub late_marked : (u : Transfer) → e.retained ≡ Some u → u.number ≡ number → e.retained_proposed ≡ true
 
 -- an entry of the same number with the same or more marks
 still_used : (number : ℕ) (v : Rules) (e e' : Entry) → e'.current ≡ e.current → (e.proposed ≡ true → e'.proposed ≡ true) → e'.retained ≡ e.retained
@@ -243,7 +243,7 @@ still_used number v e e' current marked retained late old =
 -- a slip of the next number is accepted, where only a number that has been booked is
 -- retained: it is retained with its mark
 accepted_used : (number : ℕ) (v : Rules) (e : Entry) (t : Transfer) → t.number ≡ e.current + 1
-    → ((u : Transfer) → e.retained ≡ Full u → u.number ≡ t.number → ⊥) → UsedUp number v e → UsedUp number v (waiting_under v e t)
+    → ((u : Transfer) → e.retained ≡ Some u → u.number ≡ t.number → ⊥) → UsedUp number v e → UsedUp number v (waiting_under v e t)
 accepted_used number first_rules e t next none_held old = still_used number first_rules e (waiting_under first_rules e t) refl (λ h. h) refl (λ h. h) old
 accepted_used number since_request3 e t next none_held old = still_used number since_request3 e (waiting_under since_request3 e t) refl (λ h. h) refl (λ h. h) old
 accepted_used number since_request5 e t next none_held old =
@@ -278,9 +278,9 @@ taken_used number o a since_request3 e ok old = go e.pending refl
         pick (inr (since, u, held, this)) = impossible (cc)
 
     go : (p : Slot) → e.pending ≡ p → UsedUp number since_request5 (retains_from p e)
-    go Empty is =
+    go None is =
         record { not_above = old.not_above; next_marked = λ next. inl (marked next); late_marked = λ u h this. impossible (cc) }
-    go (Full t) is =
+    go (Some t) is =
         record {
           not_above = old.not_above;
           next_marked = λ next. inl (marked next);
@@ -299,7 +299,7 @@ used_step v number o l next m r g ok =
     (λ a e e' t stands waits clear was old. on_booked a e e' t stands waits clear (was old))
     (λ a old. old) puts
   where
-    on_booked : (a : Account) (e e' : Entry) (t : Transfer) → SoundEntry o a e → e.pending ≡ Full t → Cleared t e e' → UsedUp number v e → UsedUp number v e'
+    on_booked : (a : Account) (e e' : Entry) (t : Transfer) → SoundEntry o a e → e.pending ≡ Some t → Cleared t e e' → UsedUp number v e → UsedUp number v e'
     on_booked a e e' t stands waits clear old =
         let current : e'.current ≡ e.current + 1 = clear.current_is ∙ (stands.pending_stands t waits).1 in
         record {
@@ -323,7 +323,7 @@ used_step v number o l next m r g ok =
 
 module _ (o : Opening) (opens : Opens o) where
   abbrev Spent : Call → Rules → Ledger → Type 0
-  Spent c v l = (u : Transfer) → proposed c ≡ some u → UsedUp u.number v (entry_of l u.account)
+  Spent c v l = (u : Transfer) → proposed c ≡ Some u → UsedUp u.number v (entry_of l u.account)
 
   -- the call that puts something forward uses its number up
   now_used : (v : Rules) (l next : Ledger) (m : Message) (q : Reply) → Sound o l → Happens v l m q next → Spent (message m q) v next
@@ -355,7 +355,7 @@ module _ (o : Opening) (opens : Opens o) where
             late_marked = λ w held this. refl;
           })
         where
-          number : ((entry_of l late.slip.account).pending ≡ Full u) ⊎ (u.number ≤ (entry_of l late.slip.account).current)
+          number : ((entry_of l late.slip.account).pending ≡ Some u) ⊎ (u.number ≤ (entry_of l late.slip.account).current)
               → u.number ≤ (entry_of l late.slip.account).current + 1
           number (inl waits) = omega (arith, ((ok.each late.slip.account).pending_stands u waits).1)
           number (inr past) = omega arith
@@ -370,7 +370,7 @@ module _ (o : Opening) (opens : Opens o) where
   module _ (run : Run) (obeys : Obeys o run) where
     -- and nothing more is put forward for it
     none_more : (p q : Run) (e d : Event) (t u : Transfer) → Within (q ▹ d) run → Within (p ▹ e) q → e.at ≡ d.at
-        → proposed e.call ≡ some t → proposed d.call ≡ some u → t.account ≡ u.account → t.number ≡ u.number → ⊥
+        → proposed e.call ≡ Some t → proposed d.call ≡ Some u → t.account ≡ u.account → t.number ≡ u.number → ⊥
     none_more p q e d t u w first seat ist isu account number =
         go (put_forward o u obeys w isu).3
       where
@@ -408,13 +408,13 @@ module _ (o : Opening) (opens : Opens o) where
 
     -- at most one slip, and at most one time
     pub proposed_once : (p q : Run) (e d : Event) (t u : Transfer) → Within (p ▹ e) run → Within (q ▹ d) run → e.at ≡ d.at
-        → proposed e.call ≡ some t → proposed d.call ≡ some u → t.account ≡ u.account → t.number ≡ u.number
+        → proposed e.call ≡ Some t → proposed d.call ≡ Some u → t.account ≡ u.account → t.number ≡ u.number
         → (t ≡ u) × (p ≡ q) × (e ≡ d)
     proposed_once p q e d t u w v seat ist isu account number = go (order run w v)
       where
         go : Order p q e d → (t ≡ u) × (p ≡ q) × (e ≡ d)
         go (same_event place event) =
-            let both : some t ≡ some u = sym ist ∙ (ap (λ (x : Event). proposed x.call) event ∙ isu) in
+            let both : Some t ≡ Some u = sym ist ∙ (ap (λ (x : Event). proposed x.call) event ∙ isu) in
             (cc, place, event)
         go (earlier first) = absurd (none_more p q e d t u v first seat ist isu account number)
         go (later first) = absurd (none_more q p d e u t w first (sym seat) isu ist (sym account) (sym number))
@@ -423,7 +423,7 @@ module _ (o : Opening) (opens : Opens o) where
 module _ (o : Opening) (opens : Opens o) (s : Seat) where
   record Marked (r : Run) (a : Account) (e : Entry) : Type 0 where
     pub next_why : e.proposed ≡ true → (t : Transfer) → t.account ≡ a → t.number ≡ e.current + 1 → proposed_for s t r ≡ true
-    pub retained_why : (t : Transfer) → e.retained ≡ Full t → e.retained_proposed ≡ true → proposed_for s t r ≡ true
+    pub retained_why : (t : Transfer) → e.retained ≡ Some t → e.retained_proposed ≡ true → proposed_for s t r ≡ true
 
   -- the same marks of the same numbers, at the same place or later
   marks_stay : (r r' : Run) (a : Account) (e e' : Entry) → Within r r' → e'.current ≡ e.current → e'.proposed ≡ e.proposed → e'.retained ≡ e.retained
@@ -451,8 +451,8 @@ module _ (o : Opening) (opens : Opens o) (s : Seat) where
   taken_marked r since_request3 a e ok why = go e.pending refl
     where
       go : (p : Slot) → e.pending ≡ p → Marked r a (retains_from p e)
-      go Empty is = record { next_why = why.next_why; retained_why = λ t held h. impossible (cc) }
-      go (Full t) is =
+      go None is = record { next_why = why.next_why; retained_why = λ t held h. impossible (cc) }
+      go (Some t) is =
           let stands = ok.pending_stands t is in
           record {
             next_why = why.next_why;
@@ -534,7 +534,7 @@ module _ (o : Opening) (opens : Opens o) (s : Seat) where
           → UsedUp u.number (rules_at s r) (entry_of (ledger_at o s r) u.account) → UsedUp t.number (rules_at s r) (entry_of (ledger_at o s r) t.account)
       moved u account number used = rw (account, number) used
 
-  pub retained_marked : (r : Run) → Obeys o r → (a : Account) (t : Transfer) → (entry_of (ledger_at o s r) a).retained ≡ Full t
+  pub retained_marked : (r : Run) → Obeys o r → (a : Account) (t : Transfer) → (entry_of (ledger_at o s r) a).retained ≡ Some t
       → (entry_of (ledger_at o s r) a).retained_proposed ≡ proposed_for s t r
   retained_marked r obeys a t held = same_test _ _ ((marked r obeys a).retained_why t held) back
     where
@@ -545,7 +545,7 @@ module _ (o : Opening) (opens : Opens o) (s : Seat) where
           used.late_marked t held refl
 
   pub next_marked : (r : Run) → Obeys o r → (t : Transfer) → t.number ≡ (entry_of (ledger_at o s r) t.account).current + 1
-      → (entry_of (ledger_at o s r) t.account).pending ≡ Empty → (entry_of (ledger_at o s r) t.account).proposed ≡ proposed_for s t r
+      → (entry_of (ledger_at o s r) t.account).pending ≡ None → (entry_of (ledger_at o s r) t.account).proposed ≡ proposed_for s t r
   next_marked r obeys t next none_waits = same_test _ _ (λ h. (marked r obeys t.account).next_why h t refl next) back
     where
       e : Entry

@@ -1,15 +1,15 @@
 -- Settling a ledger's entries and letting slips leave a slate do the same.
+use Rattle.std.specs.Prelude.{Option, Some, None}
 use Prim.Native.Nat.{ℕ, zero, suc, ◌+◌, ◌≤◌, ◌<◌}
 use native.Mathlib.Decide.{ℕ_discrete, dec_lt}
 use native.Mathlib.Omega.{arith}
 use mathlib.Core.Path.{◌≡◌, refl, ap, ◌∙◌}
 use mathlib.Core.Bool.{Bool, true, false, cond}
 use mathlib.Core.List.{List, [], ◌∷◌}
-use mathlib.Core.Option.{Option, none, some}
 use lib.Dec.{leb}
 use lib.ListN.{length}
 use borrow.Author.Tests.{leb-true, leb-false, le-leb, eq-eqb, ne_eqb}
-use Rattle.laws.specs.Types.{Account, Transfer, Slot, Empty, Full, Entry}
+use Rattle.laws.specs.Types.{Account, Transfer, Slot, Entry}
 use Rattle.runs.specs.Slates.{Slate, covered, lower, lowest, without, leave, leave_at_most, leave_all, join}
 use Rattle.model.specs.Basics.{bit, count}
 use Rattle.model.specs.Records.{account_of, entry_at, set_entry, with_pending}
@@ -75,8 +75,8 @@ record LowestOf (p : Transfer → Bool) (ts : List Transfer) (t : Transfer) : Ty
   least : (u : Transfer) → Among u ts → p u ≡ true → t.account.0 ≤ u.account.0
 
 abbrev Searched : (Transfer → Bool) → List Transfer → Option Transfer → Type 0
-Searched p ts none = (u : Transfer) → Among u ts → p u ≡ true → ⊥
-Searched p ts (some t) = LowestOf p ts t
+Searched p ts None = (u : Transfer) → Among u ts → p u ≡ true → ⊥
+Searched p ts (Some t) = LowestOf p ts t
 
 searched : (p : Transfer → Bool) (ts : List Transfer) → Searched p ts (lowest p ts)
 searched p [] = λ u among pass. absurd (omega arith)
@@ -86,21 +86,21 @@ searched p (v ∷ vs) = go (p v) refl (lowest p vs) (searched p vs)
     AtMost : Transfer → Transfer → Type 0
     AtMost w u = w.account.0 ≤ u.account.0
 
-    go : (b : Bool) → p v ≡ b → (o : Option Transfer) → Searched p vs o → Searched p (v ∷ vs) (cond b (some (lower v o)) o)
-    go false h none rest = among_all p (λ u. ⊥) v vs (λ pass. impossible (cc)) rest
-    go false h (some t) rest =
+    go : (b : Bool) → p v ≡ b → (o : Option Transfer) → Searched p vs o → Searched p (v ∷ vs) (cond b (Some (lower v o)) o)
+    go false h None rest = among_all p (λ u. ⊥) v vs (λ pass. impossible (cc)) rest
+    go false h (Some t) rest =
         record {
           among = among_rest t v vs rest.among;
           passes = rest.passes;
           least = among_all p (AtMost t) v vs (λ pass. impossible (cc)) rest.least;
         }
-    go true h none rest =
+    go true h None rest =
         record {
           among = among_first v vs;
           passes = h;
           least = among_all p (AtMost v) v vs (λ pass. omega arith) (λ u among pass. absurd (rest u among pass));
         }
-    go true h (some t) rest = choose (leb v.account.0 t.account.0) refl
+    go true h (Some t) rest = choose (leb v.account.0 t.account.0) refl
       where
         choose : (c : Bool) → leb v.account.0 t.account.0 ≡ c → LowestOf p (v ∷ vs) (cond c v t)
         choose true e =
@@ -119,7 +119,7 @@ searched p (v ∷ vs) = go (p v) refl (lowest p vs) (searched p vs)
             }
 
 -- none of the waiting slips is covered: the slate stays
-leave_none : (s : Slate) → lowest (covered s) s.waiting ≡ none → leave_all s ≡ s
+leave_none : (s : Slate) → lowest (covered s) s.waiting ≡ None → leave_all s ≡ s
 unfolding leave_all leave_at_most
 leave_none s e = go (length s.waiting)
   where
@@ -128,7 +128,7 @@ leave_none s e = go (length s.waiting)
     go (suc n) = rw (e, leave_at_most)
 
 -- otherwise the lowest leaves, and it goes on with one fewer slip that waits
-leave_some : (s : Slate) (t : Transfer) → Among t s.waiting → lowest (covered s) s.waiting ≡ some t
+leave_some : (s : Slate) (t : Transfer) → Among t s.waiting → lowest (covered s) s.waiting ≡ Some t
     → leave_all s ≡ leave_all (leave s t)
 unfolding leave_all leave_at_most
 leave_some s t among e = rw (without_length t s.waiting among, e, leave_at_most)
@@ -142,7 +142,7 @@ pub record Matches (es : List Entry) (s : Slate) : Type 0 where
 
 -- every waiting slip stands in its payer's entry
 abbrev pub OwnWaits : List Entry → Type 0
-OwnWaits es = (a : Account) (t : Transfer) → (entry_at es a).pending ≡ Full t → t.account ≡ a
+OwnWaits es = (a : Account) (t : Transfer) → (entry_at es a).pending ≡ Some t → t.account ≡ a
 
 -- where no balance, current number or waiting slip changes, the slate still matches
 pub quiet_matches : (es es' : List Entry) (s : Slate)
@@ -161,7 +161,7 @@ quiet_matches es es' s same m =
 -- a slip is accepted: it waits in its payer's entry, and among the slate's
 pub join_matches : (es : List Entry) (s : Slate) (e : Entry) (t : Transfer)
     → t.account.0 < length es
-    → (entry_at es t.account).pending ≡ Empty
+    → (entry_at es t.account).pending ≡ None
     → e.balance ≡ (entry_at es t.account).balance
     → e.current ≡ (entry_at es t.account).current
     → Matches es s → Matches (set_entry es t.account (with_pending e t)) (join s t)
@@ -192,40 +192,40 @@ join_matches es s e t inside free balance current m =
     waits : (u : Transfer) → Dec (u.account.0 ≡ t.account.0)
         → count (equal u) (t ∷ s.waiting) ≡ bit (holds u (entry_at es' u.account).pending)
     waits u (yes same) =
-        let before : (entry_at es u.account).pending ≡ Empty = rw same free in
+        let before : (entry_at es u.account).pending ≡ None = rw same free in
         rw (here u.account same, equal_sym u t) (omega (arith, rw before at (m.waiting_is u)))
     waits u (no other) = rw (elsewhere u.account other, equal_apart u t other) (omega (arith, m.waiting_is u))
 
 -- what entries and slate that match say of the slips
 module _ (es : List Entry) (s : Slate) (m : Matches es s) where
   -- a slip among the slate's waits in its payer's entry
-  waits_in : (t : Transfer) → Among t s.waiting → (entry_at es t.account).pending ≡ Full t
+  waits_in : (t : Transfer) → Among t s.waiting → (entry_at es t.account).pending ≡ Some t
   waits_in t among = go (entry_at es t.account).pending refl
     where
-      go : (slot : Slot) → (entry_at es t.account).pending ≡ slot → (entry_at es t.account).pending ≡ Full t
-      go Empty e = absurd (omega (arith, rw e at (m.waiting_is t)))
-      go (Full u) e = held (equal u t) refl
+      go : (slot : Slot) → (entry_at es t.account).pending ≡ slot → (entry_at es t.account).pending ≡ Some t
+      go None e = absurd (omega (arith, rw e at (m.waiting_is t)))
+      go (Some u) e = held (equal u t) refl
         where
-          held : (b : Bool) → equal u t ≡ b → (entry_at es t.account).pending ≡ Full t
-          held true h = e ∙ ap Full (equal_sound u t h)
+          held : (b : Bool) → equal u t ≡ b → (entry_at es t.account).pending ≡ Some t
+          held true h = e ∙ ap Some (equal_sound u t h)
           held false h = absurd (omega (arith, rw (e, h) at (m.waiting_is t)))
 
   -- and one that waits in its payer's entry is among the slate's
-  among_waiting : (t : Transfer) → (entry_at es t.account).pending ≡ Full t → Among t s.waiting
+  among_waiting : (t : Transfer) → (entry_at es t.account).pending ≡ Some t → Among t s.waiting
   among_waiting t h = rw (m.waiting_is t, h, equal_refl t) (omega arith)
 
   -- the slate covers it if and only if its payer's entry does
-  covered_is : (t : Transfer) → (entry_at es t.account).pending ≡ Full t
+  covered_is : (t : Transfer) → (entry_at es t.account).pending ≡ Some t
       → affordable (entry_at es t.account) ≡ covered s t
   covered_is t h = rw (h, m.balance_is t.account)
 
   -- nothing is affordable: no slip leaves
-  none_leaves : lowest_affordable es ≡ none → leave_all s ≡ s
+  none_leaves : lowest_affordable es ≡ None → leave_all s ≡ s
   none_leaves e = leave_none s (go (lowest (covered s) s.waiting) (searched (covered s) s.waiting))
     where
-      go : (o : Option Transfer) → Searched (covered s) s.waiting o → o ≡ none
-      go none found = refl
-      go (some t) found =
+      go : (o : Option Transfer) → Searched (covered s) s.waiting o → o ≡ None
+      go None found = refl
+      go (Some t) found =
           let waits = waits_in t found.among in
           impossible (cc (found.passes, covered_is t waits, none_affordable es e t.account))
 
@@ -237,7 +237,7 @@ module _ (es : List Entry) (s : Slate) (m : Matches es s) where
       t : Transfer
       t = at.affords_it.transfer
 
-      waits : (entry_at es t.account).pending ≡ Full t
+      waits : (entry_at es t.account).pending ≡ Some t
       waits = ap (λ (b : Account). (entry_at es b).pending) own ∙ at.affords_it.waits
 
       among : Among t s.waiting
@@ -261,9 +261,9 @@ module _ (es : List Entry) (s : Slate) (m : Matches es s) where
           let stands = waits_in u found.among in
           cc
 
-      go : (o : Option Transfer) → Searched (covered s) s.waiting o → o ≡ some t
-      go none found = absurd (found t among passes)
-      go (some u) found = ap some (same u found (dec_lt u.account.0 a.0))
+      go : (o : Option Transfer) → Searched (covered s) s.waiting o → o ≡ Some t
+      go None found = absurd (found t among passes)
+      go (Some u) found = ap Some (same u found (dec_lt u.account.0 a.0))
 
 -- one booking and one slip that leaves
 module _ (es : List Entry) (s : Slate) (a : Account) (at : Affordable es a) where
@@ -317,8 +317,8 @@ module _ (es : List Entry) (s : Slate) (a : Account) (at : Affordable es a) wher
       waits : (u : Transfer) → Dec (u.account.0 ≡ a.0)
           → count (equal u) (without t s.waiting) ≡ bit (holds u (entry_at (apply es a) u.account).pending)
       waits u (yes same) =
-          let after : (entry_at (apply es a) u.account).pending ≡ Empty = rw same (apply_clears es a at).none_pending in
-          let before : (entry_at es u.account).pending ≡ Full t = rw same at.waits in
+          let after : (entry_at (apply es a) u.account).pending ≡ None = rw same (apply_clears es a at).none_pending in
+          let before : (entry_at es u.account).pending ≡ Some t = rw same at.waits in
           rw after (omega (arith, without_count t u s.waiting among, rw (before, equal_sym t u) at (m.waiting_is u)))
       waits u (no other) =
           let kept = ap (λ (e : Entry). e.pending) (apply_others es a at u.account other) in

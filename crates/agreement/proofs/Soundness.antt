@@ -1,4 +1,5 @@
 -- What is sound in a ledger: sizes, sums, and what its stored slips are. What a call stores keeps it so.
+use Rattle.std.specs.Prelude.{Some, None}
 use Prim.Native.Nat.{ℕ, zero, suc, ◌+◌, ◌*◌, ◌≤◌, ◌<◌}
 use native.Mathlib.Omega.{arith}
 use mathlib.Core.Path.{◌≡◌, refl, ap, sym, ◌∙◌}
@@ -8,7 +9,7 @@ use native.Mathlib.Decide.{ℕ_discrete}
 use lib.ListN.{length, get_or, replicate, length-set, get_or-map, length-map}
 use lib.Seq.{get_or-set_same, get_or-set_other}
 use borrow.Author.Tests.{ltb-true, eq-eqb}
-use Rattle.laws.specs.Types.{Seat, Account, Transfer, Slot, Empty, Full, AckSlot, Entry, Ledger, Opening}
+use Rattle.laws.specs.Types.{Seat, Account, Transfer, Slot, AckSlot, Entry, Ledger, Opening}
 use Rattle.runs.specs.Runs.{Opens}
 use Rattle.model.specs.Basics.{bit, sum_of}
 use Rattle.model.specs.Records.{seat_of, account_of, no_acks, fresh_entry, fresh_ledger, with_ack, with_pending, with_retained, with_none_retained, sum_balances, with_entries, with_entry, entry_of}
@@ -33,16 +34,16 @@ group o opens = opened_group o opens.not_refused
 
 -- what is retained is of this account, and waits or has been booked
 abbrev pub RetainedStands : Account → Entry → Type 0
-RetainedStands a e = (t : Transfer) → e.retained ≡ Full t → (t.account ≡ a) × ((e.pending ≡ Full t) ⊎ (t.number ≤ e.current))
+RetainedStands a e = (t : Transfer) → e.retained ≡ Some t → (t.account ≡ a) × ((e.pending ≡ Some t) ⊎ (t.number ≤ e.current))
 
 -- An account's entry: its acks and its waiting slip are of this account and of the next number, acks are from seats of
 -- the group, a slip with enough recorded acks is the one that waits, and what is retained stands.
 pub record SoundEntry (o : Opening) (a : Account) (e : Entry) : Type 0 where
   pub acks_size : length e.acks ≡ 16
-  pub acks_stand : (s : Seat) (t : Transfer) → ack_from e s ≡ Full t → (s.0 < o.seats) × (t.account ≡ a) × (t.number ≡ e.current + 1)
-  pub pending_stands : (t : Transfer) → e.pending ≡ Full t
+  pub acks_stand : (s : Seat) (t : Transfer) → ack_from e s ≡ Some t → (s.0 < o.seats) × (t.account ≡ a) × (t.number ≡ e.current + 1)
+  pub pending_stands : (t : Transfer) → e.pending ≡ Some t
       → (t.account ≡ a) × (t.number ≡ e.current + 1) × (t.account.0 < o.accounts) × (t.recipient.0 < o.accounts)
-  pub decided : (t : Transfer) → enough o.seats o.faults (acks_for t e.acks) ≡ true → e.pending ≡ Full t
+  pub decided : (t : Transfer) → enough o.seats o.faults (acks_for t e.acks) ≡ true → e.pending ≡ Some t
   pub retained_stands : RetainedStands a e
 
 pub record Sound (o : Opening) (l : Ledger) : Type 0 where
@@ -55,9 +56,9 @@ pub record Sound (o : Opening) (l : Ledger) : Type 0 where
   pub each : (a : Account) → SoundEntry o a (entry_of l a)
 
 -- no ack is recorded
-pub no_acks_lem : (s : Seat) → (get_or no_acks s.0 (record { slot = Empty })).slot ≡ Empty
+pub no_acks_lem : (s : Seat) → (get_or no_acks s.0 (record { slot = None })).slot ≡ None
 unfolding no_acks
-no_acks_lem s = ap (λ (a : AckSlot). a.slot) (all_same (record { slot = Empty }) 16 s.0)
+no_acks_lem s = ap (λ (a : AckSlot). a.slot) (all_same (record { slot = None }) 16 s.0)
   where
     all_same : (x : AckSlot) (n i : ℕ) → get_or (replicate n x) i x ≡ x
     all_same x zero i = refl
@@ -75,7 +76,7 @@ module _ (o : Opening) where
       omega (arith, no_acks_for t)
 
   -- an entry in which nothing is recorded and nothing waits
-  quiet : (a : Account) (e : Entry) → e.acks ≡ no_acks → e.pending ≡ Empty → RetainedStands a e → SoundEntry o a e
+  quiet : (a : Account) (e : Entry) → e.acks ≡ no_acks → e.pending ≡ None → RetainedStands a e → SoundEntry o a e
   quiet a e acks pending retained =
       record {
         acks_size = rw acks no_acks_length;
@@ -108,10 +109,10 @@ module _ (o : Opening) where
       marked_sound a e e' (ap (λ (x : Entry). x.acks) same) (ap (λ (x : Entry). x.current) same) (ap (λ (x : Entry). x.pending) same)
       (ap (λ (x : Entry). x.retained) same)
 
-  booked_sound : (a : Account) (e e' : Entry) (t : Transfer) → e.pending ≡ Full t → Cleared t e e' → SoundEntry o a e → SoundEntry o a e'
+  booked_sound : (a : Account) (e e' : Entry) (t : Transfer) → e.pending ≡ Some t → Cleared t e e' → SoundEntry o a e → SoundEntry o a e'
   booked_sound a e e' t waits clear ok = quiet a e' clear.no_acks_lem clear.none_pending stands
     where
-      past : (u : Transfer) → (e.pending ≡ Full u) ⊎ (u.number ≤ e.current) → u.number ≤ e'.current
+      past : (u : Transfer) → (e.pending ≡ Some u) ⊎ (u.number ≤ e.current) → u.number ≤ e'.current
       past u (inl this) = let same : t ≡ u = cc in omega (arith, clear.current_is, ap (λ (x : Transfer). x.number) same)
       past u (inr before) = omega (arith, clear.current_is, (ok.pending_stands t waits).1)
 
@@ -120,12 +121,12 @@ module _ (o : Opening) where
 
   -- an account for which a call brings an eligible slip has nothing that waits
   idle : (a : Account) (e : Entry) (t : Transfer) → SoundEntry o a e → t.account ≡ a → t.number ≡ e.current + 1
-      → waits_already e.pending t ≡ false → e.pending ≡ Empty
+      → waits_already e.pending t ≡ false → e.pending ≡ None
   idle a e t ok account next free = go e.pending refl free
     where
-      go : (p : Slot) → e.pending ≡ p → waits_already p t ≡ false → p ≡ Empty
-      go Empty h free = refl
-      go (Full u) h free =
+      go : (p : Slot) → e.pending ≡ p → waits_already p t ≡ false → p ≡ None
+      go None h free = refl
+      go (Some u) h free =
           let stands = ok.pending_stands u h in
           let same : same_number u t ≡ true =
           rw (eq-eqb u.account.0 t.account.0 (ap (λ (b : Account). b.0) (stands.0 ∙ sym account)))
@@ -134,12 +135,12 @@ module _ (o : Opening) where
 
   -- and has no ack recorded from a seat whose ack neither 9 nor 10 refuses
   unrecorded : (a : Account) (e : Entry) (s : Seat) (t : Transfer) → SoundEntry o a e → t.account ≡ a → t.number ≡ e.current + 1
-      → holds t (ack_from e s) ≡ false → conflicts t (ack_from e s) ≡ false → ack_from e s ≡ Empty
+      → holds t (ack_from e s) ≡ false → conflicts t (ack_from e s) ≡ false → ack_from e s ≡ None
   unrecorded a e s t ok account next differs agrees = go (ack_from e s) refl differs agrees
     where
-      go : (p : Slot) → ack_from e s ≡ p → holds t p ≡ false → conflicts t p ≡ false → p ≡ Empty
-      go Empty h differs agrees = refl
-      go (Full u) h differs agrees =
+      go : (p : Slot) → ack_from e s ≡ p → holds t p ≡ false → conflicts t p ≡ false → p ≡ None
+      go None h differs agrees = refl
+      go (Some u) h differs agrees =
           let stands = ok.acks_stand s u h in
           let both : Conflict u t =
           record {
@@ -150,68 +151,68 @@ module _ (o : Opening) where
           impossible (cc (agrees, conflict_complete u t both))
 
   -- where nothing waits, what is retained has been booked
-  pub booked_retained : (a : Account) (e : Entry) → SoundEntry o a e → e.pending ≡ Empty → (u : Transfer) → e.retained ≡ Full u → u.number ≤ e.current
+  pub booked_retained : (a : Account) (e : Entry) → SoundEntry o a e → e.pending ≡ None → (u : Transfer) → e.retained ≡ Some u → u.number ≤ e.current
   booked_retained a e ok empty u held = go (ok.retained_stands u held).1
     where
-      go : (e.pending ≡ Full u) ⊎ (u.number ≤ e.current) → u.number ≤ e.current
+      go : (e.pending ≡ Some u) ⊎ (u.number ≤ e.current) → u.number ≤ e.current
       go (inl waits) = impossible (cc)
       go (inr past) = past
 
   -- so it stands where a slip is accepted too
-  past_retained : (a : Account) (e : Entry) (t : Transfer) → SoundEntry o a e → e.pending ≡ Empty → RetainedStands a (with_pending e t)
+  past_retained : (a : Account) (e : Entry) (t : Transfer) → SoundEntry o a e → e.pending ≡ None → RetainedStands a (with_pending e t)
   past_retained a e t ok empty u h = ((ok.retained_stands u h).0, inr (booked_retained a e ok empty u h))
 
   -- one more ack is recorded
   module _ (a : Account) (e : Entry) (s : Seat) (t : Transfer)
       (fits : o.seats ≤ 16) (ok : SoundEntry o a e) (account : t.account ≡ a) (next : t.number ≡ e.current + 1)
-      (known : s.0 < o.seats) (free : ack_from e s ≡ Empty)
+      (known : s.0 < o.seats) (free : ack_from e s ≡ None)
     where
       inside : s.0 < length e.acks
       inside = omega (arith, ok.acks_size)
 
       -- it is read back, and the others stay
-      ack_read : (z : Seat) (u : Transfer) → ack_from (with_ack e s t) z ≡ Full u → ((z ≡ s) × (u ≡ t)) ⊎ (ack_from e z ≡ Full u)
+      ack_read : (z : Seat) (u : Transfer) → ack_from (with_ack e s t) z ≡ Some u → ((z ≡ s) × (u ≡ t)) ⊎ (ack_from e z ≡ Some u)
       ack_read z u h = go (ℕ_discrete z.0 s.0)
         where
           none_yet : AckSlot
-          none_yet = record { slot = Empty }
+          none_yet = record { slot = None }
 
-          go : Dec (z.0 ≡ s.0) → ((z ≡ s) × (u ≡ t)) ⊎ (ack_from e z ≡ Full u)
+          go : Dec (z.0 ≡ s.0) → ((z ≡ s) × (u ≡ t)) ⊎ (ack_from e z ≡ Some u)
           go (yes same) =
               let at : z ≡ s = ap seat_of same in
-              let new = get_or-set_same e.acks s.0 (record { slot = Full t }) none_yet inside in
-              let read : Full t ≡ Full u = sym (ap (λ (x : AckSlot). x.slot) new) ∙ (rw same at h) in
+              let new = get_or-set_same e.acks s.0 (record { slot = Some t }) none_yet inside in
+              let read : Some t ≡ Some u = sym (ap (λ (x : AckSlot). x.slot) new) ∙ (rw same at h) in
               inl (at, cc)
           go (no other) =
-              let old = get_or-set_other e.acks s.0 z.0 (record { slot = Full t }) none_yet other in
+              let old = get_or-set_other e.acks s.0 z.0 (record { slot = Some t }) none_yet other in
               inr (sym (ap (λ (x : AckSlot). x.slot) old) ∙ h)
 
-      ack_new : ack_from (with_ack e s t) s ≡ Full t
+      ack_new : ack_from (with_ack e s t) s ≡ Some t
       ack_new =
-          ap (λ (x : AckSlot). x.slot) (get_or-set_same e.acks s.0 (record { slot = Full t }) (record { slot = Empty }) inside)
+          ap (λ (x : AckSlot). x.slot) (get_or-set_same e.acks s.0 (record { slot = Some t }) (record { slot = None }) inside)
 
-      ack_kept : (z : Seat) (u : Transfer) → ack_from e z ≡ Full u → ack_from (with_ack e s t) z ≡ Full u
+      ack_kept : (z : Seat) (u : Transfer) → ack_from e z ≡ Some u → ack_from (with_ack e s t) z ≡ Some u
       ack_kept z u h =
           let other : z.0 ≢ s.0 = λ same. let at : z ≡ s = ap seat_of same in impossible (cc (h, free)) in
-          let old = get_or-set_other e.acks s.0 z.0 (record { slot = Full t }) (record { slot = Empty }) other in
+          let old = get_or-set_other e.acks s.0 z.0 (record { slot = Some t }) (record { slot = None }) other in
           ap (λ (x : AckSlot). x.slot) old ∙ h
 
       -- the count of its slip rises by one, and no other
       ack_counted : (u : Transfer) → acks_for u (with_ack e s t).acks ≡ acks_for u e.acks + bit (equal t u)
       ack_counted u =
-          let change = sum_set (λ x. bit (holds u x.slot)) e.acks s.0 (record { slot = Full t }) (record { slot = Empty }) inside in
+          let change = sum_set (λ x. bit (holds u x.slot)) e.acks s.0 (record { slot = Some t }) (record { slot = None }) inside in
           let before : bit (holds u (ack_from e s)) ≡ 0 = rw free in
           omega arith
 
-      stand : (z : Seat) (u : Transfer) → ack_from (with_ack e s t) z ≡ Full u → (z.0 < o.seats) × (u.account ≡ a) × (u.number ≡ e.current + 1)
+      stand : (z : Seat) (u : Transfer) → ack_from (with_ack e s t) z ≡ Some u → (z.0 < o.seats) × (u.account ≡ a) × (u.number ≡ e.current + 1)
       stand z u h = go (ack_read z u h)
         where
-          go : ((z ≡ s) × (u ≡ t)) ⊎ (ack_from e z ≡ Full u) → (z.0 < o.seats) × (u.account ≡ a) × (u.number ≡ e.current + 1)
+          go : ((z ≡ s) × (u ≡ t)) ⊎ (ack_from e z ≡ Some u) → (z.0 < o.seats) × (u.account ≡ a) × (u.number ≡ e.current + 1)
           go (inl new) = rw (new.0, new.1) (known, account, next)
           go (inr old) = ok.acks_stand z u old
 
       -- where nothing waits, only its slip can have enough acks
-      only_this : e.pending ≡ Empty → (u : Transfer) → enough o.seats o.faults (acks_for u (with_ack e s t).acks) ≡ true → u ≡ t
+      only_this : e.pending ≡ None → (u : Transfer) → enough o.seats o.faults (acks_for u (with_ack e s t).acks) ≡ true → u ≡ t
       only_this empty u h = go (equal t u) refl
         where
           go : (b : Bool) → equal t u ≡ b → u ≡ t
@@ -220,7 +221,7 @@ module _ (o : Opening) where
               let count : acks_for u (with_ack e s t).acks ≡ acks_for u e.acks = ack_counted u ∙ rw other (omega arith) in
               impossible (cc (ok.decided u (rw count at h), empty))
 
-      noted_sound : e.pending ≡ Empty → enough o.seats o.faults (acks_for t (with_ack e s t).acks) ≡ false → SoundEntry o a (with_ack e s t)
+      noted_sound : e.pending ≡ None → enough o.seats o.faults (acks_for t (with_ack e s t).acks) ≡ false → SoundEntry o a (with_ack e s t)
       noted_sound empty few =
           record {
             acks_size = rw length-set ok.acks_size;
@@ -230,19 +231,19 @@ module _ (o : Opening) where
             retained_stands = ok.retained_stands;
           }
 
-      accepted_sound : e.pending ≡ Empty → t.account.0 < o.accounts → t.recipient.0 < o.accounts → SoundEntry o a (with_pending (with_ack e s t) t)
+      accepted_sound : e.pending ≡ None → t.account.0 < o.accounts → t.recipient.0 < o.accounts → SoundEntry o a (with_pending (with_ack e s t) t)
       accepted_sound empty payer recipient =
           record {
             acks_size = rw length-set ok.acks_size;
             acks_stand = stand;
             pending_stands = λ u h. let same : t ≡ u = cc in rw (← same) (account, next, payer, recipient);
-            decided = λ u h. ap Full (sym (only_this empty u h));
+            decided = λ u h. ap Some (sym (only_this empty u h));
             retained_stands = past_retained a e t ok empty;
           }
 
   -- a ruling's slip waits
   ruled_sound : (a : Account) (e : Entry) (t : Transfer) → SoundEntry o a e → t.account ≡ a → t.number ≡ e.current + 1
-      → e.pending ≡ Empty → t.account.0 < o.accounts → t.recipient.0 < o.accounts → SoundEntry o a (with_pending e t)
+      → e.pending ≡ None → t.account.0 < o.accounts → t.recipient.0 < o.accounts → SoundEntry o a (with_pending e t)
   ruled_sound a e t ok account next empty payer recipient =
       record {
         acks_size = ok.acks_size;
@@ -287,8 +288,8 @@ takes_over_sound o a first_rules e ok = ok
 takes_over_sound o a since_request3 e ok = go e.pending refl
   where
     go : (p : Slot) → e.pending ≡ p → SoundEntry o a (retains_from p e)
-    go Empty is = retained_sound o a e (with_none_retained e) refl refl refl (λ t h. impossible (cc)) ok
-    go (Full t) is =
+    go None is = retained_sound o a e (with_none_retained e) refl refl refl (λ t h. impossible (cc)) ok
+    go (Some t) is =
         retained_sound o a e (with_retained e t) refl refl refl
         (λ u h. let same : t ≡ u = cc in rw (← same) ((ok.pending_stands t is).0, inl is)) ok
 takes_over_sound o a since_request5 e ok = ok
@@ -342,7 +343,7 @@ same_range o l k t ok too = rw (ok.accounts_same, ok.total_same, too.accounts_sa
 
 -- what holds of an eligible slip in a sound ledger
 pub record Admitted (o : Opening) (l : Ledger) (t : Transfer) : Type 0 where
-  pub none_waits : (entry_of l t.account).pending ≡ Empty
+  pub none_waits : (entry_of l t.account).pending ≡ None
   pub payer_known : t.account.0 < o.accounts
   pub recipient_known : t.recipient.0 < o.accounts
   pub inside : t.account.0 < length l.entries
@@ -364,16 +365,16 @@ module _ (o : Opening) (l : Ledger) (s : Seat) (t : Transfer) (g : Group o) (ok 
   known_seat : s.0 < o.seats
   known_seat = rw (← ok.seats_same) new.seat_known
 
-  free_place : ack_from old s ≡ Empty
+  free_place : ack_from old s ≡ None
   free_place = unrecorded o t.account old s t (ok.each t.account) refl fit.is_next new.not_equal new.not_conflicting
 
-  pub recorded_read : (z : Seat) (u : Transfer) → ack_from (entry_with_ack l s t) z ≡ Full u → ((z ≡ s) × (u ≡ t)) ⊎ (ack_from (entry_of l t.account) z ≡ Full u)
+  pub recorded_read : (z : Seat) (u : Transfer) → ack_from (entry_with_ack l s t) z ≡ Some u → ((z ≡ s) × (u ≡ t)) ⊎ (ack_from (entry_of l t.account) z ≡ Some u)
   recorded_read = ack_read o t.account old s t g.seats_fit (ok.each t.account) refl fit.is_next known_seat free_place
 
-  pub recorded_new : ack_from (entry_with_ack l s t) s ≡ Full t
+  pub recorded_new : ack_from (entry_with_ack l s t) s ≡ Some t
   recorded_new = ack_new o t.account old s t g.seats_fit (ok.each t.account) refl fit.is_next known_seat free_place
 
-  pub recorded_kept : (z : Seat) (u : Transfer) → ack_from (entry_of l t.account) z ≡ Full u → ack_from (entry_with_ack l s t) z ≡ Full u
+  pub recorded_kept : (z : Seat) (u : Transfer) → ack_from (entry_of l t.account) z ≡ Some u → ack_from (entry_with_ack l s t) z ≡ Some u
   recorded_kept = ack_kept o t.account old s t g.seats_fit (ok.each t.account) refl fit.is_next known_seat free_place
 
   pub recorded_counted : (u : Transfer) → acks_for u (entry_with_ack l s t).acks ≡ acks_for u (entry_of l t.account).acks + bit (equal t u)
@@ -392,7 +393,7 @@ module _ (o : Opening) (l : Ledger) (s : Seat) (t : Transfer) (g : Group o) (ok 
       found.none_waits found.payer_known found.recipient_known
 
   -- and every ack in it is from one of the n seats, and of the slip's account and number
-  pub recorded_stands : (z : Seat) (u : Transfer) → ack_from (entry_with_ack l s t) z ≡ Full u
+  pub recorded_stands : (z : Seat) (u : Transfer) → ack_from (entry_with_ack l s t) z ≡ Some u
       → (z.0 < o.seats) × (u.account ≡ t.account) × (u.number ≡ t.number)
   recorded_stands z u h =
       let stands = accepted_entry.acks_stand z u h in

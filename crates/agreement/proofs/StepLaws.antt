@@ -1,6 +1,7 @@
 -- The laws of a step that the proofs about runs use, and all of them: what a call puts into an account's entry
 -- (`each_entry`), what it does to balances, current numbers and waiting slips (`turn`), and what its reply means
 -- (`answer_acknowledge` and so on). Later definitions of a step prove these again, and the rest stays.
+use Rattle.std.specs.Prelude.{Some, None}
 use Prim.Native.Nat.{◌-◌, ◌*◌, ◌<◌, ◌≤◌, ℕ, ◌+◌}
 use native.Mathlib.Omega.{arith}
 use mathlib.Core.List.{List}
@@ -9,9 +10,8 @@ use mathlib.Core.Logic.{◌⊎◌, inl, inr}
 use mathlib.Core.Bool.{Bool, true, false, not, ◌&&◌}
 use lib.Dec.{leb}
 use borrow.Author.Tests.{leb-true, ltb-true, le-leb, lt-leb, le-ltb}
-use mathlib.Core.Option.{none, some}
 use lib.ListN.{length}
-use Rattle.laws.specs.Types.{Seat, Account, Transfer, Slot, Empty, Full, Entry, Ledger, Opening, Refusal, Message, Request, Circulated, Ack, Decision, Inquiry, Reply, Acknowledge, Accept, Propose, Balance, Refuse}
+use Rattle.laws.specs.Types.{Seat, Account, Transfer, Slot, Entry, Ledger, Opening, Refusal, Message, Request, Circulated, Ack, Decision, Inquiry, Reply, Acknowledge, Accept, Propose, Balance, Refuse}
 use Rattle.model.specs.declared.Refusal.TheVariants.{PastNumber, FutureNumber, AlreadyAccepted}
 use Rattle.runs.specs.Runs.{is_refusal, message, is_accept, accepted}
 use Rattle.runs.specs.Facts.{must_accept}
@@ -128,11 +128,11 @@ proposes_for o l m u g ok p = go (ack_from x (seat_of one.0)) refl one.1
     one : (i : ℕ) × (holds u (ack_from x (seat_of i)) ≡ true)
     one =
         let more = recorded_counted o l p.sender t g ok p.records.eligible p.records.recordable t in
-        some_counted (λ k. holds u k.slot) x.acks (record { slot = Empty }) (omega (arith, rw (equal_refl t) at more, p.most t))
+        some_counted (λ k. holds u k.slot) x.acks (record { slot = None }) (omega (arith, rw (equal_refl t) at more, p.most t))
 
     go : (s : Slot) → ack_from x (seat_of one.0) ≡ s → holds u s ≡ true → (u.account ≡ t.account) × (u.number ≡ t.number)
-    go Empty h e = impossible (cc)
-    go (Full v) h e =
+    go None h e = impossible (cc)
+    go (Some v) h e =
         let stands = recorded_stands o l p.sender t g ok p.records.eligible p.records.recordable (seat_of one.0) v h in
         let same = equal_sound v u e in
         (cc, cc)
@@ -178,7 +178,7 @@ puts_current l m r t x (puts_late s u since e f join is) = ap (λ (y : Entry). y
 module _ {v : Rules} (o : Opening) (l next : Ledger) (m : Message) (r : Reply) (g : Group o) (ok : Sound o l)
     (J : Account → Entry → Type 0)
     (on_balance : (a : Account) (e e' : Entry) → SameButBalance e e' → J a e → J a e')
-    (on_booked : (a : Account) (e e' : Entry) (t : Transfer) → SoundEntry o a e → e.pending ≡ Full t → Cleared t e e' → J a e → J a e')
+    (on_booked : (a : Account) (e e' : Entry) (t : Transfer) → SoundEntry o a e → e.pending ≡ Some t → Cleared t e e' → J a e → J a e')
     (each : (a : Account) → J a (entry_of l a))
     (puts : (t : Transfer) (x : Entry) → Puts v l m r t x → J t.account x)
   where
@@ -260,7 +260,7 @@ put_same : (l : Ledger) (a : Account) (x : Entry) → SameState (entry_of l a) x
 put_same l a x same = set_each (λ b y. SameState (entry_of l b) y) l.entries a x same (λ b. (refl, refl, refl))
 
 -- a refusal accepts nothing
-pub refused_accepts : (m : Message) (r : Reply) (q : Refusal) → r ≡ Refuse q → accepted (message m r) ≡ none
+pub refused_accepts : (m : Message) (r : Reply) (q : Refusal) → r ≡ Refuse q → accepted (message m r) ≡ None
 refused_accepts (Request t) r q e = refl
 refused_accepts (Circulated t) r q e = refl
 refused_accepts (Ack s t) r q e = rw e
@@ -269,8 +269,8 @@ refused_accepts (Inquiry a) r q e = refl
 
 -- What a call does to balances, current numbers and waiting slips: nothing, or its slip is accepted.
 pub data Turn (o : Opening) (l : Ledger) (m : Message) (r : Reply) (next : Ledger) : Type 0 where
-  keeps : ((a : Account) → SameState (entry_of l a) (entry_of next a)) → accepted (message m r) ≡ none → is_accept r ≡ false → Turn o l m r next
-  accepts : (t : Transfer) → accepted (message m r) ≡ some t → Accepting o l r next t → Turn o l m r next
+  keeps : ((a : Account) → SameState (entry_of l a) (entry_of next a)) → accepted (message m r) ≡ None → is_accept r ≡ false → Turn o l m r next
+  accepts : (t : Transfer) → accepted (message m r) ≡ Some t → Accepting o l r next t → Turn o l m r next
 
 pub turn : {v : Rules} (o : Opening) (l next : Ledger) (m : Message) (r : Reply) → Group o → Sound o l → Happens v l m r next → Turn o l m r next
 turn o l next m r g ok (refused q e same) = keeps (rw same (λ a. (refl, refl, refl))) (refused_accepts m r q e) (rw e)
@@ -402,7 +402,7 @@ eligible_not_late since_request5 o l s t g ok fit = go (late_in l (Ack s t)) ref
 
 -- a late P comes in place of 6, where the retained slip is booked, or of 8, where it waits
 pub late_in_place : (o : Opening) (v : Rules) (l : Ledger) (m : Message) → Sound o l → late_met v l m ≡ true
-    → (first_refusal (rules_met v l m) ≡ some PastNumber) ⊎ (first_refusal (rules_met v l m) ≡ some AlreadyAccepted)
+    → (first_refusal (rules_met v l m) ≡ Some PastNumber) ⊎ (first_refusal (rules_met v l m) ≡ Some AlreadyAccepted)
 late_in_place o first_rules l m ok late = impossible (cc)
 late_in_place o since_request3 l m ok late = impossible (cc)
 late_in_place o since_request5 l (Request t) ok late = impossible (cc)
@@ -421,8 +421,8 @@ late_in_place o since_request5 l (Ack s t) ok late = go ((ok.each t.account).ret
     clash : Conflict u t
     clash = conflict_sound u t join.conflicting
 
-    go : (e.pending ≡ Full u) ⊎ (u.number ≤ e.current)
-        → (first_refusal (rules_in l (Ack s t)) ≡ some PastNumber) ⊎ (first_refusal (rules_in l (Ack s t)) ≡ some AlreadyAccepted)
+    go : (e.pending ≡ Some u) ⊎ (u.number ≤ e.current)
+        → (first_refusal (rules_in l (Ack s t)) ≡ Some PastNumber) ⊎ (first_refusal (rules_in l (Ack s t)) ≡ Some AlreadyAccepted)
     go (inl waits) =
         let next = ((ok.each t.account).pending_stands u waits).1 in
         inr
@@ -453,14 +453,14 @@ answer_exactly v o l next m r g ok (told a e f same) = rw (e, f)
 
 -- An ack that is not refused, and brings no late P, is recorded, and stays so until its number is booked.
 abbrev pub Held : Seat → Transfer → Entry → Type 0
-Held s t e = (t.number ≤ e.current) ⊎ (ack_from e s ≡ Full t)
+Held s t e = (t.number ≤ e.current) ⊎ (ack_from e s ≡ Some t)
 
 module _ (v : Rules) (o : Opening) (l next : Ledger) (m : Message) (r : Reply) (g : Group o) (ok : Sound o l) where
   held_kept : (s z : Seat) (t u : Transfer) → Eligible l t → Recordable l s t → Held z u (entry_of l t.account) → Held z u (entry_with_ack l s t)
   held_kept s z t u fit new (inl past) = inl past
   held_kept s z t u fit new (inr yet) = inr (recorded_kept o l s t g ok fit new z u yet)
 
-  booked_held : (s : Seat) (u : Transfer) (a : Account) (e e' : Entry) (t : Transfer) → SoundEntry o a e → e.pending ≡ Full t → Cleared t e e'
+  booked_held : (s : Seat) (u : Transfer) (a : Account) (e e' : Entry) (t : Transfer) → SoundEntry o a e → e.pending ≡ Some t → Cleared t e e'
       → Held s u e → Held s u e'
   booked_held s u a e e' t stands waits clear (inl past) = inl (omega (arith, clear.current_is, (stands.pending_stands t waits).1))
   booked_held s u a e e' t stands waits clear (inr yet) =
@@ -492,7 +492,7 @@ module _ (v : Rules) (o : Opening) (l next : Ledger) (m : Message) (r : Reply) (
       puts t x (puts_late z w since e f join is) = rw is (λ old. old)
 
   -- one that is put
-  put_held : (s : Seat) (t : Transfer) (x : Entry) → Eligible l t → ack_from x s ≡ Full t → Held s t (entry_of (with_entry l t.account x) t.account)
+  put_held : (s : Seat) (t : Transfer) (x : Entry) → Eligible l t → ack_from x s ≡ Some t → Held s t (entry_of (with_entry l t.account x) t.account)
   put_held s t x fit new = inr (ap (λ (y : Entry). ack_from y s) (with_entry_same l t.account x (admitted o l t g ok fit).inside) ∙ new)
 
   accepted_held : (s : Seat) (t : Transfer) → Eligible l t → Recordable l s t
@@ -552,7 +552,7 @@ module _ (v : Rules) (o : Opening) (l next : Ledger) (m : Message) (r : Reply) (
 
 -- What a call keeps of each entry: current numbers never fall, and a slip that has been booked or waits stays so.
 abbrev pub BookedOrWaits : Transfer → Entry → Type 0
-BookedOrWaits t e = (t.number ≤ e.current) ⊎ (e.pending ≡ Full t)
+BookedOrWaits t e = (t.number ≤ e.current) ⊎ (e.pending ≡ Some t)
 
 -- where a slip has been booked or waits, none of its account and number is eligible
 pub none_eligible : (o : Opening) (l : Ledger) (t v : Transfer) → Group o → Sound o l → BookedOrWaits t (entry_of l t.account)
@@ -585,7 +585,7 @@ module _ {v : Rules} (o : Opening) (l next : Ledger) (m : Message) (r : Reply) (
       on_balance e e' same (inl past) = inl (rw same past)
       on_balance e e' same (inr waits) = inr (rw same waits)
 
-      on_booked : (a : Account) (e e' : Entry) (u : Transfer) → SoundEntry o a e → e.pending ≡ Full u → Cleared u e e' → BookedOrWaits t e → BookedOrWaits t e'
+      on_booked : (a : Account) (e e' : Entry) (u : Transfer) → SoundEntry o a e → e.pending ≡ Some u → Cleared u e e' → BookedOrWaits t e → BookedOrWaits t e'
       on_booked a e e' u stands waits clear (inl past) = inl (omega (arith, clear.current_is, (stands.pending_stands u waits).1))
       on_booked a e e' u stands waits clear (inr this) =
           let same : t ≡ u = cc in
@@ -603,7 +603,7 @@ module _ {v : Rules} (o : Opening) (l next : Ledger) (m : Message) (r : Reply) (
       stays u x (inr is) same old = rw is old
 
   -- and the accepted slip has been booked, or waits
-  pub just_settled : (t : Transfer) → accepted (message m r) ≡ some t → BookedOrWaits t (entry_of next t.account)
+  pub just_settled : (t : Transfer) → accepted (message m r) ≡ Some t → BookedOrWaits t (entry_of next t.account)
   just_settled t is = go (turn o l next m r g ok h)
     where
       go : Turn o l m r next → BookedOrWaits t (entry_of next t.account)
@@ -627,31 +627,31 @@ module _ {v : Rules} (o : Opening) (l next : Ledger) (m : Message) (r : Reply) (
 
 -- what is accepted under the rules since request 5 is retained, and what settling does leaves it so
 settled_retains : (l : Ledger) (x : Entry) (t : Transfer) → t.account.0 < length l.entries
-    → (entry_of (with_entries l (accepted_in l (with_retained x t) t).entries) t.account).retained ≡ Full t
+    → (entry_of (with_entries l (accepted_in l (with_retained x t) t).entries) t.account).retained ≡ Some t
 settled_retains l x t inside = go (settle_entry t.account joined)
   where
     joined : List Entry
     joined = set_entry l.entries t.account (waiting_under since_request5 x t)
 
-    held_then : (entry_at joined t.account).retained ≡ Full t
+    held_then : (entry_at joined t.account).retained ≡ Some t
     held_then = ap (λ (e : Entry). e.retained) (entry_set_same l.entries t.account (waiting_under since_request5 x t) inside)
 
-    go : Turned (entry_at joined t.account) (entry_at (settle joined).entries t.account) → (entry_at (settle joined).entries t.account).retained ≡ Full t
+    go : Turned (entry_at joined t.account) (entry_at (settle joined).entries t.account) → (entry_at (settle joined).entries t.account).retained ≡ Some t
     go (kept same) = ap (λ (e : Entry). e.retained) same ∙ held_then
     go (booked u waits clear) = clear.retained_same ∙ held_then
 
 pub just_retained : (v : Rules) (o : Opening) (l next : Ledger) (m : Message) (r : Reply) (t : Transfer) → Group o → Sound o l → v ≡ since_request5
-    → accepted (message m r) ≡ some t → Happens v l m r next → (entry_of next t.account).retained ≡ Full t
+    → accepted (message m r) ≡ Some t → Happens v l m r next → (entry_of next t.account).retained ≡ Some t
 just_retained v o l next m r t g ok since is h = go h
   where
     -- a call that accepts nothing
-    none_else : accepted (message m r) ≡ none → (entry_of next t.account).retained ≡ Full t
+    none_else : accepted (message m r) ≡ None → (entry_of next t.account).retained ≡ Some t
     none_else nothing = impossible (cc)
 
-    this : (u : Transfer) → accepted (message m r) ≡ some u → u ≡ t
+    this : (u : Transfer) → accepted (message m r) ≡ Some u → u ≡ t
     this u that = cc
 
-    go : Happens v l m r next → (entry_of next t.account).retained ≡ Full t
+    go : Happens v l m r next → (entry_of next t.account).retained ≡ Some t
     go (refused q e same) = none_else (refused_accepts m r q e)
     go (circulated u e f same) = none_else (rw e)
     go (acknowledged u e f fit clear same) = none_else (rw e)

@@ -1,12 +1,12 @@
 -- How little a switch changes, and what a seat keeps across it: the statements are in Switching.antt of the crate runs.
+use Rattle.std.specs.Prelude.{Option, Some, None}
 use Prim.Native.Nat.{◌+◌, ◌≤◌, ◌<◌}
 use native.Mathlib.Omega.{arith}
 use mathlib.Core.Path.{◌≡◌, refl, ap, sym, subst, ◌∙◌}
 use mathlib.Core.Logic.{inl, inr}
 use mathlib.Core.Bool.{Bool, true, false, cond}
-use mathlib.Core.Option.{Option, none, some}
 use borrow.Author.Tests.{lt-leb, le-ltb}
-use Rattle.laws.specs.Types.{Seat, Account, Transfer, Empty, Entry, Ledger, Refusal, Message, Circulated, Ack, Decision, Inquiry, Reply, Accept, Refuse}
+use Rattle.laws.specs.Types.{Seat, Account, Transfer, Entry, Ledger, Refusal, Message, Circulated, Ack, Decision, Inquiry, Reply, Accept, Refuse}
 use Rattle.runs.specs.Runs.{Call, message, waiting_list, switch, ◌▹◌, at_end, sooner, same_seat, rules_after, rules_at, ledger_at, free_slip, acks_with, StandsFor, MayReply, Obeys}
 use Rattle.runs.specs.Switching.{SameSaveTies, Alike, TakenAlike, forgotten, LateAlone, NoneGoesBack, NewestStays, MarksStand}
 use Rattle.agreement.proofs.Places.{seat_is, obeys_before}
@@ -33,8 +33,8 @@ module _ (l : Ledger) (m : Message) where
     where
       go : (x : Option Transfer) → free_slip v (step_under v l m).reply ≡ x → StandsFor (step_under v l m).reply x (acks_with l m) r
           → SameSaveTies (acks_with l m) r (step_under v l m).reply
-      go none e is = inl is
-      go (some t) e (u, is, most) =
+      go None e is = inl is
+      go (Some t) e (u, is, most) =
           let due = free_carried v l m (step_under v l m).reply t e in
           inr (u, t, is, due.0, most, rw (most_with v l m t due.1 due.0) (most_acked_most (acks_with l m)))
 
@@ -134,7 +134,7 @@ mark_set e t upto unbooked = go e.acked refl
 
 module _ (v : Rules) (since : rank since_request3 ≤ rank v) (l : Ledger) (t : Transfer) where
   -- a circulated slip is refused since request 3 by what it meets today, and brings no late P
-  meets : (r : Refusal) → first_refusal (rules_in l (Circulated t)) ≡ some r → (step_under v l (Circulated t)).reply ≡ Refuse r
+  meets : (r : Refusal) → first_refusal (rules_in l (Circulated t)) ≡ Some r → (step_under v l (Circulated t)).reply ≡ Refuse r
   meets r today = ap (λ (x : Outcome). x.reply) (refuses v l (Circulated t) r (not_late v) (met v since))
     where
       not_late : (v : Rules) → late_met v l (Circulated t) ≡ false
@@ -142,7 +142,7 @@ module _ (v : Rules) (since : rank since_request3 ≤ rank v) (l : Ledger) (t : 
       not_late since_request3 = refl
       not_late since_request5 = refl
 
-      met : (v : Rules) → rank since_request3 ≤ rank v → first_refusal (rules_met v l (Circulated t)) ≡ some r
+      met : (v : Rules) → rank since_request3 ≤ rank v → first_refusal (rules_met v l (Circulated t)) ≡ Some r
       met first_rules above = absurd (omega arith)
       met since_request3 above = today
       met since_request5 above = today
@@ -153,7 +153,7 @@ module _ (v : Rules) (since : rank since_request3 ≤ rank v) (l : Ledger) (t : 
 
   -- .. and 12
   meets_12 : out_of_range l t ≡ false → pays_itself t ≡ false → t.number ≡ (entry_of l t.account).current + 1
-      → (entry_of l t.account).pending ≡ Empty → (entry_of l t.account).acked ≡ true
+      → (entry_of l t.account).pending ≡ None → (entry_of l t.account).acked ≡ true
       → (step_under v l (Circulated t)).reply ≡ Refuse AlreadyAcked
   meets_12 range other next none_waits mark =
       let e = entry_of l t.account in

@@ -1,16 +1,16 @@
 -- The paper's Theorem 1: the statement is `Theorem1` in Undisputed.antt of the crate runs. What every honest seat
 -- acked is accepted wherever all their acks arrived, and no other slip with its account and number is put forward or
 -- accepted.
+use Rattle.std.specs.Prelude.{Some, None}
 use Prim.Native.Nat.{ℕ, zero, suc, ◌+◌, ◌*◌, ◌≤◌, ◌<◌}
 use native.Mathlib.Decide.{dec_le}
 use native.Mathlib.Omega.{arith}
 use mathlib.Core.Path.{◌≡◌, refl, ap, sym, subst, ◌∙◌}
 use mathlib.Core.Logic.{◌⊎◌, inl, inr}
 use mathlib.Core.Bool.{Bool, true, false, not, ◌&&◌}
-use mathlib.Core.Option.{some}
 use lib.Dec.{ltb}
 use borrow.Author.Tests.{lt-ltb, ltb-true}
-use Rattle.laws.specs.Types.{Seat, Transfer, Slot, Empty, Full, Entry, Ledger, Opening, Refusal, Message, Ack, Reply, Circulate, Acknowledge, Accept, Propose, Note, Balance, Refuse}
+use Rattle.laws.specs.Types.{Seat, Transfer, Slot, Entry, Ledger, Opening, Refusal, Message, Ack, Reply, Circulate, Acknowledge, Accept, Propose, Note, Balance, Refuse}
 use Rattle.runs.specs.Runs.{Opens, count_below, FewBad, honest, message, Event, Run, ◌▹◌, Within, same_seat, rules_at, ledger_at, MayReply, Obeys, is_refusal, accepted, proposed, ruled}
 use Rattle.runs.proofs.Found.{happened_found}
 use Rattle.runs.specs.Premises.{Premises}
@@ -57,7 +57,7 @@ module _ (o : Opening) (bad : Seat → Bool) (run : Run) (opens : Opens o) (few 
 
     -- in a tally of its number, every honest vote is for t
     honest_vote : (u : Transfer) (x : Entry) → Tally o bad run u.account u.number x → t.account ≡ u.account → t.number ≡ u.number
-        → (i : ℕ) (v w : Transfer) → i < o.seats → bad (seat_of i) ≡ false → Full t ≡ Full v → vote x i ≡ Full w → v ≡ w
+        → (i : ℕ) (v w : Transfer) → i < o.seats → bad (seat_of i) ≡ false → Some t ≡ Some v → vote x i ≡ Some w → v ≡ w
     honest_vote u x tally account number i v w below fair hv hw =
         let stands = tally.stands (seat_of i) w hw in
         let acked_it = tally.from (seat_of i) w hw (honestly i below fair) in
@@ -68,23 +68,23 @@ module _ (o : Opening) (bad : Seat → Bool) (run : Run) (opens : Opens o) (few 
         sym this ∙ same
 
     -- as if all n seats had voted for t
-    all_for : o.seats + 3 * o.faults < 2 * count_below (λ i. holds t (Full t)) o.seats
+    all_for : o.seats + 3 * o.faults < 2 * count_below (λ i. holds t (Some t)) o.seats
     all_for = omega (arith, count_all (λ i. equal t t) o.seats (λ i. equal_refl t), (group o opens).few_faults)
 
     -- so of its account and number only t has a majority, or a quorum
     only_majority : (u : Transfer) → Majority o bad run u → t.account ≡ u.account → t.number ≡ u.number → t ≡ u
     only_majority u major account number =
-        quorum_most (λ i. bad (seat_of i)) o.seats o.faults (λ i. Full t) (vote major.entry) few
+        quorum_most (λ i. bad (seat_of i)) o.seats o.faults (λ i. Some t) (vote major.entry) few
         (honest_vote u major.entry major.tally account number)
         t u all_for major.recorded (major.most t)
 
     only_quorum : (u : Transfer) → Quorum o bad run u → t.account ≡ u.account → t.number ≡ u.number → t ≡ u
     only_quorum u quorum account number =
-        two_quorums (λ i. bad (seat_of i)) o.seats o.faults (λ i. Full t) (vote quorum.entry) few
+        two_quorums (λ i. bad (seat_of i)) o.seats o.faults (λ i. Some t) (vote quorum.entry) few
         (honest_vote u quorum.entry quorum.tally account number)
         t u all_for quorum.many
 
-    only_accepted : (q : Run) (d : Event) (u : Transfer) → Within (q ▹ d) run → accepted d.call ≡ some u
+    only_accepted : (q : Run) (d : Event) (u : Transfer) → Within (q ▹ d) run → accepted d.call ≡ Some u
         → t.account ≡ u.account → t.number ≡ u.number → t ≡ u
     only_accepted q d u w is account number = go (accepted_is d.call u is)
       where
@@ -94,7 +94,7 @@ module _ (o : Opening) (bad : Seat → Bool) (run : Run) (opens : Opens o) (few 
             sym (ruled_only o bad run opens few obeys kept t u only_majority only_quorum q d w (ap ruled this) account number)
 
     -- what is put forward has a majority, or its seat accepted it
-    only_proposed : (q : Run) (d : Event) (u : Transfer) → Within (q ▹ d) run → proposed d.call ≡ some u
+    only_proposed : (q : Run) (d : Event) (u : Transfer) → Within (q ▹ d) run → proposed d.call ≡ Some u
         → t.account ≡ u.account → t.number ≡ u.number → t ≡ u
     only_proposed q d u w is account number = go (proposed_why o bad run opens few obeys kept q d u w is)
       where
@@ -106,7 +106,7 @@ module _ (o : Opening) (bad : Seat → Bool) (run : Run) (opens : Opens o) (few 
 
     -- the acks of all honest seats are enough
     held_enough : (p : Run) (z : Seat) → Within p run
-        → ((s : Seat) → honest o bad s ≡ true → ack_from (entry_of (ledger_at o z p) t.account) s ≡ Full t)
+        → ((s : Seat) → honest o bad s ≡ true → ack_from (entry_of (ledger_at o z p) t.account) s ≡ Some t)
         → enough o.seats o.faults (acks_for t (entry_of (ledger_at o z p) t.account).acks) ≡ true
     held_enough p z w held =
         lt-ltb (o.seats + 3 * o.faults) (2 * acks_for t x.acks)
@@ -162,17 +162,17 @@ module _ (o : Opening) (bad : Seat → Bool) (run : Run) (opens : Opens o) (few 
 
         -- the place of the seat's ack holds t, for it acked nothing else
         place : (y : Slot) → ack_from e s ≡ y → (holds t y ≡ true) ⊎ (conflicts t y ≡ true) → Arrived s t e
-        place Empty at (inl is) = impossible (cc)
-        place Empty at (inr is) = impossible (cc)
-        place (Full u) at (inl is) = inl (inr (at ∙ ap Full (equal_sound u t is)))
-        place (Full u) at (inr is) =
+        place None at (inl is) = impossible (cc)
+        place None at (inr is) = impossible (cc)
+        place (Some u) at (inl is) = inl (inr (at ∙ ap Some (equal_sound u t is)))
+        place (Some u) at (inr is) =
             let clash = conflict_sound u t is in
             let theirs = acked_by_later s u w (all_from o bad opens run kept.acks_genuine z q (obeys_before o obeys w) w t.account s u at fair) in
             absurd (clash.differ (acked_by_once o opens run obeys s u t theirs (all_acked s fair) clash.account clash.number))
 
         waits : (y : Slot) → e.pending ≡ y → waits_already y t ≡ true → Arrived s t e
-        waits Empty at is = impossible (cc)
-        waits (Full p) at is =
+        waits None at is = impossible (cc)
+        waits (Some p) at is =
             let same = number_same p t is in
             inr (p, same.0, same.1, inr at)
 
@@ -289,7 +289,7 @@ module _ (o : Opening) (bad : Seat → Bool) (run : Run) (opens : Opens o) (few 
         next yet (inr (v, account, number, inr waits)) = omega (arith, (((sound o opens z p here).each t.account).pending_stands v waits).1)
 
         -- where nothing waits, all acks are held
-        held : (t.number ≤ e.current → ⊥) → e.pending ≡ Empty → (s : Seat) → Arrived s t e → ack_from e s ≡ Full t
+        held : (t.number ≤ e.current → ⊥) → e.pending ≡ None → (s : Seat) → Arrived s t e → ack_from e s ≡ Some t
         held yet empty s (inl (inl past)) = absurd (yet past)
         held yet empty s (inl (inr is)) = is
         held yet empty s (inr (v, account, number, inl past)) = absurd (yet (omega arith))
@@ -299,11 +299,11 @@ module _ (o : Opening) (bad : Seat → Bool) (run : Run) (opens : Opens o) (few 
         go (yes past) y at =
             let was = (all_reasons o opens z p here t.account).why_booked t.number (acked_eligible z fair).0 past in
             that_one was.0 was.1 was.2 was.3
-        go (no yet) (Full v) at =
+        go (no yet) (Some v) at =
             let stands = ((sound o opens z p here).each t.account).pending_stands v at in
             that_one v stands.0 (omega (arith, stands.1, next yet (arrived z fair)))
             ((all_reasons o opens z p here t.account).why_waits v at).was_accepted
-        go (no yet) Empty at = decided_accepted o opens z p here t (held_enough p z w (λ s fairly. held yet at s (arrived s fairly)))
+        go (no yet) None at = decided_accepted o opens z p here t (held_enough p z w (λ s fairly. held yet at s (arrived s fairly)))
 
 pub theorem1 : Theorem1
 theorem1 o bad run t opens few at_honest obeys kept all_acked =

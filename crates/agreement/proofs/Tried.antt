@@ -1,10 +1,11 @@
 -- The theorems at runs: what is proved of every run holds of those that try the statements, in the crate runs.
+use Rattle.std.specs.Prelude.{Some, None}
 use mathlib.Core.Path.{◌≡◌, refl, ap, sym, ◌∙◌}
 use mathlib.Core.Bool.{true, false}
 use mathlib.Core.List.{List, ◌∷◌, map}
 use lib.Dec.{lit<}
 use lib.ListN.{replicate}
-use Rattle.laws.specs.Types.{Empty, Full, AckSlot, Propose, First}
+use Rattle.laws.specs.Types.{AckSlot, Propose, First}
 use Rattle.runs.specs.Runs.{Opens, FewBad, honest, Run, at_end, sooner, at_honest, rules_at, ledger_at, acks_with, Obeys}
 use Rattle.runs.specs.Premises.{Premises}
 use Rattle.runs.specs.Claims.{Claim}
@@ -78,7 +79,7 @@ mark_tried = marks_stand page held_on as_it_was held_on (acks 0 w) w across_keep
 
 -- the acks of both, with the one at hand
 abbrev recorded : List AckSlot
-recorded = map (λ p. record { slot = p }) (Full t ∷ Full t ∷ Full t ∷ Full u ∷ Full u ∷ Full u ∷ Full w ∷ replicate 9 Empty)
+recorded = map (λ p. record { slot = p }) (Some t ∷ Some t ∷ Some t ∷ Some u ∷ Some u ∷ Some u ∷ Some w ∷ replicate 9 None)
 
 -- Two calls, in two orders of the acks, are both answered P, and with the ack at hand they have the same acks: what is
 -- said of two such calls is said of these.

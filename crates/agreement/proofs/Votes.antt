@@ -1,12 +1,13 @@
 -- The acks that K and P rest on, as votes of the seats: how they are counted, and that two tallies of one
 -- number agree off the bad seats.
+use Rattle.std.specs.Prelude.{Some, None, is_some}
 use Prim.Native.Nat.{ℕ, ◌+◌, ◌*◌, ◌≤◌, ◌<◌}
 use native.Mathlib.Omega.{arith}
 use mathlib.Core.Path.{◌≡◌, refl, ap, sym, ◌∙◌}
 use mathlib.Core.Bool.{Bool, true, false}
 use lib.ListN.{length}
 use borrow.Author.Tests.{lt-ltb}
-use Rattle.laws.specs.Types.{Seat, Account, Transfer, Slot, Empty, Full, AckSlot, Entry, Ledger, Opening, Message}
+use Rattle.laws.specs.Types.{Seat, Account, Transfer, Slot, AckSlot, Entry, Ledger, Opening, Message}
 use Rattle.runs.specs.Runs.{Opens, count_below, FewBad, honest, Run, Obeys}
 use Rattle.agreement.proofs.Quorums.{count_places, count_more, two_quorums, quorum_most}
 use Rattle.agreement.proofs.Soundness.{group, Sound, accepted_entry, recorded_stands}
@@ -14,7 +15,7 @@ use Rattle.agreement.proofs.StepLaws.{Recording, Proposes, proposes_for}
 use Rattle.agreement.proofs.Acked.{FromSenders, acked_by_once}
 use Rattle.model.specs.Basics.{count}
 use Rattle.model.specs.Records.{seat_of}
-use Rattle.model.specs.Acks.{holds, is_full, acks_for}
+use Rattle.model.specs.Acks.{holds, acks_for}
 use Rattle.model.specs.Refusals.{ack_from}
 use Rattle.laws.proofs.Steps.{entry_with_ack}
 
@@ -26,7 +27,7 @@ vote x i = ack_from x (seat_of i)
 -- honest seats' acks are their own.
 pub record Tally (o : Opening) (bad : Seat → Bool) (run : Run) (a : Account) (m : ℕ) (x : Entry) : Type 0 where
   pub size : length x.acks ≡ 16
-  pub stands : (s : Seat) (u : Transfer) → ack_from x s ≡ Full u → (s.0 < o.seats) × (u.account ≡ a) × (u.number ≡ m)
+  pub stands : (s : Seat) (u : Transfer) → ack_from x s ≡ Some u → (s.0 < o.seats) × (u.account ≡ a) × (u.number ≡ m)
   pub from : FromSenders o bad run x
 
 module _ (o : Opening) (bad : Seat → Bool) (run : Run) (opens : Opens o) where
@@ -46,23 +47,23 @@ module _ (o : Opening) (bad : Seat → Bool) (run : Run) (opens : Opens o) where
 
   -- counting the acks is counting the votes of the n seats
   module _ (a : Account) (m : ℕ) (x : Entry) (tally : Tally o bad run a m x) where
-    unheard : (test : Slot → Bool) → test Empty ≡ false → (i : ℕ) → o.seats ≤ i → test (vote x i) ≡ false
+    unheard : (test : Slot → Bool) → test None ≡ false → (i : ℕ) → o.seats ≤ i → test (vote x i) ≡ false
     unheard test none i above = go (vote x i) refl
       where
         go : (s : Slot) → vote x i ≡ s → test s ≡ false
-        go Empty h = none
-        go (Full u) h = absurd (omega (arith, (tally.stands (seat_of i) u h).0))
+        go None h = none
+        go (Some u) h = absurd (omega (arith, (tally.stands (seat_of i) u h).0))
 
-    pub votes_counted : (test : Slot → Bool) → test Empty ≡ false
+    pub votes_counted : (test : Slot → Bool) → test None ≡ false
         → count (λ (k : AckSlot). test k.slot) x.acks ≡ count_below (λ i. test (vote x i)) o.seats
     votes_counted test none =
-        sym (count_places (λ (k : AckSlot). test k.slot) x.acks (record { slot = Empty }))
+        sym (count_places (λ (k : AckSlot). test k.slot) x.acks (record { slot = None }))
         ∙ (ap (count_below (λ i. test (vote x i))) tally.size
         ∙ count_more (λ i. test (vote x i)) o.seats 16 (group o opens).seats_fit (unheard test none))
 
   -- two tallies of one account and number agree off the bad seats
   pub votes_agree : Obeys o run → (a : Account) (m : ℕ) (x y : Entry) → Tally o bad run a m x → Tally o bad run a m y
-      → (i : ℕ) (t u : Transfer) → i < o.seats → bad (seat_of i) ≡ false → vote x i ≡ Full t → vote y i ≡ Full u → t ≡ u
+      → (i : ℕ) (t u : Transfer) → i < o.seats → bad (seat_of i) ≡ false → vote x i ≡ Some t → vote y i ≡ Some u → t ≡ u
   votes_agree obeys a m x y first second i t u below fair ht hu =
       let honestly : honest o bad (seat_of i) ≡ true = rw (lt-ltb i o.seats below, fair) in
       let one = first.stands (seat_of i) t ht in
@@ -80,7 +81,7 @@ pub record Quorum (o : Opening) (bad : Seat → Bool) (run : Run) (t : Transfer)
 pub record Majority (o : Opening) (bad : Seat → Bool) (run : Run) (u : Transfer) : Type 0 where
   pub entry : Entry
   pub tally : Tally o bad run u.account u.number entry
-  pub recorded : o.seats ≤ count_below (λ i. is_full (vote entry i)) o.seats + o.faults
+  pub recorded : o.seats ≤ count_below (λ i. is_some (vote entry i)) o.seats + o.faults
   pub most : (t : Transfer) → count_below (λ i. holds t (vote entry i)) o.seats ≤ count_below (λ i. holds u (vote entry i)) o.seats
 
 module _ (o : Opening) (bad : Seat → Bool) (run : Run) (opens : Opens o) (few : FewBad o bad) (obeys : Obeys o run) where
@@ -116,7 +117,7 @@ module _ (o : Opening) (bad : Seat → Bool) (run : Run) (opens : Opens o) (l : 
       record {
         entry = x;
         tally = same_tally o bad run opens _ _ _ _ x (sym found.0) (sym found.1) tally;
-        recorded = omega (arith, counted is_full refl, rw (ok.seats_same, ok.faults_same) at p.recorded);
+        recorded = omega (arith, counted is_some refl, rw (ok.seats_same, ok.faults_same) at p.recorded);
         most = λ v. omega (arith, counted (holds v) refl, counted (holds u) refl, p.most v);
       }
     where
@@ -129,6 +130,6 @@ module _ (o : Opening) (bad : Seat → Bool) (run : Run) (opens : Opens o) (l : 
       tally : Tally o bad run t.account t.number x
       tally = tally_of_lem o bad run opens l p.sender t ok p.records from
 
-      counted : (test : Slot → Bool) → test Empty ≡ false
+      counted : (test : Slot → Bool) → test None ≡ false
           → count (λ (k : AckSlot). test k.slot) x.acks ≡ count_below (λ i. test (vote x i)) o.seats
       counted = votes_counted o bad run opens t.account t.number x tally

@@ -1,4 +1,5 @@
 -- What a loop over an array's elements knows at each turn, when it counts them, searches them or tests each.
+use Rattle.std.specs.Prelude.{Some, None}
 use Prim.Native.Nat.{ℕ, suc, ◌+◌, ◌-◌, ◌≤◌, ◌<◌}
 use native.Mathlib.Nat.{sub-zero}
 use native.Mathlib.Numerals.{add-one}
@@ -6,7 +7,6 @@ use native.Mathlib.Omega.{arith}
 use mathlib.Core.Path.{◌≡◌, refl, ap, sym, ◌∙◌}
 use mathlib.Core.Bool.{Bool, true, false}
 use mathlib.Core.List.{List, [], ◌∷◌}
-use mathlib.Core.Option.{none, some}
 use lib.ListN.{length, get_or, drop}
 use Rattle.model.specs.Basics.{bit, count, every, first_where}
 use Rattle.basics.proofs.Loops.{none_left, sum_left}
@@ -51,7 +51,7 @@ pub searched_none : (p : ℕ → Bool) (n : ℕ) → Searched p n 0
 searched_none p n = record { rest = rw sub-zero }
 
 module _ {p : ℕ → Bool} {n i : ℕ} (s : Searched p n i) where
-  pub searched_all : n ≤ i → first_where p n 0 ≡ none
+  pub searched_all : n ≤ i → first_where p n 0 ≡ None
   searched_all h =
       let over : n - i ≡ 0 = omega arith in
       sym s.rest ∙ ap (λ (left : ℕ). first_where p left i) over
@@ -66,7 +66,7 @@ module _ {p : ℕ → Bool} {n i : ℕ} (s : Searched p n i) where
     searched_more miss =
         record { rest = rw (add-one i) (rw (← test, miss, add-one i) at (sym next_turn ∙ s.rest)) }
 
-    pub searched_found : r ≡ true → first_where p n 0 ≡ some i
+    pub searched_found : r ≡ true → first_where p n 0 ≡ Some i
     searched_found hit = sym (rw (← test, hit) at (sym next_turn ∙ s.rest))
 
 -- no more elements pass a test than there are

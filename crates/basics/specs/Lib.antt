@@ -1,3 +1,2 @@
--- What the functions answer, beside the model's definitions, and what it is to write bytes into a lent buffer.
-pub mod Results
+-- What it is to write bytes into a lent buffer.
 pub mod Outputs

@@ -3,9 +3,7 @@
 
 #![tactic(auto)]
 
-pub mod codes;
 pub mod output;
 pub mod quorums;
-pub mod results;
 pub mod slots;
 pub mod transfers;

@@ -1,32 +1,21 @@
 // A place that may hold a transfer, tested.
 ghost use Rattle.std.specs.Prelude.{◌≡◌};
-ghost use Rattle.model.specs.Acks.{holds, conflicts, is_full};
+ghost use Rattle.model.specs.Acks.{holds, conflicts};
 
-use crate::transfers::{in_conflict, is_equal};
-use model::{Slot, Transfer};
+use crate::transfers::in_conflict;
+use model::Transfer;
 
 // The place holds a transfer equal to this one.
-pub fn is_held(t: Transfer, s: Slot) -> bool
+#[tactic(auto, unfolding(model::specs::Transfers::equal))]
+pub fn is_held(t: Transfer, s: Option<Transfer>) -> bool
     ensures { result ≡ holds t s }
 {
-    match s {
-        Slot::Empty => false,
-        Slot::Full(u) => is_equal(u, t),
-    }
+    s == Some(t)
 }
 
 // The place holds a transfer that conflicts with this one.
-pub fn is_against(t: Transfer, s: Slot) -> bool
+pub fn is_against(t: Transfer, s: Option<Transfer>) -> bool
     ensures { result ≡ conflicts t s }
 {
-    match s {
-        Slot::Empty => false,
-        Slot::Full(u) => in_conflict(u, t),
-    }
-}
-
-pub fn is_full(s: Slot) -> bool
-    ensures { result ≡ is_full s }
-{
-    if let Slot::Full(_) = s { true } else { false }
+    s.is_some_and(|u| in_conflict(u, t))
 }

@@ -1,4 +1,4 @@
-// Transfers compared, field by field.
+// Transfers compared.
 ghost use Rattle.std.specs.Prelude.{◌≡◌};
 ghost use Rattle.model.specs.Transfers.{same_number, equal, conflict};
 
@@ -8,19 +8,19 @@ use model::Transfer;
 pub fn same_number(t: Transfer, u: Transfer) -> bool
     ensures { result ≡ same_number t u }
 {
-    t.account.0 == u.account.0 && t.number == u.number
+    t.account == u.account && t.number == u.number
 }
 
 #[tactic(auto, unfolding(model::specs::Transfers::equal))]
 pub fn is_equal(t: Transfer, u: Transfer) -> bool
     ensures { result ≡ equal t u }
 {
-    same_number(t, u) && t.value == u.value && t.recipient.0 == u.recipient.0
+    t == u
 }
 
-#[tactic(auto, unfolding(model::specs::Transfers::conflict))]
+#[tactic(auto, unfolding(model::specs::Transfers::conflict, model::specs::Transfers::equal))]
 pub fn in_conflict(t: Transfer, u: Transfer) -> bool
     ensures { result ≡ conflict t u }
 {
-    same_number(t, u) && !is_equal(t, u)
+    same_number(t, u) && t != u
 }

@@ -1,14 +1,12 @@
 -- A sound bundle has at most 18,123 bytes, 2 + 8 × 1,000 + 131 + 999 × 10: m is at most 1,000, entry 0 alone has a body
 -- of 131 bytes, every other at most 10, and the bundle ends with its last body. So the first 18,124 bytes of an input,
 -- however long it is, have the check of the whole.
-use Rattle.std.proofs.Common.{◌≡◌, ℕ, zero, suc, ◌+◌, ◌*◌, ◌<◌, ◌≤◌, Bool, true, false, not, ◌&&◌, ◌||◌, eqb, ltb, leb, List, [], ◌∷◌, length, get_or, take, drop, sym, refl, ap, ◌∙◌, inl, inr, arith, length-take-le, take_all, get_or-take, ltb-false, le-ltb, ne_eqb, eqb-true, leb-true}
+use Rattle.std.proofs.Common.{◌≡◌, ℕ, zero, suc, ◌+◌, ◌*◌, ◌<◌, ◌≤◌, Bool, true, false, not, ◌&&◌, ◌||◌, eqb, ltb, leb, List, [], ◌∷◌, length, get_or, take, drop, sym, refl, ap, ◌∙◌, inl, inr, arith, length-take-le, take_all, get_or-take, ltb-false, le-ltb, ne_eqb, eqb-true, leb-true, Option, Some, None, Ok}
 use native.Mathlib.Decide.{dec_le}
-use mathlib.Core.Option.{Option, none, some}
 use lib.Dec.{eqb-suc-zero}
 use Rattle.model.specs.declared.Refusal.TheVariants.{BadHeader, BadContents, BadEnd, BadSum}
 use Rattle.model.specs.declared.ContentsEntry.{ContentsEntry}
-use Rattle.model.specs.declared.BundleReply.{BundleReply}
-use Rattle.model.specs.declared.BundleReply.TheVariants.{Sound, BundleRefused}
+use Rattle.model.specs.Types.{BundleReply, refused_at}
 use Rattle.model.specs.Basics.{every}
 use Rattle.model.specs.Bundles.{number_at, entry_count, contents_at, body_lengths, body_length, start_at, bad_count, bad_header, misplaced, wrong_entry, first_bad_entry, bad_end, wrong_sum_at, first_bad_sum, of_whole, first_fault, check_bundle}
 use Rattle.bundle.specs.Promises.{longest, RefusedEarly, LongRefused}
@@ -81,9 +79,9 @@ count_right m e =
 -- The check of a longer bundle goes by its count and its first wrong entry alone: with neither at fault, it
 -- does not end with its last body.
 abbrev of_long : Bool → Option ℕ → BundleReply
-of_long true wrong = BundleRefused BadHeader 0
-of_long false (some i) = BundleRefused BadContents i
-of_long false none = BundleRefused BadEnd 0
+of_long true wrong = refused_at BadHeader 0
+of_long false (Some i) = refused_at BadContents i
+of_long false None = refused_at BadEnd 0
 
 module _ (bytes : List ℕ) (long : longest < length bytes) where
   -- it is long enough for the contents of any right count,
@@ -94,7 +92,7 @@ module _ (bytes : List ℕ) (long : longest < length bytes) where
       rw (le-ltb (length bytes) 2 (omega arith), e, le-ltb (length bytes) (2 + 8 * entry_count bytes) (omega arith))
 
   -- and too long for right contents
-  long_end : bad_count (entry_count bytes) ≡ false → first_bad_entry bytes ≡ none → bad_end bytes ≡ true
+  long_end : bad_count (entry_count bytes) ≡ false → first_bad_entry bytes ≡ None → bad_end bytes ≡ true
   long_end e right =
       let few = count_right (entry_count bytes) e in
       let last = ends_by bytes (entry_count bytes) (first_none (wrong_at bytes) (entry_count bytes) 0 right) in
@@ -107,20 +105,20 @@ module _ (bytes : List ℕ) (long : longest < length bytes) where
       go : (b : Bool) → bad_count (entry_count bytes) ≡ b → (wrong : Option ℕ) → first_bad_entry bytes ≡ wrong
           → check_bundle bytes ≡ of_long b wrong
       go true h wrong e = rw (long_header true h)
-      go false h (some i) e = rw (long_header false h, e)
-      go false h none e = rw (long_header false h, e, long_end h e)
+      go false h (Some i) e = rw (long_header false h, e)
+      go false h None e = rw (long_header false h, e, long_end h e)
 
 of_long_lem : (b : Bool) (wrong : Option ℕ) → RefusedEarly (of_long b wrong)
 of_long_lem true wrong = (BadHeader, 0, refl, inl refl)
-of_long_lem false (some i) = (BadContents, i, refl, inr (inl refl))
-of_long_lem false none = (BadEnd, 0, refl, inr (inr refl))
+of_long_lem false (Some i) = (BadContents, i, refl, inr (inl refl))
+of_long_lem false None = (BadEnd, 0, refl, inr (inr refl))
 
 -- a longer bundle is refused with 13, 14 or 15
 pub long_refused : LongRefused
 long_refused bytes long = rw (long_check bytes long) (of_long_lem (bad_count (entry_count bytes)) (first_bad_entry bytes))
 
 -- a sound bundle has at most 18,123 bytes
-pub most_bytes : (bytes : List ℕ) (m : ℕ) → check_bundle bytes ≡ Sound m → length bytes ≤ longest
+pub most_bytes : (bytes : List ℕ) (m : ℕ) → check_bundle bytes ≡ Ok m → length bytes ≤ longest
 most_bytes bytes m sound = go (dec_le (length bytes) longest)
   where
     go : Dec (length bytes ≤ longest) → length bytes ≤ longest
@@ -129,20 +127,20 @@ most_bytes bytes m sound = go (dec_le (length bytes) longest)
 
 -- what is sound has no fault, and the m that it says
 no_fault : (n m : ℕ) (header : Bool) (entry : Option ℕ) (end : Bool) (sum : Option ℕ)
-    → first_fault n ((of_whole header, BadHeader) ∷ (entry, BadContents) ∷ (of_whole end, BadEnd) ∷ (sum, BadSum) ∷ []) ≡ Sound m
-    → (m ≡ n) × (header ≡ false) × (entry ≡ none) × (end ≡ false) × (sum ≡ none)
+    → first_fault n ((of_whole header, BadHeader) ∷ (entry, BadContents) ∷ (of_whole end, BadEnd) ∷ (sum, BadSum) ∷ []) ≡ Ok m
+    → (m ≡ n) × (header ≡ false) × (entry ≡ None) × (end ≡ false) × (sum ≡ None)
 no_fault n m true entry end sum e = impossible (cc)
-no_fault n m false (some i) end sum e = impossible (cc)
-no_fault n m false none true sum e = impossible (cc)
-no_fault n m false none false (some i) e = impossible (cc)
-no_fault n m false none false none e = (cc, refl, refl, refl, refl)
+no_fault n m false (Some i) end sum e = impossible (cc)
+no_fault n m false None true sum e = impossible (cc)
+no_fault n m false None false (Some i) e = impossible (cc)
+no_fault n m false None false None e = (cc, refl, refl, refl, refl)
 
-module _ (bytes : List ℕ) (m : ℕ) (sound : check_bundle bytes ≡ Sound m) where
+module _ (bytes : List ℕ) (m : ℕ) (sound : check_bundle bytes ≡ Ok m) where
   sound_parts : (m ≡ entry_count bytes)
       × (bad_header bytes ≡ false)
-      × (first_bad_entry bytes ≡ none)
+      × (first_bad_entry bytes ≡ None)
       × (bad_end bytes ≡ false)
-      × (first_bad_sum bytes ≡ none)
+      × (first_bad_sum bytes ≡ None)
   unfolding check_bundle
   sound_parts = no_fault (entry_count bytes) m (bad_header bytes) (first_bad_entry bytes) (bad_end bytes) (first_bad_sum bytes) sound
 
@@ -214,5 +212,5 @@ module _ (bytes : List ℕ) (n : ℕ) where
   front large = same_check large (dec_le (length bytes) n)
 
   -- and of a sound bundle all is read
-  pub read_front : (m : ℕ) → longest < n → check_bundle bytes ≡ Sound m → take n bytes ≡ bytes
+  pub read_front : (m : ℕ) → longest < n → check_bundle bytes ≡ Ok m → take n bytes ≡ bytes
   read_front m large sound = let few = most_bytes bytes m sound in take_all n bytes (omega arith)

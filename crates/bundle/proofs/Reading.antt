@@ -5,7 +5,6 @@ use Rattle.model.specs.Bundles.{entry_count, contents_at, page_of, page_at}
 use Rattle.laws.proofs.Sums.{impossible}
 use Rattle.bundle.specs.declared.Cursor.{Cursor}
 use Rattle.bundle.specs.declared.Read.{Read}
-use Rattle.bundle.specs.declared.Read.TheVariants.{Taken, NoMore}
 use Rattle.bundle.specs.Promises.{ReadAs}
 
 module _ (bytes : List ℕ) (i : ℕ) where

@@ -1,16 +1,11 @@
 -- What the check and the reading of a bundle promise, by document 01's definitions in the model.
-use Rattle.std.specs.Prelude.{◌≡◌, ℕ, ◌+◌, ◌<◌, cond, ◌⊎◌, List, [], ◌∷◌, length, nat_lt}
-use Rattle.std.proofs.Math.Option.{Option, none, some}
+use Rattle.std.specs.Prelude.{◌≡◌, ℕ, ◌+◌, ◌<◌, cond, ◌⊎◌, List, [], ◌∷◌, length, nat_lt, Option, Some, None, Ok}
 use Rattle.model.specs.declared.Refusal.{Refusal}
 use Rattle.model.specs.declared.ContentsEntry.{ContentsEntry}
-use Rattle.model.specs.declared.BundleReply.{BundleReply}
-use Rattle.model.specs.declared.BundleReply.TheVariants.{BundleRefused}
+use Rattle.model.specs.Types.{BundleReply, refused_at}
 use Rattle.model.specs.Bundles.{entry_count, contents_at, page_of, start_at, first_bad_entry, fault_values, faults, check_bundle, Reading, taken, no_more, read_next}
 use Rattle.model.specs.Replies.{code_of, values_of_bundle}
 use Rattle.bundle.specs.declared.Read.{Read}
-use Rattle.bundle.specs.declared.Read.TheVariants.{Taken, NoMore}
-use Rattle.bundle.specs.declared.checks.Walk.{Walk}
-use Rattle.bundle.specs.declared.checks.Walk.TheVariants.{Wrong, EndsAt}
 
 -- The check of a bundle: the answer, and document 01's number and values of it.
 pub record CheckedAs (bytes : List ℕ) (r : BundleReply) : Type 0 where
@@ -19,8 +14,8 @@ pub record CheckedAs (bytes : List ℕ) (r : BundleReply) : Type 0 where
 
 -- what the walk over the contents finds
 abbrev pub walked : Option ℕ → ℕ → Walk
-walked none end = EndsAt end
-walked (some i) end = Wrong i
+walked None end = Ok end
+walked (Some i) end = Wrong i
 
 abbrev pub walk_of : List ℕ → Walk
 walk_of bytes = walked (first_bad_entry bytes) (start_at bytes (entry_count bytes))
@@ -65,7 +60,7 @@ longest = 18_123
 -- "a longer input gives 13, 14 or 15"
 abbrev pub RefusedEarly : BundleReply → Type 0
 RefusedEarly reply =
-    (r : Refusal) × (i : ℕ) × (reply ≡ BundleRefused r i) × ((code_of r ≡ 13) ⊎ (code_of r ≡ 14) ⊎ (code_of r ≡ 15))
+    (r : Refusal) × (i : ℕ) × (reply ≡ refused_at r i) × ((code_of r ≡ 13) ⊎ (code_of r ≡ 14) ⊎ (code_of r ≡ 15))
 
 abbrev pub LongRefused : Type 0
 LongRefused = (bytes : List ℕ) → longest < length bytes → RefusedEarly (check_bundle bytes)

@@ -1,4 +1,5 @@
 -- From what a call computed to what it promises.
+use Rattle.std.specs.Prelude.{Some, None, Ok, Err}
 use Prim.Native.Nat.{ℕ, ◌+◌, ◌<◌}
 use native.Mathlib.Omega.{arith}
 use mathlib.Core.Path.{◌≡◌, refl, ap, sym, ◌∙◌}
@@ -9,8 +10,7 @@ use lib.Seq.{get_or-set_same}
 use Rattle.model.specs.declared.Seat.{Seat}
 use Rattle.model.specs.declared.Account.{Account}
 use Rattle.model.specs.declared.Transfer.{Transfer}
-use Rattle.model.specs.declared.Slot.{Slot}
-use Rattle.model.specs.declared.Slot.TheVariants.{Empty, Full}
+use Rattle.model.specs.Types.{Slot}
 use Rattle.model.specs.Types.{AckSlot, Entry, Ledger}
 use Rattle.model.specs.declared.Refusal.{Refusal}
 use Rattle.model.specs.declared.Message.{Message}
@@ -32,9 +32,7 @@ use Rattle.laws.proofs.Refusing.{effect_in, refuses, not_refused, joins_in_lem, 
 use Rattle.layout.specs.Layout.{ledger_in, entry_in}
 use Rattle.layout.proofs.Blocks.{entries_length}
 use Rattle.layout.proofs.Ranges.{accounts_fit}
-use Rattle.basics.specs.declared.results.Check.{Check}
-use Rattle.basics.specs.declared.results.Check.TheVariants.{Passed, Failed}
-use Rattle.basics.specs.Results.{check_of}
+use Rattle.model.specs.Refusals.{check_of}
 use Rattle.basics.proofs.ReadBack.{passed, failed}
 use Rattle.settling.specs.Results.{Settles}
 use Rattle.tally.specs.declared.Tally.{Tally}
@@ -51,12 +49,12 @@ answered before m r after reply ledger kept =
 -- A message that brings no late P, whose rules were tried: refused with the words as they
 -- were, or served by its effect.
 module _ (ws : List ℕ) (m : Message) (in_time : late_in (ledger_in ws) m ≡ false) (q : Check) (q_is : q ≡ check_of (first_refusal (rules_in (ledger_in ws) m))) where
-  pub refused : (r : Refusal) → q ≡ Failed r → Answered ws m (Refuse r) ws
+  pub refused : (r : Refusal) → q ≡ Err r → Answered ws m (Refuse r) ws
   refused r found =
       let step_is = sym (newest_step (ledger_in ws) m) ∙ refuses newest (ledger_in ws) m r in_time (failed (first_refusal (rules_in (ledger_in ws) m)) r (sym q_is ∙ found)) in
       answered ws m (Refuse r) ws (rw step_is) (rw step_is) (λ code e. refl)
 
-  pub served : (r : Reply) (after : List ℕ) → q ≡ Passed → Taken (effect_in newest (ledger_in ws) m) r after → Answered ws m r after
+  pub served : (r : Reply) (after : List ℕ) → q ≡ Ok tt → Taken (effect_in newest (ledger_in ws) m) r after → Answered ws m r after
   served r after found x =
       let step_is = sym (newest_step (ledger_in ws) m) ∙ not_refused newest (ledger_in ws) m in_time (passed (first_refusal (rules_in (ledger_in ws) m)) (sym q_is ∙ found)) in
       answered ws m r after (rw step_is x.reply) (rw step_is x.ledger) (λ code e. absurd (x.not_refused code e))
@@ -70,12 +68,12 @@ finished_again l a e x = go x.due x.entry
     go accepts e' = rw (set_entry_twice l.entries a e e')
 
 -- a seat's ack that is recorded is among those that are equal to its slip
-counted_in : (acks : List AckSlot) (s : ℕ) (t : Transfer) → s < length acks → 0 < acks_for t (set acks s (record { slot = Full t }))
+counted_in : (acks : List AckSlot) (s : ℕ) (t : Transfer) → s < length acks → 0 < acks_for t (set acks s (record { slot = Some t }))
 counted_in acks s t inside =
-    let d : AckSlot = record { slot = Empty } in
-    let new : AckSlot = record { slot = Full t } in
+    let d : AckSlot = record { slot = None } in
+    let new : AckSlot = record { slot = Some t } in
     let at = sum_at_least (λ (a : AckSlot). bit (holds t a.slot)) (set acks s new) s d (rw (length-set acks s new) inside) in
-    let one : bit (holds t (Full t)) ≡ 1 = ap bit (equal_refl t) in
+    let one : bit (holds t (Some t)) ≡ 1 = ap bit (equal_refl t) in
     omega (arith, one, rw (get_or-set_same acks s new d inside) at at)
 
 -- The slip's ack is recorded in the words, and what follows is what the message does.
@@ -104,24 +102,24 @@ module _ (ws : List ℕ) (s : Seat) (t : Transfer) (p : Slot) (p_is : p ≡ late
   late = late_in (ledger_in ws) (Ack s t)
 
   -- a place that is filled is the retained one, and the P is due
-  due : (u : Transfer) → p ≡ Full u → (late ≡ true) × ((entry_in ws t.account).retained ≡ Full u)
+  due : (u : Transfer) → p ≡ Some u → (late ≡ true) × ((entry_in ws t.account).retained ≡ Some u)
   due u found = go late refl (sym p_is ∙ found)
     where
-      go : (b : Bool) → late ≡ b → cond b (entry_in ws t.account).retained Empty ≡ Full u → (late ≡ true) × ((entry_in ws t.account).retained ≡ Full u)
+      go : (b : Bool) → late ≡ b → cond b (entry_in ws t.account).retained None ≡ Some u → (late ≡ true) × ((entry_in ws t.account).retained ≡ Some u)
       go true is h = (is, h)
       go false is h = impossible (cc)
 
   -- an empty place is no late P: what is due is of a slip
-  pub in_time : p ≡ Empty → late ≡ false
+  pub in_time : p ≡ None → late ≡ false
   in_time found = go late refl (sym p_is ∙ found)
     where
-      go : (b : Bool) → late ≡ b → cond b (entry_in ws t.account).retained Empty ≡ Empty → late ≡ false
+      go : (b : Bool) → late ≡ b → cond b (entry_in ws t.account).retained None ≡ None → late ≡ false
       go true is h =
           let held = (joining (ledger_in ws) s t is).is_retained in
           impossible (cc (held, h))
       go false is h = is
 
-  pub proposes_late : (u : Transfer) (after : List ℕ) → p ≡ Full u
+  pub proposes_late : (u : Transfer) (after : List ℕ) → p ≡ Some u
       → ledger_in after ≡ with_entry (ledger_in ws) t.account (with_retained_proposed (entry_in ws t.account)) → Answered ws (Ack s t) (Propose u) after
   proposes_late u after found marked =
       let is = due u found in
@@ -129,7 +127,7 @@ module _ (ws : List ℕ) (s : Seat) (t : Transfer) (p : Slot) (p_is : p ≡ late
       answered ws (Ack s t) (Propose u) after (rw (step_is, is.1)) (rw step_is marked) (λ code e. impossible (cc))
 
   -- such an ack is of an account that there is
-  pub late_account : (u : Transfer) → p ≡ Full u → t.account.0 < 32
+  pub late_account : (u : Transfer) → p ≡ Some u → t.account.0 < 32
   late_account u found =
       omega (arith, (joining (ledger_in ws) s t (due u found).0).account_known, accounts_fit ws)
 

@@ -1,10 +1,10 @@
 -- What a slip has that its rules did not refuse: a place in the words, and what its place will tell of it.
+use Rattle.std.specs.Prelude.{None}
 use Prim.Native.Nat.{ℕ, ◌+◌, ◌<◌}
 use native.Mathlib.Omega.{arith}
 use mathlib.Core.Path.{◌≡◌}
 use mathlib.Core.Bool.{false, ◌||◌}
 use mathlib.Core.List.{List}
-use mathlib.Core.Option.{none}
 use lib.Dec.{eqb, ltb}
 use borrow.Author.Tests.{leb-false, eqb-false}
 use Rattle.model.specs.declared.Seat.{Seat}
@@ -47,23 +47,23 @@ module _ (ws : List ℕ) (t : Transfer) where
   fits_by : out_of_range (ledger_in ws) t ≡ false → past_number (entry_in ws t.account) t ≡ false → future_number (entry_in ws t.account) t ≡ false → Fits
   fits_by inside past future = record { range = in_range inside; next = next_number_lem (entry_in ws t.account) t past future }
 
-  pub fits : first_refusal (transfer_rules (ledger_in ws) (entry_in ws t.account) t) ≡ none → Fits
+  pub fits : first_refusal (transfer_rules (ledger_in ws) (entry_in ws t.account) t) ≡ None → Fits
   fits passed =
       let fail = none_holds (transfer_rules (ledger_in ws) (entry_in ws t.account) t) passed in
       fits_by fail.0 fail.1.0 fail.1.1.0
 
   -- the same of what a request or slip meets first, of a slip, and of an ack, whose seat has its place too
-  pub offer_fits : first_refusal (offer_rules (ledger_in ws) (entry_in ws t.account) t) ≡ none → Fits
+  pub offer_fits : first_refusal (offer_rules (ledger_in ws) (entry_in ws t.account) t) ≡ None → Fits
   offer_fits passed =
       let fail = none_holds (offer_rules (ledger_in ws) (entry_in ws t.account) t) passed in
       fits_by fail.0 fail.1.1.0 fail.1.1.1.0
 
-  pub circulated_fits : first_refusal (circulated_rules (ledger_in ws) (entry_in ws t.account) t) ≡ none → Fits
+  pub circulated_fits : first_refusal (circulated_rules (ledger_in ws) (entry_in ws t.account) t) ≡ None → Fits
   circulated_fits passed =
       let fail = none_holds (circulated_rules (ledger_in ws) (entry_in ws t.account) t) passed in
       fits_by fail.0 fail.1.1.0 fail.1.1.1.0
 
-  pub ack_fits : (s : Seat) → first_refusal (ack_rules (ledger_in ws) (entry_in ws t.account) s t) ≡ none → Fits × (s.0 < 16)
+  pub ack_fits : (s : Seat) → first_refusal (ack_rules (ledger_in ws) (entry_in ws t.account) s t) ≡ None → Fits × (s.0 < 16)
   ack_fits s passed =
       let fail = none_holds (ack_rules (ledger_in ws) (entry_in ws t.account) s t) passed in
       (fits_by fail.1.0 fail.1.1.0 fail.1.1.1.0, seat_place ws s fail.0)

@@ -5,7 +5,7 @@
 ghost use Rattle.std.specs.Prelude.{◌≡◌, length, ◌<◌};
 ghost use Rattle.model.specs.Refusals.{first_refusal, out_of_range, waits_already, number_rules, transfer_rules, offer_rules, request_rules, circulated_rules, ack_rules};
 ghost use Rattle.layout.specs.Layout.{book_words, ledger_in, entry_in};
-ghost use Rattle.basics.specs.Results.{check_of};
+ghost use Rattle.model.specs.Refusals.{check_of};
 ghost use Rattle.checks.specs.Promises.{late_slip};
 
 use basics::results::Check;

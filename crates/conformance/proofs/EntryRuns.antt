@@ -1,9 +1,9 @@
 -- A run at one seat that goes on with the entries of a bundle, and the lines of these entries: each gives the other.
+use Rattle.std.specs.Prelude.{Some}
 use Prim.Native.Nat.{ℕ, zero, suc, ◌+◌, ◌≤◌, ◌<◌}
 use native.Mathlib.Omega.{arith}
 use mathlib.Core.Path.{◌≡◌, refl, ap, sym, ◌∙◌}
 use mathlib.Core.List.{List, [], ◌∷◌, ◌++◌, append_assoc}
-use mathlib.Core.Option.{some}
 use Rattle.model.specs.Types.{Outcome}
 use Rattle.model.specs.Calls.{step}
 use Rattle.model.specs.Switches.{newest, step_under}
@@ -62,7 +62,7 @@ module _ (bytes : List ℕ) (o : Opening) (s : Seat) where
 
   -- there is one, if each entry asks
   pub goes_on : (left i : ℕ) (run : Run) → Newest run
-      → ((j : ℕ) → i ≤ j → j < i + left → (m : Message) × (message_of (page_at bytes j) ≡ some m)) → Obeys o run → GoesOn left i run
+      → ((j : ℕ) → i ≤ j → j < i + left → (m : Message) × (message_of (page_at bytes j) ≡ Some m)) → Obeys o run → GoesOn left i run
   goes_on zero i run yet asks obeys = ([], tt, obeys)
   goes_on (suc left) i run yet asks obeys =
       let this = asks i (omega arith) (omega arith) in

@@ -1,5 +1,6 @@
 -- Every ledger that a run reaches can be told by its places: what stands in it passed the rules, so it has
 -- a value and a known recipient.
+use Rattle.std.specs.Prelude.{Some}
 use Prim.Native.Nat.{◌<◌}
 use native.Mathlib.Omega.{arith}
 use mathlib.Core.Path.{◌≡◌, refl, ap, sym, ◌∙◌}
@@ -8,7 +9,7 @@ use mathlib.Core.Bool.{◌||◌}
 use mathlib.Core.List.{List}
 use lib.Dec.{eqb, ltb}
 use borrow.Author.Tests.{eqb-false}
-use Rattle.laws.specs.Types.{Seat, Account, Transfer, Full, AckSlot, Entry, Ledger, Opening, Message, Reply}
+use Rattle.laws.specs.Types.{Seat, Account, Transfer, AckSlot, Entry, Ledger, Opening, Message, Reply}
 use Rattle.runs.specs.Runs.{Opens, Run, ledger_at, Obeys}
 use Rattle.agreement.proofs.Soundness.{group, SoundEntry, Sound, no_acks_lem, opened_entry, recorded_read}
 use Rattle.agreement.proofs.StepLaws.{Puts, puts_mark, puts_ack, puts_proposal, puts_accepted, puts_ruled, puts_late, each_entry}
@@ -30,9 +31,9 @@ Moves t = (0 < t.value) × (t.recipient.0 < 256)
 
 -- each slip that stands in an entry does
 record AllMove (e : Entry) : Type 0 where
-  pub acks : (s : Seat) (t : Transfer) → ack_from e s ≡ Full t → Moves t
-  pub pending : (t : Transfer) → e.pending ≡ Full t → Moves t
-  pub retained : (t : Transfer) → e.retained ≡ Full t → Moves t
+  pub acks : (s : Seat) (t : Transfer) → ack_from e s ≡ Some t → Moves t
+  pub pending : (t : Transfer) → e.pending ≡ Some t → Moves t
+  pub retained : (t : Transfer) → e.retained ≡ Some t → Moves t
 
 -- and where the acks, what waits and what is retained stay
 same_move : (e e' : Entry) → e'.acks ≡ e.acks → e'.pending ≡ e.pending → e'.retained ≡ e.retained → AllMove e → AllMove e'
@@ -57,7 +58,7 @@ module _ (o : Opening) (opens : Opens o) where
     recorded_move s t fit new =
         record { acks = λ z u h. go z u (recorded_read o l s t (group o opens) ok fit new z u h); pending = (old t.account).pending; retained = (old t.account).retained }
       where
-        go : (z : Seat) (u : Transfer) → ((z ≡ s) × (u ≡ t)) ⊎ (ack_from (entry_of l t.account) z ≡ Full u) → Moves u
+        go : (z : Seat) (u : Transfer) → ((z ≡ s) × (u ≡ t)) ⊎ (ack_from (entry_of l t.account) z ≡ Some u) → Moves u
         go z u (inl this) = rw this.1 (eligible_moves l t ok fit)
         go z u (inr before) = (old t.account).acks z u before
 
@@ -72,7 +73,7 @@ module _ (o : Opening) (opens : Opens o) where
         this : (u : Transfer) → t ≡ u → Moves u
         this u same = rw (← same) (eligible_moves l t ok fit)
 
-        go : (u : Transfer) → (e.retained ≡ Full u) ⊎ (t ≡ u) → Moves u
+        go : (u : Transfer) → (e.retained ≡ Some u) ⊎ (t ≡ u) → Moves u
         go u (inl before) = all.retained u before
         go u (inr same) = this u same
 
@@ -83,7 +84,7 @@ module _ (o : Opening) (opens : Opens o) where
         on_balance : (a : Account) (e e' : Entry) → SameButBalance e e' → AllMove e → AllMove e'
         on_balance a e e' same all = rw same (same_move e (with_balance e e'.balance) refl refl refl all)
 
-        on_booked : (a : Account) (e e' : Entry) (t : Transfer) → SoundEntry o a e → e.pending ≡ Full t → Cleared t e e' → AllMove e → AllMove e'
+        on_booked : (a : Account) (e e' : Entry) (t : Transfer) → SoundEntry o a e → e.pending ≡ Some t → Cleared t e e' → AllMove e → AllMove e'
         on_booked a e e' t stands waits clear all =
             record {
               acks = λ s u h. impossible (cc (rw clear.no_acks_lem at h, no_acks_lem s));
@@ -119,7 +120,7 @@ module _ (o : Opening) (opens : Opens o) where
               retained = λ t h. go t (takes_over_from v e t h);
             }
           where
-            go : (t : Transfer) → (e.retained ≡ Full t) ⊎ (e.pending ≡ Full t) → Moves t
+            go : (t : Transfer) → (e.retained ≡ Some t) ⊎ (e.pending ≡ Some t) → Moves t
             go t (inl before) = all.retained t before
             go t (inr waits) = all.pending t waits
 

@@ -1,10 +1,9 @@
 -- The lines of a text are a run: the statements are in specs/Texts.antt.
+use Rattle.std.specs.Prelude.{Some, Ok}
 use Prim.Native.Nat.{ℕ, zero, suc, ◌+◌, ◌-◌, ◌≤◌, ◌<◌}
 use native.Mathlib.Omega.{arith}
 use mathlib.Core.Path.{◌≡◌, refl}
 use mathlib.Core.List.{List}
-use mathlib.Core.Option.{some}
-use Rattle.model.specs.declared.BundleReply.TheVariants.{Sound}
 use Rattle.model.specs.Records.{fresh_ledger}
 use Rattle.model.specs.Bundles.{entry_count, page_at, message_of, check_bundle}
 use Rattle.laws.specs.Types.{Message}
@@ -22,8 +21,8 @@ use Rattle.conformance.proofs.EntryRuns.{goes_on, told_lines, ledger_left}
 use Rattle.conformance.proofs.ClosingRows.{accounted}
 
 -- in a sound bundle each entry from 1 asks
-each_asks : (bytes : List ℕ) (m : ℕ) → check_bundle bytes ≡ Sound m
-    → (j : ℕ) → 1 ≤ j → j < 1 + (entry_count bytes - 1) → (q : Message) × (message_of (page_at bytes j) ≡ some q)
+each_asks : (bytes : List ℕ) (m : ℕ) → check_bundle bytes ≡ Ok m
+    → (j : ℕ) → 1 ≤ j → j < 1 + (entry_count bytes - 1) → (q : Message) × (message_of (page_at bytes j) ≡ Some q)
 each_asks bytes m right zero from to = absurd (omega arith)
 each_asks bytes m right (suc j) from to = all_ask bytes m right j (omega (arith, (sound_count bytes m right).1))
 

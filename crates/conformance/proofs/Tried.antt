@@ -1,11 +1,11 @@
 -- The links, tried. The runs that demand 3 is tried on are made by groups at work. Document 01's whole output is the
 -- text of a run, which is written out here, and of every run of that bundle.
+use Rattle.std.specs.Prelude.{Ok}
 use Prim.Native.Nat.{ℕ}
 use mathlib.Core.Path.{◌≡◌, refl, sym, ◌∙◌}
 use mathlib.Core.List.{List, [], ◌∷◌, ◌++◌}
 use lib.Dec.{lit<}
 use lib.ListN.{get_or}
-use Rattle.model.specs.declared.BundleReply.TheVariants.{Sound}
 use Rattle.model.specs.Basics.{sum_of}
 use Rattle.model.specs.Records.{seat_of, account_of, no_acks}
 use Rattle.model.specs.Transfers.{equal, conflict}
@@ -14,7 +14,7 @@ use Rattle.model.specs.Acks.{has_most}
 use Rattle.model.specs.Settling.{lowest_affordable, apply, settle_at_most, settle}
 use Rattle.model.specs.Switches.{step_under}
 use Rattle.model.specs.Bundles.{check_bundle}
-use Rattle.laws.specs.Types.{Seat, Message, Circulated, Ack, Decision, Inquiry, Reply, Acknowledge, Note, Accept, Balance, Opened}
+use Rattle.laws.specs.Types.{Seat, Message, Circulated, Ack, Decision, Inquiry, Reply, Acknowledge, Note, Accept, Balance}
 use Rattle.runs.specs.Runs.{◌▹◌, rules_at, ledger_at, Obeys}
 use Rattle.runs.specs.Slates.{leave_at_most, leave_all, slate_at}
 use Rattle.runs.specs.Facts.{count_of}
@@ -79,7 +79,7 @@ unfolding case decimal
 whole_facts = (refl, refl, refl, refl)
 
 -- that bundle is sound and opens
-pub whole_sound : (check_bundle case ≡ Sound 8) × (opened case ≡ Opened)
+pub whole_sound : (check_bundle case ≡ Ok 8) × (opened case ≡ Ok tt)
 unfolding case check_bundle open_reply
 whole_sound = (refl, refl)
 

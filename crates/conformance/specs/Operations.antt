@@ -1,8 +1,8 @@
 -- An operation that keeps its contract is a call of a run, at a seat under the newest rules. What a seat holds are
 -- words, and the ledger that they are is the run's: under the rules before request 5 they are words of a book held from
 -- before, with its layout. The proofs are in proofs/Operations.antt.
-use Rattle.std.specs.Prelude.{ℕ, ◌≡◌, Bool, true, false, List}
-use Rattle.laws.specs.Types.{Seat, Ledger, Opening, Refusal, Message, Reply, Refuse, Opened, ListReply}
+use Rattle.std.specs.Prelude.{ℕ, ◌≡◌, Bool, true, false, List, Ok}
+use Rattle.laws.specs.Types.{Seat, Ledger, Opening, Refusal, Message, Reply, Refuse, ListReply}
 use Rattle.runs.specs.Runs.{Opens, FewBad, Call, message, waiting_list, switch, Event, Run, start, ◌▹◌, at_honest, same_seat, rules_after, rules_at, next_ledger, ledger_at, MayReply, MayList, Conforms, Obeys}
 use Rattle.runs.specs.Premises.{Premises}
 use Rattle.runs.specs.Claims.{Claim}
@@ -55,12 +55,12 @@ OperatedConforms =
 
 -- What an opening under a set of rules leaves that is not refused.
 pub record OpenedUnder (v : Rules) (before : List ℕ) (o : Opening) (after : List ℕ) : Type 0 where
-  pub reply : open_reply o ≡ Opened
+  pub reply : open_reply o ≡ Ok tt
   pub ledger : ledger_under v after ≡ open_ledger o (ledger_under v before)
 
 -- An opening that keeps today's contract is one under the newest rules.
 abbrev pub ContractOpens : Type 0
-ContractOpens = (before : List ℕ) (o : Opening) (after : List ℕ) → OpenedAs before o Opened after → OpenedUnder newest before o after
+ContractOpens = (before : List ℕ) (o : Opening) (after : List ℕ) → OpenedAs before o (Ok tt) after → OpenedUnder newest before o after
 
 -- "each holds a book just opened from that page": what an opening left that was not refused, under the rules that the
 -- seat starts with, whatever a book's words were before it. It is said of every seat; of one that makes no call

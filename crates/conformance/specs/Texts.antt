@@ -1,12 +1,10 @@
 -- The lines of a text that `daybook` writes are a run at one seat. The proofs are in
 -- proofs/Texts.antt and proofs/Reading.antt.
-use Rattle.std.specs.Prelude.{ℕ, zero, suc, ◌-◌, ◌<◌, ◌≡◌, List, [], ◌∷◌, ◌++◌, map, length, get_or}
-use Rattle.std.proofs.Math.Option.{some}
-use Rattle.model.specs.declared.BundleReply.TheVariants.{Sound}
+use Rattle.std.specs.Prelude.{ℕ, zero, suc, ◌-◌, ◌<◌, ◌≡◌, List, [], ◌∷◌, ◌++◌, map, length, get_or, Some, Ok}
 use Rattle.model.specs.Bundles.{entry_count, page_at, message_of, check_bundle}
 use Rattle.model.specs.Basics.{sum_of}
 use Rattle.model.specs.Switches.{newest}
-use Rattle.laws.specs.Types.{Seat, Account, Opening, Message, Inquiry, Reply, Balance, Opened, ListReply}
+use Rattle.laws.specs.Types.{Seat, Account, Opening, Message, Inquiry, Reply, Balance, ListReply}
 use Rattle.runs.specs.Runs.{message, waiting_list, Event, Run, start, ◌▹◌, ledger_at, Obeys}
 use Rattle.runs.specs.Slates.{slate_at}
 use Rattle.runs.specs.Facts.{count_of, Facts}
@@ -39,7 +37,7 @@ abbrev pub AskedFrom : List ℕ → ℕ → ℕ → List Exchange → Type 0
 AskedFrom bytes zero i [] = Unit {0}
 AskedFrom bytes zero i (x ∷ xs) = ⊥
 AskedFrom bytes (suc left) i [] = ⊥
-AskedFrom bytes (suc left) i (x ∷ xs) = (message_of (page_at bytes i) ≡ some x.asked) × AskedFrom bytes left (suc i) xs
+AskedFrom bytes (suc left) i (x ∷ xs) = (message_of (page_at bytes i) ≡ Some x.asked) × AskedFrom bytes left (suc i) xs
 
 -- A run of a bundle at seat s: each entry from 1 is one of its calls, and no other is; and
 -- it obeys, by the newest rules.
@@ -99,17 +97,17 @@ pub record TellsReader (bytes text : List ℕ) (s : Seat) : Type 0 where
 
 -- The text of each bundle that is sound and opens tells this, whichever seat is taken for the one that it is of.
 abbrev pub EveryText : Type 0
-EveryText = (bytes : List ℕ) (m : ℕ) (s : Seat) → check_bundle bytes ≡ Sound m → opened bytes ≡ Opened → TellsReader bytes (text_of bytes) s
+EveryText = (bytes : List ℕ) (m : ℕ) (s : Seat) → check_bundle bytes ≡ Ok m → opened bytes ≡ Ok tt → TellsReader bytes (text_of bytes) s
 
 -- And every run of such a bundle has its text.
 abbrev pub EveryRun : Type 0
 EveryRun =
     (bytes : List ℕ) (m : ℕ) (s : Seat) (xs : List Exchange)
-    → check_bundle bytes ≡ Sound m → opened bytes ≡ Opened → RunOfBundle bytes s xs → text_of bytes ≡ text_of_run bytes s xs
+    → check_bundle bytes ≡ Ok m → opened bytes ≡ Ok tt → RunOfBundle bytes s xs → text_of bytes ≡ text_of_run bytes s xs
 
 -- The waiting list that a host asks for behind the last entry is one more call of such a run.
 abbrev pub EveryList : Type 0
 EveryList =
     (bytes : List ℕ) (m : ℕ) (s : Seat) (xs : List Exchange) (before : List ℕ) (reply : ListReply) (after : List ℕ)
-    → check_bundle bytes ≡ Sound m → opened bytes ≡ Opened → RunOfBundle bytes s xs → ListOf bytes before reply after
+    → check_bundle bytes ≡ Ok m → opened bytes ≡ Ok tt → RunOfBundle bytes s xs → ListOf bytes before reply after
     → Obeys (opening_page bytes) (run_of s xs ▹ record { at = s; call = waiting_list before reply after })

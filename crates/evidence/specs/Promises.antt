@@ -1,7 +1,7 @@
 -- What the join promises, by document 02's definitions in the model.
 use Rattle.std.specs.Prelude.{ℕ, ◌≡◌, List, [], ◌∷◌, length, take, drop}
 use Rattle.model.specs.declared.Transfer.{Transfer}
-use Rattle.model.specs.declared.Evidence.{Evidence}
+use Rattle.model.specs.Types.{Evidence}
 use Rattle.model.specs.Replies.{code_of, number_of_which, values_of_evidence}
 use Rattle.model.specs.Joins.{earliest_pair, answer_of, unless_join_fault, evidence, bundle_named, shown_body, shown_start, shown_in}
 

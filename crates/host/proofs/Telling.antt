@@ -1,10 +1,10 @@
 -- A list's reply told as one number.
+use Rattle.std.specs.Prelude.{Option}
 use Prim.Native.Nat.{ℕ}
 use mathlib.Core.Path.{◌≡◌, ap, ◌∙◌}
 use mathlib.Core.List.{List}
-use mathlib.Core.Option.{Option}
 use Rattle.model.specs.declared.Refusal.{Refusal}
-use Rattle.model.specs.declared.ListReply.{ListReply}
+use Rattle.model.specs.Types.{ListReply}
 use Rattle.model.specs.Calls.{list_reply, list_buffer}
 use Rattle.ledger.specs.Promises.{ListedBy}
 use Rattle.host.specs.Waiting.{number_of}

@@ -1,8 +1,7 @@
 -- What a host hands over, a kind, a seat and a body, is met as a page of a bundle is. This is the one place that says
 -- what a wrong one gets: 14 for a kind that cannot stand there (as a message 0 or above 5) and for a seat other than 0
 -- where the kind has none, and then 15 for a body that is not as long as its kind's.
-use Rattle.std.specs.Prelude.{ℕ, Bool, not, List, [], ◌∷◌, ◌++◌, eqb, length}
-use Rattle.std.proofs.Math.Option.{Option, none, some}
+use Rattle.std.specs.Prelude.{ℕ, Bool, not, List, [], ◌∷◌, ◌++◌, eqb, length, Option, Some, None}
 use Rattle.model.specs.declared.Message.{Message}
 use Rattle.model.specs.declared.Refusal.{Refusal}
 use Rattle.model.specs.declared.Refusal.TheVariants.{BadContents, BadEnd}
@@ -28,8 +27,8 @@ handed_refusal p = first_refusal (handed_rules 1 p)
 -- What it is answered: that refusal, which changes nothing; else what its message is. (What stands for a page
 -- that is no message never shows.)
 abbrev pub answer_by : Option Refusal → Ledger → Message → Outcome
-answer_by none l m = step l m
-answer_by (some r) l m = record { reply = Refuse r; next = l }
+answer_by None l m = step l m
+answer_by (Some r) l m = record { reply = Refuse r; next = l }
 
 abbrev pub answer : Ledger → Page → Outcome
 answer l p = answer_by (handed_refusal p) l (message_or (message_of p))

@@ -1,7 +1,7 @@
 -- A book that is loaded, told in numbers.
 use Rattle.std.specs.Prelude.{ℕ, ◌≡◌, List}
 use Rattle.saving.specs.declared.LoadReply.{LoadReply}
-use Rattle.saving.specs.declared.LoadReply.TheVariants.{Loaded, WrongMark, UnknownFormat, WrongLength, WrongSum}
+use Rattle.saving.specs.declared.LoadReply.TheVariants.{WrongMark, UnknownFormat, WrongLength, WrongSum}
 use Rattle.saving.specs.Saved.{load_reply, LoadedAs}
 
 -- 0, or the answer's own number, which is none of the documents' codes

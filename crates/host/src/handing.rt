@@ -1,7 +1,7 @@
 // What a host hands over, a kind, a seat and a body, is met as a page of a bundle is, before all else.
 ghost use Rattle.std.specs.Prelude.{◌≡◌};
 ghost use Rattle.model.specs.Refusals.{first_refusal};
-ghost use Rattle.basics.specs.Results.{check_of};
+ghost use Rattle.model.specs.Refusals.{check_of};
 ghost use Rattle.host.specs.Handing.{handed_rules};
 ghost use Rattle.host.specs.Messages.{AnsweredAs};
 

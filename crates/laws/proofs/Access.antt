@@ -1,4 +1,5 @@
 -- Getter and setter laws of an account's entry, of the list of entries and of the ledger.
+use Rattle.std.specs.Prelude.{Some, None}
 use Prim.Native.Nat.{ℕ, ◌<◌}
 use native.Mathlib.Decide.{ℕ_discrete, dec_lt}
 use native.Mathlib.Omega.{arith}
@@ -8,7 +9,7 @@ use mathlib.Core.Bool.{Bool, true, false}
 use mathlib.Core.List.{List}
 use lib.ListN.{length, set, length-set}
 use lib.Seq.{get_or-set_same, get_or-set_other, set-get_or, set-set, set_out}
-use Rattle.laws.specs.Types.{Seat, Account, Transfer, Slot, Empty, Full, AckSlot, Entry, Ledger}
+use Rattle.laws.specs.Types.{Seat, Account, Transfer, Slot, AckSlot, Entry, Ledger}
 use Rattle.model.specs.Records.{account_of, no_acks, fresh_entry, with_balance, with_acked, with_ack, with_proposed, with_pending, with_booked, with_retained_of, with_retained, with_retained_proposed, with_none_retained, entry_at, set_entry, with_entries, entry_of, with_entry}
 
 -- an entry's fields, all of them: what the documents name, and what is retained
@@ -41,7 +42,7 @@ unfolding no_acks
 no_acks_length = refl
 
 -- each setter sets what its name says, and nothing else
-pub fresh_fields : (b : ℕ) → Fields (fresh_entry b) b 0 false no_acks false Empty Empty false
+pub fresh_fields : (b : ℕ) → Fields (fresh_entry b) b 0 false no_acks false None None false
 fresh_fields b = fields_of (fresh_entry b)
 
 module _ (e : Entry) where
@@ -52,25 +53,25 @@ module _ (e : Entry) where
   acked_fields = fields_of (with_acked e)
 
   pub ack_fields : (s : Seat) (t : Transfer)
-      → Fields (with_ack e s t) e.balance e.current e.acked (set e.acks s.0 (record { slot = Full t })) e.proposed e.pending e.retained e.retained_proposed
+      → Fields (with_ack e s t) e.balance e.current e.acked (set e.acks s.0 (record { slot = Some t })) e.proposed e.pending e.retained e.retained_proposed
   ack_fields s t = fields_of (with_ack e s t)
 
   pub proposed_fields : Fields (with_proposed e) e.balance e.current e.acked e.acks true e.pending e.retained e.retained_proposed
   proposed_fields = fields_of (with_proposed e)
 
-  pub pending_fields : (t : Transfer) → Fields (with_pending e t) e.balance e.current e.acked e.acks e.proposed (Full t) e.retained e.retained_proposed
+  pub pending_fields : (t : Transfer) → Fields (with_pending e t) e.balance e.current e.acked e.acks e.proposed (Some t) e.retained e.retained_proposed
   pending_fields t = fields_of (with_pending e t)
 
-  pub booked_fields : (m : ℕ) → Fields (with_booked e m) e.balance m false no_acks false Empty e.retained e.retained_proposed
+  pub booked_fields : (m : ℕ) → Fields (with_booked e m) e.balance m false no_acks false None e.retained e.retained_proposed
   booked_fields m = fields_of (with_booked e m)
 
-  pub retained_fields : (t : Transfer) → Fields (with_retained e t) e.balance e.current e.acked e.acks e.proposed e.pending (Full t) e.proposed
+  pub retained_fields : (t : Transfer) → Fields (with_retained e t) e.balance e.current e.acked e.acks e.proposed e.pending (Some t) e.proposed
   retained_fields t = fields_of (with_retained e t)
 
   pub late_fields : Fields (with_retained_proposed e) e.balance e.current e.acked e.acks e.proposed e.pending e.retained true
   late_fields = fields_of (with_retained_proposed e)
 
-  pub none_retained_fields : Fields (with_none_retained e) e.balance e.current e.acked e.acks e.proposed e.pending Empty false
+  pub none_retained_fields : Fields (with_none_retained e) e.balance e.current e.acked e.acks e.proposed e.pending None false
   none_retained_fields = fields_of (with_none_retained e)
 
 -- the second entry is the first with something else retained

@@ -1,4 +1,5 @@
 -- Laws of booking: what it clears, that one fewer slip waits after it, and that it keeps the sum of balances.
+use Rattle.std.specs.Prelude.{Some, None}
 use Prim.Native.Nat.{ℕ, suc, ◌+◌, ◌%◌, ◌≤◌, ◌<◌}
 use native.Mathlib.Nat.{mod-eq_of_lt}
 use native.Mathlib.Decide.{ℕ_discrete, dec_lt}
@@ -11,7 +12,7 @@ use lib.ListN.{length, length-set}
 use lib.Dec.{eqb}
 use lib.Seq.{set_out}
 use borrow.Author.Tests.{eq-eqb, ne_eqb}
-use Rattle.laws.specs.Types.{Account, Transfer, Empty, Full, Entry}
+use Rattle.laws.specs.Types.{Account, Transfer, Entry}
 use Rattle.model.specs.Basics.{bit, sum_of}
 use Rattle.model.specs.Records.{no_acks, fresh_entry, with_balance, entry_at, set_entry, sum_balances, sum_currents}
 use Rattle.model.specs.Settling.{is_waiting, waiting, credited, credit, debited, apply_slot, apply}
@@ -80,7 +81,7 @@ pub record Cleared (t : Transfer) (before e : Entry) : Type 0 where
   pub not_acked : e.acked ≡ false
   pub no_acks_lem : e.acks ≡ no_acks
   pub not_proposed : e.proposed ≡ false
-  pub none_pending : e.pending ≡ Empty
+  pub none_pending : e.pending ≡ None
   pub retained_same : e.retained ≡ before.retained
   pub late_same : e.retained_proposed ≡ before.retained_proposed
 
@@ -115,7 +116,7 @@ cleared_kept before e e' t same clear =
 pub record Affordable (es : List Entry) (a : Account) : Type 0 where
   pub transfer : Transfer
   pub inside : a.0 < length es
-  pub waits : (entry_at es a).pending ≡ Full transfer
+  pub waits : (entry_at es a).pending ≡ Some transfer
   pub funds : transfer.value ≤ (entry_at es a).balance
 
 -- what booking such a slip does

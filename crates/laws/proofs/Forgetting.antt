@@ -1,12 +1,12 @@
 -- What is retained has no part in settling: whatever is retained, the same slips are booked, and the same
 -- entries are left but for that.
+use Rattle.std.specs.Prelude.{Option, Some, None, option_map}
 use Prim.Native.Nat.{ℕ, zero, suc, ◌+◌}
 use mathlib.Core.Path.{◌≡◌, refl, ap, sym, ◌∙◌}
 use mathlib.Core.List.{List, [], ◌∷◌, map}
 use mathlib.Core.Option
-use mathlib.Core.Option.{Option, none, some}
 use lib.ListN.{length, set, get_or-map, length-map}
-use Rattle.laws.specs.Types.{Account, Slot, Empty, Full, Entry}
+use Rattle.laws.specs.Types.{Account, Slot, Entry}
 use Rattle.model.specs.Basics.{bit, first_where}
 use Rattle.model.specs.Records.{account_of, fresh_entry, with_none_retained, entry_at, set_entry}
 use Rattle.model.specs.Settling.{is_waiting, affordable, lowest_affordable, waiting, credited, debited, apply_slot, apply, Settled, one_more, settle_at_most, settle}
@@ -29,8 +29,8 @@ forgets_set es a e = go es a.0
 lowest_same : (es : List Entry) → lowest_affordable (forgetting es) ≡ lowest_affordable es
 unfolding lowest_affordable
 lowest_same es =
-    (λ i. Option.map account_of (first_where (λ a. affordable (forgets_entry es (account_of a) i)) (length (forgetting es)) 0))
-    ∙ ap (λ n. Option.map account_of (first_where (λ a. affordable (entry_at es (account_of a))) n 0)) (length-map es with_none_retained)
+    (λ i. option_map account_of (first_where (λ a. affordable (forgets_entry es (account_of a) i)) (length (forgetting es)) 0))
+    ∙ ap (λ n. option_map account_of (first_where (λ a. affordable (entry_at es (account_of a))) n 0)) (length-map es with_none_retained)
 
 waiting_same : (es : List Entry) → waiting (forgetting es) ≡ waiting es
 waiting_same [] = refl
@@ -41,8 +41,8 @@ unfolding apply
 apply_same es a = rw (forgets_entry es a) (go (entry_at es a).pending)
   where
     go : (p : Slot) → apply_slot (forgetting es) a p ≡ forgetting (apply_slot es a p)
-    go Empty = refl
-    go (Full t) =
+    go None = refl
+    go (Some t) =
         let paid = set_entry es a (debited (entry_at es a) t) in
         rw (forgets_entry es a, ← forgets_set es a (debited (entry_at es a) t), forgets_entry paid t.recipient)
         (sym (forgets_set paid t.recipient (credited (entry_at paid t.recipient) t.value)))
@@ -62,5 +62,5 @@ settle_forgets es = ap (λ n. settle_at_most n (forgetting es)) (waiting_same es
         by : (o : Option Account) → lowest_affordable es ≡ o
             → ((a : Account) → settle_at_most n (forgetting (apply es a)) ≡ settled_forgetting (settle_at_most n (apply es a)))
             → settle_at_most (suc n) (forgetting es) ≡ settled_forgetting (settle_at_most (suc n) es)
-        by none e rest = rw (lowest_same es, e, settle_at_most)
-        by (some a) e rest = rw (lowest_same es, e, settle_at_most) (ap one_more (ap (settle_at_most n) (apply_same es a) ∙ rest a))
+        by None e rest = rw (lowest_same es, e, settle_at_most)
+        by (Some a) e rest = rw (lowest_same es, e, settle_at_most) (ap one_more (ap (settle_at_most n) (apply_same es a) ∙ rest a))

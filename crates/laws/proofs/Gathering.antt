@@ -1,12 +1,13 @@
 -- The seats that are gathered for a slip: exactly those whose ack equals it, each once,
 -- lowest first, and no other list is.
+use Rattle.std.specs.Prelude.{Some, None}
 use Prim.Native.Nat.{ℕ, ◌<◌}
 use native.Mathlib.Omega.{arith}
 use mathlib.Core.Path.{◌≡◌, refl, ap}
 use mathlib.Core.Bool.{Bool, true, false}
 use mathlib.Core.List.{List}
 use lib.ListN.{length}
-use Rattle.laws.specs.Types.{Transfer, Slot, Empty, Full, AckSlot}
+use Rattle.laws.specs.Types.{Transfer, Slot, AckSlot}
 use Rattle.model.specs.Basics.{ExactlyThose}
 use Rattle.model.specs.Acks.{ack_at, holds, acks_for}
 use Rattle.model.specs.Gathering.{has_acked, gathered, ExactlyGathered}
@@ -23,12 +24,12 @@ module _ (t : Transfer) (acks : List AckSlot) where
   has_place s e = go (ack_at acks s) refl
     where
       go : (r : Slot) → ack_at acks s ≡ r → s < length acks
-      go Empty at = impossible (let z : false ≡ true = rw at at e in cc)
-      go (Full u) at = inside acks s u at
+      go None at = impossible (let z : false ≡ true = rw at at e in cc)
+      go (Some u) at = inside acks s u at
 
   pub gathered_number : length (gathered t acks) ≡ acks_for t acks
   unfolding gathered
-  gathered_number = all_number (λ (a : AckSlot). holds t a.slot) (record { slot = Empty }) acks test 0 (λ k below. ap test (omega arith))
+  gathered_number = all_number (λ (a : AckSlot). holds t a.slot) (record { slot = None }) acks test 0 (λ k below. ap test (omega arith))
 
   pub gathered_exactly : ExactlyGathered t acks (gathered t acks)
   unfolding gathered

@@ -1,15 +1,18 @@
 -- What the join finds: the statements are in JoinClaims.antt of specs/.
+use Rattle.std.proofs.lemmas.Option.{same_Some}
+use Rattle.model.specs.declared.FoundPair.{FoundPair}
+use Rattle.model.specs.Types.{join_refused, found_pair, no_pair}
 use Prim.Native.Nat.{ℕ, ◌<◌}
 use native.Mathlib.Omega.{arith}
 use mathlib.Core.Path.{◌≡◌, refl, ap, sym, ◌∙◌}
 use mathlib.Core.Logic.{◌⊎◌, inl, inr}
 use mathlib.Core.Bool.{Bool, true, false, ◌&&◌}
 use mathlib.Core.List.{List}
-use mathlib.Core.Option.{Option, none, some, some-injective}
+use Rattle.std.specs.Prelude.{Option, Some, None, is_some, Ok, Err}
 use lib.Dec.{ltb, eqb}
 use borrow.Author.Tests.{ltb-true, lt-ltb, eqb-true, eq-eqb}
-use Rattle.laws.specs.Types.{Seat, Transfer, Refusal, Which, First, Second, Neither, Evidence, FoundPair, NoPair, JoinRefused}
-use Rattle.model.specs.Basics.{is_some, same}
+use Rattle.laws.specs.Types.{Seat, Transfer, Refusal, Which, First, Second, Neither, Evidence}
+use Rattle.model.specs.Basics.{same}
 use Rattle.model.specs.Records.{seat_of}
 use Rattle.model.specs.Bundles.{entry_count, Page, page_at, unless_fault, faults, opening_of, transfer_of}
 use Rattle.model.specs.Transfers.{equal, conflict}
@@ -35,18 +38,18 @@ module _ (first second : List ℕ) where
   -- the join is refused, or no check refuses it and the answer is that of the earliest pair
   answered : (ruled : Transfer)
       → (Unrefused × (evidence first second ruled ≡ answer_of first ruled (earliest_pair first second)))
-      ⊎ ((r : Refusal) × (of : Which) × (i : ℕ) × (evidence first second ruled ≡ JoinRefused r of i))
+      ⊎ ((r : Refusal) × (of : Which) × (i : ℕ) × (evidence first second ruled ≡ join_refused r of i))
   unfolding evidence
   answered ruled = go (stands of_first second_part (faults first)) (stands of_second third_part (faults second)) (stands of_neither last (page_faults first second))
     where
       of_first : Refusal → ℕ → Evidence
-      of_first r i = JoinRefused r First i
+      of_first r i = join_refused r First i
 
       of_second : Refusal → ℕ → Evidence
-      of_second r i = JoinRefused r Second i
+      of_second r i = join_refused r Second i
 
       of_neither : Refusal → ℕ → Evidence
-      of_neither r i = JoinRefused r Neither i
+      of_neither r i = join_refused r Neither i
 
       last : Evidence
       last = answer_of first ruled (earliest_pair first second)
@@ -58,7 +61,7 @@ module _ (first second : List ℕ) where
       second_part = unless_fault of_second third_part (faults second)
 
       Refused : Type 0
-      Refused = (r : Refusal) × (of : Which) × (i : ℕ) × (unless_fault of_first second_part (faults first) ≡ JoinRefused r of i)
+      Refused = (r : Refusal) × (of : Which) × (i : ℕ) × (unless_fault of_first second_part (faults first) ≡ join_refused r of i)
 
       go : (faultless (faults first) ≡ true) ⊎ ((r : Refusal) × (i : ℕ) × (unless_fault of_first second_part (faults first) ≡ of_first r i))
           → (faultless (faults second) ≡ true) ⊎ ((r : Refusal) × (i : ℕ) × (unless_fault of_second third_part (faults second) ≡ of_second r i))
@@ -80,9 +83,9 @@ module _ (first second : List ℕ) where
   clean : (ruled : Transfer) → Unrefused → evidence first second ruled ≡ answer_of first ruled (earliest_pair first second)
   unfolding evidence
   clean ruled sound =
-      passes (λ r i. JoinRefused r First i) _ (faults first) sound.first_passes
-      ∙ (passes (λ r i. JoinRefused r Second i) _ (faults second) sound.second_passes
-      ∙ passes (λ r i. JoinRefused r Neither i) _ (page_faults first second) (pages_clean sound.pages_same))
+      passes (λ r i. join_refused r First i) _ (faults first) sound.first_passes
+      ∙ (passes (λ r i. join_refused r Second i) _ (faults second) sound.second_passes
+      ∙ passes (λ r i. join_refused r Neither i) _ (page_faults first second) (pages_clean sound.pages_same))
 
 -- two pages that are acks of one seat, below n, with slips that conflict
 pub record Acks (n : ℕ) (p q : Page) : Type 0 where
@@ -139,15 +142,15 @@ module _ (first second : List ℕ) where
   has_partner i j pair = go (partner_of first second i) refl
     where
       go : (o : Option ℕ) → partner_of first second i ≡ o → is_some o ≡ true
-      go none e = impossible (let none_here = first_none (is_pair first second i) (entry_count second) 0 e j (omega arith) (omega (arith, pair.in_second)) in cc (none_here, pair.is))
-      go (some k) e = refl
+      go None e = impossible (let none_here = first_none (is_pair first second i) (entry_count second) 0 e j (omega arith) (omega (arith, pair.in_second)) in cc (none_here, pair.is))
+      go (Some k) e = refl
 
   -- the pair that is found is one, and none comes before it
   record Earliest (i j : ℕ) : Type 0 where
     pair : Pair first second i j
     none_before : (k l : ℕ) → Pair first second k l → Before k l i j → ⊥
 
-  module _ (i j : ℕ) (here : earliest first second ≡ some i) (there : partner_of first second i ≡ some j) where
+  module _ (i j : ℕ) (here : earliest first second ≡ Some i) (there : partner_of first second i ≡ Some j) where
     outer : Found (λ k. is_some (partner_of first second k)) (entry_count first) 0 i
     outer = first_found (λ k. is_some (partner_of first second k)) (entry_count first) 0 i here
 
@@ -170,41 +173,41 @@ module _ (first second : List ℕ) where
           none_before = none_sooner;
         }
 
-  pair_found : (i j : ℕ) → earliest_pair first second ≡ some (i, j) → Earliest i j
+  pair_found : (i j : ℕ) → earliest_pair first second ≡ Some (i, j) → Earliest i j
   unfolding earliest_pair
   pair_found i j e = go (earliest first second) refl e
     where
-      inside : (a : ℕ) → earliest first second ≡ some a → (o : Option ℕ) → partner_of first second a ≡ o
-          → with_partner first second (some a) ≡ some (i, j) → Earliest i j
-      inside a here none there h = impossible (let this : ◌≡◌ {A = Option (ℕ × ℕ)} none (some (i, j)) = rw (with_partner, there) at h in cc)
-      inside a here (some b) there h =
-          let this : ◌≡◌ {A = Option (ℕ × ℕ)} (some (a, b)) (some (i, j)) = rw (with_partner, there) at h in
-          let pairs = some-injective (a, b) (i, j) this in
+      inside : (a : ℕ) → earliest first second ≡ Some a → (o : Option ℕ) → partner_of first second a ≡ o
+          → with_partner first second (Some a) ≡ Some (i, j) → Earliest i j
+      inside a here None there h = impossible (let this : ◌≡◌ {A = Option (ℕ × ℕ)} None (Some (i, j)) = rw (with_partner, there) at h in cc)
+      inside a here (Some b) there h =
+          let this : ◌≡◌ {A = Option (ℕ × ℕ)} (Some (a, b)) (Some (i, j)) = rw (with_partner, there) at h in
+          let pairs = same_Some (a, b) (i, j) this in
           let one : a ≡ i = ap (λ (p : ℕ × ℕ). p.0) pairs in
           let two : b ≡ j = ap (λ (p : ℕ × ℕ). p.1) pairs in
           rw (← one, ← two) (earliest_is a b here there)
 
-      go : (o : Option ℕ) → earliest first second ≡ o → with_partner first second o ≡ some (i, j) → Earliest i j
-      go none here h = impossible (cc)
-      go (some a) here h = inside a here (partner_of first second a) refl h
+      go : (o : Option ℕ) → earliest first second ≡ o → with_partner first second o ≡ Some (i, j) → Earliest i j
+      go None here h = impossible (cc)
+      go (Some a) here h = inside a here (partner_of first second a) refl h
 
   -- and where none is found, there is none
-  none_found : earliest_pair first second ≡ none → Without first second
+  none_found : earliest_pair first second ≡ None → Without first second
   unfolding earliest_pair
   none_found e i j pair = go (earliest first second) refl e
     where
-      inside : (a : ℕ) → earliest first second ≡ some a → (o : Option ℕ) → partner_of first second a ≡ o
-          → with_partner first second (some a) ≡ none → ⊥
-      inside a here none there h =
+      inside : (a : ℕ) → earliest first second ≡ Some a → (o : Option ℕ) → partner_of first second a ≡ o
+          → with_partner first second (Some a) ≡ None → ⊥
+      inside a here None there h =
           impossible (let found = (first_found (λ k. is_some (partner_of first second k)) (entry_count first) 0 a here).passes in cc (found, there))
-      inside a here (some b) there h = impossible (let this : ◌≡◌ {A = Option (ℕ × ℕ)} (some (a, b)) none = rw (with_partner, there) at h in cc)
+      inside a here (Some b) there h = impossible (let this : ◌≡◌ {A = Option (ℕ × ℕ)} (Some (a, b)) None = rw (with_partner, there) at h in cc)
 
-      go : (o : Option ℕ) → earliest first second ≡ o → with_partner first second o ≡ none → ⊥
-      go none here h =
+      go : (o : Option ℕ) → earliest first second ≡ o → with_partner first second o ≡ None → ⊥
+      go None here h =
           impossible
           (let none_there = first_none (λ k. is_some (partner_of first second k)) (entry_count first) 0 here i (omega arith) (omega (arith, pair.in_first)) in
           cc (none_there, has_partner i j pair))
-      go (some a) here h = inside a here (partner_of first second a) refl h
+      go (Some a) here h = inside a here (partner_of first second a) refl h
 
 -- a pair the other way round
 turned_pair : (first second : List ℕ) (i j : ℕ) → (page_at first 0).body ≡ (page_at second 0).body → Pair first second i j → Pair second first j i
@@ -217,21 +220,27 @@ turned_pair first second i j same pair =
       is = rw (← n) (acks_complete (seats_of first) (page_at second j) (page_at first i) (acks_turned (seats_of first) (page_at first i) (page_at second j) (pair_acks first second pair)));
     }
 
+-- the pair in an answer, if there is one
+abbrev pair_in : Evidence → Option FoundPair
+pair_in (Ok o) = o
+pair_in (Err e) = None
+
 -- an answer that was found is the one of the earliest pair
-answer_pair : (first : List ℕ) (ruled : Transfer) (o : Option (ℕ × ℕ)) {seat : Seat} {i j : ℕ} {shown : Which} → answer_of first ruled o ≡ FoundPair seat i j shown
-    → (o ≡ some (i, j)) × (seat ≡ seat_on (page_at first i)) × (shown ≡ shown_by ruled (slip_on (page_at first i)))
-answer_pair first ruled none h = impossible (cc)
-answer_pair first ruled (some (a, b)) {seat} {i} {j} {shown} h =
-    let one : a ≡ i = cc in
-    let two : b ≡ j = cc in
-    let three : seat_on (page_at first a) ≡ seat = cc in
-    let four : shown_by ruled (slip_on (page_at first a)) ≡ shown = cc in
+answer_pair : (first : List ℕ) (ruled : Transfer) (o : Option (ℕ × ℕ)) {seat : Seat} {i j : ℕ} {shown : Which} → answer_of first ruled o ≡ found_pair seat i j shown
+    → (o ≡ Some (i, j)) × (seat ≡ seat_on (page_at first i)) × (shown ≡ shown_by ruled (slip_on (page_at first i)))
+answer_pair first ruled None h = impossible (cc)
+answer_pair first ruled (Some (a, b)) {seat} {i} {j} {shown} h =
+    let same = same_Some _ _ (ap pair_in h) in
+    let one : a ≡ i = ap (λ (p : FoundPair). p.first) same in
+    let two : b ≡ j = ap (λ (p : FoundPair). p.second) same in
+    let three : seat_on (page_at first a) ≡ seat = ap (λ (p : FoundPair). p.seat) same in
+    let four : shown_by ruled (slip_on (page_at first a)) ≡ shown = ap (λ (p : FoundPair). p.shown) same in
     (rw (one, two) refl, sym (rw one at three), sym (rw one at four))
 
 -- the slip that is shown is not the ruled one
 not_ruled : (first second : List ℕ) (ruled : Transfer) (seat : Seat) (i j : ℕ) → Conflict (slip_on (page_at first i)) (slip_on (page_at second j))
     → (b : Bool) → equal (slip_on (page_at first i)) ruled ≡ b
-    → transfer_of (shown_body first second (FoundPair seat i j (shown_by ruled (slip_on (page_at first i))))) ≡ ruled → ⊥
+    → transfer_of (shown_body first second (found_pair seat i j (shown_by ruled (slip_on (page_at first i))))) ≡ ruled → ⊥
 not_ruled first second ruled seat i j against true is h =
     let this : slip_on (page_at second j) ≡ ruled = rw is at h in
     against.differ (equal_sound (slip_on (page_at first i)) ruled is ∙ sym this)
@@ -244,14 +253,14 @@ finds_one : (first second : List ℕ) (ruled : Transfer) → Unrefused first sec
 finds_one first second ruled sound {i} {j} pair = go (earliest_pair first second) refl (clean first second ruled sound)
   where
     go : (o : Option (ℕ × ℕ)) → earliest_pair first second ≡ o → evidence first second ruled ≡ answer_of first ruled o → FindsOne first second ruled
-    go none e is = absurd (none_found first second e i j pair)
-    go (some (a, b)) e is = (seat_on (page_at first a), a, b, shown_by ruled (slip_on (page_at first a)), is)
+    go None e is = absurd (none_found first second e i j pair)
+    go (Some (a, b)) e is = (seat_on (page_at first a), a, b, shown_by ruled (slip_on (page_at first a)), is)
 
 pub found_right : FoundRight
 found_right first second ruled seat i j shown is = go (answered first second ruled)
   where
     shown_apart : shown ≡ shown_by ruled (slip_on (page_at first i)) → Conflict (slip_on (page_at first i)) (slip_on (page_at second j))
-        → transfer_of (shown_body first second (FoundPair seat i j shown)) ≡ ruled → ⊥
+        → transfer_of (shown_body first second (found_pair seat i j shown)) ≡ ruled → ⊥
     shown_apart by against = rw by (not_ruled first second ruled seat i j against (equal (slip_on (page_at first i)) ruled) refl)
 
     finds : Unrefused first second → evidence first second ruled ≡ answer_of first ruled (earliest_pair first second) → Finds first second ruled seat i j shown
@@ -273,32 +282,32 @@ found_right first second ruled seat i j shown is = go (answered first second rul
         }
 
     go : (Unrefused first second × (evidence first second ruled ≡ answer_of first ruled (earliest_pair first second)))
-        ⊎ ((r : Refusal) × (of : Which) × (k : ℕ) × (evidence first second ruled ≡ JoinRefused r of k))
+        ⊎ ((r : Refusal) × (of : Which) × (k : ℕ) × (evidence first second ruled ≡ join_refused r of k))
         → Finds first second ruled seat i j shown
     go (inl (sound, answer)) = finds sound answer
-    go (inr (r, of, k, refused)) = impossible (let other : JoinRefused r of k ≡ FoundPair seat i j shown = sym refused ∙ is in cc)
+    go (inr (r, of, k, refused)) = impossible (let other : join_refused r of k ≡ found_pair seat i j shown = sym refused ∙ is in cc)
 
 -- what is said of the earliest pair where there is none
-none_answer : (first : List ℕ) (ruled : Transfer) (o : Option (ℕ × ℕ)) → answer_of first ruled o ≡ NoPair → o ≡ none
-none_answer first ruled none h = refl
-none_answer first ruled (some (a, b)) h = impossible (cc)
+none_answer : (first : List ℕ) (ruled : Transfer) (o : Option (ℕ × ℕ)) → answer_of first ruled o ≡ no_pair → o ≡ None
+none_answer first ruled None h = refl
+none_answer first ruled (Some (a, b)) h = impossible (cc)
 
 pub none_exactly : NoneExactly
 none_exactly first second ruled = go (answered first second ruled)
   where
-    no_answer : Without first second → (o : Option (ℕ × ℕ)) → earliest_pair first second ≡ o → answer_of first ruled o ≡ NoPair
-    no_answer without none e = refl
-    no_answer without (some (a, b)) e = absurd (without a b (pair_found first second a b e).pair)
+    no_answer : Without first second → (o : Option (ℕ × ℕ)) → earliest_pair first second ≡ o → answer_of first ruled o ≡ no_pair
+    no_answer without None e = refl
+    no_answer without (Some (a, b)) e = absurd (without a b (pair_found first second a b e).pair)
 
     go : (Unrefused first second × (evidence first second ruled ≡ answer_of first ruled (earliest_pair first second)))
-        ⊎ ((r : Refusal) × (of : Which) × (k : ℕ) × (evidence first second ruled ≡ JoinRefused r of k))
-        → (evidence first second ruled ≡ NoPair → Without first second)
-        × (NotRefused first second ruled → Without first second → evidence first second ruled ≡ NoPair)
+        ⊎ ((r : Refusal) × (of : Which) × (k : ℕ) × (evidence first second ruled ≡ join_refused r of k))
+        → (evidence first second ruled ≡ no_pair → Without first second)
+        × (NotRefused first second ruled → Without first second → evidence first second ruled ≡ no_pair)
     go (inl (sound, answer)) = (
       λ none_told. none_found first second (none_answer first ruled (earliest_pair first second) (sym answer ∙ none_told)),
       λ not_refused without. answer ∙ no_answer without (earliest_pair first second) refl,
     )
     go (inr (r, of, k, refused)) = (
-      λ none_told. impossible (let other : JoinRefused r of k ≡ NoPair = sym refused ∙ none_told in cc),
+      λ none_told. impossible (let other : join_refused r of k ≡ no_pair = sym refused ∙ none_told in cc),
       λ not_refused without. absurd (not_refused r of k refused),
     )

@@ -1,5 +1,6 @@
 -- The waiting list: its accounts are exactly those with a waiting slip, each once, lowest first, and no other list is;
 -- and what a list of any accounts keeps.
+use Rattle.std.specs.Prelude.{Option, Some, None, Ok, Err}
 use Prim.Native.Nat.{ℕ, ◌<◌}
 use native.Mathlib.Decide.{dec_lt}
 use native.Mathlib.Nat.{zero-add}
@@ -7,11 +8,10 @@ use native.Mathlib.Omega.{arith}
 use mathlib.Core.Path.{◌≡◌, refl, ap, sym, ◌∙◌}
 use mathlib.Core.Bool.{true, false}
 use mathlib.Core.List.{List}
-use mathlib.Core.Option.{Option, none, some}
 use lib.Dec.{eqb}
 use lib.ListN.{length, drop, get_or-eq_default}
 use lib.Seq.{drop-append_seam}
-use Rattle.laws.specs.Types.{Ledger, Refusal, ListReply, Listed, ListRefused}
+use Rattle.laws.specs.Types.{Ledger, Refusal, ListReply}
 use Rattle.model.specs.Basics.{bit, count, ExactlyThose}
 use Rattle.model.specs.Records.{fresh_entry}
 use Rattle.model.specs.Settling.{is_waiting, waiting}
@@ -61,17 +61,17 @@ module _ (q : Option Refusal) (accounts before : List ℕ) where
 
   module _ (after : List ℕ) where
     -- the reply is how many there are
-    pub list_number : (n : ℕ) → ListsBy q accounts before (Listed n) after → n ≡ length accounts
+    pub list_number : (n : ℕ) → ListsBy q accounts before (Ok n) after → n ≡ length accounts
     list_number n h = go q h.reply
       where
-        go : (q : Option Refusal) → Listed n ≡ list_reply q accounts → n ≡ length accounts
-        go none e = cc (e)
-        go (some r) e = impossible (cc (e))
+        go : (q : Option Refusal) → Ok n ≡ list_reply q accounts → n ≡ length accounts
+        go None e = cc (e)
+        go (Some r) e = impossible (cc (e))
 
     -- the bytes behind the list keep their content
-    pub list_rest : (n : ℕ) → ListsBy q accounts before (Listed n) after → drop n after ≡ drop n before
+    pub list_rest : (n : ℕ) → ListsBy q accounts before (Ok n) after → drop n after ≡ drop n before
     list_rest n h = rw (h.buffer, list_number n h) (drop-append_seam accounts (drop (length accounts) before))
 
     -- a refused list leaves the buffer as it was
-    pub list_refused : (r : Refusal) → ListsBy q accounts before (ListRefused r) after → after ≡ before
+    pub list_refused : (r : Refusal) → ListsBy q accounts before (Err r) after → after ≡ before
     list_refused r h = h.buffer

@@ -1,19 +1,19 @@
 -- What an opening page that is not refused has, and the ledger that it leaves.
+use Rattle.std.specs.Prelude.{Option, Some, None, Ok}
 use Prim.Native.Nat.{ℕ, zero, suc, ◌+◌, ◌-◌, ◌*◌, ◌≤◌, ◌<◌}
 use native.Mathlib.Omega.{arith}
 use mathlib.Core.Path.{◌≡◌, refl, ap, sym, ◌∙◌}
 use mathlib.Core.Bool.{false, not, ◌||◌}
 use mathlib.Core.List.{List}
-use mathlib.Core.Option.{Option, none, some}
 use lib.Dec.{leb, ltb, eqb}
 use lib.ListN.{get_or, drop}
 use lib.Seq.{get_or-drop}
 use borrow.Author.Tests.{leb-false, ltb-false, ne_eqb}
-use Rattle.laws.specs.Types.{Ledger, Opening, Refusal, Opened}
+use Rattle.laws.specs.Types.{Ledger, Opening, Refusal}
 use Rattle.model.specs.Basics.{any, sum_of}
 use Rattle.model.specs.Records.{fresh_ledger}
-use Rattle.model.specs.Refusals.{first_refusal}
-use Rattle.model.specs.Openings.{open_rules, open_reply_by, open_reply, open_ledger_by, open_ledger}
+use Rattle.model.specs.Refusals.{first_refusal, check_of}
+use Rattle.model.specs.Openings.{open_rules, open_reply, open_ledger_by, open_ledger}
 use Rattle.laws.proofs.Sums.{impossible, any_none, neither}
 use Rattle.laws.proofs.Refusing.{none_holds}
 
@@ -37,12 +37,12 @@ all_zero bs k i none_else above =
     is_zero zero e = refl
     is_zero (suc b) e = impossible (cc (rw (ne_eqb (suc b) 0 (omega arith)) at e))
 
-pub opened_group : (o : Opening) → open_reply o ≡ Opened → Group o
+pub opened_group : (o : Opening) → open_reply o ≡ Ok tt → Group o
 unfolding open_reply
 opened_group o opens = go (first_refusal (open_rules o)) refl opens
   where
-    go : (q : Option Refusal) → first_refusal (open_rules o) ≡ q → open_reply_by q ≡ Opened → Group o
-    go none e h =
+    go : (q : Option Refusal) → first_refusal (open_rules o) ≡ q → check_of q ≡ Ok tt → Group o
+    go None e h =
         let fail = none_holds (open_rules o) e in
         let seats = neither (ltb o.seats 1 || ltb 16 o.seats) (leb o.seats (5 * o.faults)) fail.0 in
         let size = neither (ltb o.seats 1) (ltb 16 o.seats) seats.0 in
@@ -56,13 +56,13 @@ opened_group o opens = go (first_refusal (open_rules o)) refl opens
           rest_zero = λ i above. all_zero o.balances o.accounts i page.1 above;
           sum_fits = omega (arith, ltb-false 4_294_967_295 (sum_of (λ b. b) o.balances) fail.1.1.0);
         }
-    go (some q) e h = impossible (cc)
+    go (Some q) e h = impossible (cc)
 
 -- an opening that is not refused leaves the ledger just opened, whatever ledger there was
-pub opened_fresh : (o : Opening) → open_reply o ≡ Opened → (l : Ledger) → open_ledger o l ≡ fresh_ledger o
+pub opened_fresh : (o : Opening) → open_reply o ≡ Ok tt → (l : Ledger) → open_ledger o l ≡ fresh_ledger o
 unfolding open_reply open_ledger
 opened_fresh o opens l = go (first_refusal (open_rules o)) opens
   where
-    go : (q : Option Refusal) → open_reply_by q ≡ Opened → open_ledger_by q (fresh_ledger o) l ≡ fresh_ledger o
-    go none h = refl
-    go (some q) h = impossible (cc)
+    go : (q : Option Refusal) → check_of q ≡ Ok tt → open_ledger_by q (fresh_ledger o) l ≡ fresh_ledger o
+    go None h = refl
+    go (Some q) h = impossible (cc)

@@ -1,6 +1,7 @@
 -- Laws of the slip that is put forward (`most_acked`): it has the most acks; of the slips that have it is the first by
 -- its lowest acknowledging seat, and no other is; where nothing is recorded it is the slip of zeros; and it is told by
 -- the recorded acks, seat by seat, alone.
+use Rattle.std.specs.Prelude.{Option, Some, None}
 use Prim.Native.Nat.{ℕ, zero, suc, ◌≤◌, ◌<◌}
 use native.Mathlib.Decide.{dec_le}
 use native.Mathlib.Omega.{arith}
@@ -8,10 +9,9 @@ use mathlib.Core.Path.{◌≡◌, refl, ap, sym, subst, ◌∙◌}
 use mathlib.Core.Logic.{◌⊎◌, inl, inr}
 use mathlib.Core.Bool.{Bool, true, false}
 use mathlib.Core.List.{List, [], ◌∷◌}
-use mathlib.Core.Option.{Option, none, some}
 use lib.ListN.{length}
 use borrow.Author.Tests.{leb-true, le-leb}
-use Rattle.laws.specs.Types.{Transfer, Slot, Empty, Full, AckSlot}
+use Rattle.laws.specs.Types.{Transfer, Slot, AckSlot}
 use Rattle.model.specs.Basics.{bit, every, first_where}
 use Rattle.model.specs.Acks.{ack_at, holds, acks_for, no_more_than, has_most, holds_most, slip_in, slip_of, most_acked}
 use Rattle.laws.proofs.Sums.{impossible, every_weaken, first_found, first_none}
@@ -22,12 +22,12 @@ pub record FirstOfMost (acks : List AckSlot) (t : Transfer) : Type 0 where
   pub most : has_most acks t ≡ true
   -- a seat that acked it, and no lower seat acked a slip that has the most, be it this one or another
   pub seat : ℕ
-  pub acked : ack_at acks seat ≡ Full t
-  pub lowest : (u : Transfer) (s : ℕ) → ack_at acks s ≡ Full u → has_most acks u ≡ true → seat ≤ s
+  pub acked : ack_at acks seat ≡ Some t
+  pub lowest : (u : Transfer) (s : ℕ) → ack_at acks s ≡ Some u → has_most acks u ≡ true → seat ≤ s
 
 -- no ack is recorded
 abbrev pub NoneRecorded : List AckSlot → Type 0
-NoneRecorded acks = (s : ℕ) → ack_at acks s ≡ Empty
+NoneRecorded acks = (s : ℕ) → ack_at acks s ≡ None
 
 -- no slip in these places has more than c of the acks
 abbrev AtMost : ℕ → List AckSlot → List AckSlot → Type 0
@@ -38,8 +38,8 @@ at_most_more c d le acks places =
     every_weaken (λ a. no_more_than c acks a.slot) (λ a. no_more_than d acks a.slot) places (λ a. here a.slot)
   where
     here : (s : Slot) → no_more_than c acks s ≡ true → no_more_than d acks s ≡ true
-    here Empty e = refl
-    here (Full u) e = le-leb (acks_for u acks) d (omega (arith, leb-true (acks_for u acks) c e))
+    here None e = refl
+    here (Some u) e = le-leb (acks_for u acks) d (omega (arith, leb-true (acks_for u acks) c e))
 
 at_most_none : (c : ℕ) (acks places : List AckSlot) → NoneRecorded places → AtMost c acks places
 at_most_none c acks [] bare = refl
@@ -47,23 +47,23 @@ at_most_none c acks (a ∷ rest) bare = rw (bare 0) (at_most_none c acks rest (�
 
 -- a place whose slip has no fewer of the acks than any slip in these places
 abbrev Best : List AckSlot → List AckSlot → Type 0
-Best acks places = (s : ℕ) × (u : Transfer) × (ack_at places s ≡ Full u) × AtMost (acks_for u acks) acks places
+Best acks places = (s : ℕ) × (u : Transfer) × (ack_at places s ≡ Some u) × AtMost (acks_for u acks) acks places
 
 -- there is one, where an ack is recorded
 best_place : (acks places : List AckSlot) → NoneRecorded places ⊎ Best acks places
 best_place acks [] = inl (λ s. refl)
 best_place acks (a ∷ rest) = better a.slot refl (best_place acks rest)
   where
-    none_more : a.slot ≡ Empty → NoneRecorded rest → NoneRecorded (a ∷ rest)
+    none_more : a.slot ≡ None → NoneRecorded rest → NoneRecorded (a ∷ rest)
     none_more e bare zero = e
     none_more e bare (suc s) = bare s
 
     better : (p : Slot) → a.slot ≡ p → NoneRecorded rest ⊎ Best acks rest → NoneRecorded (a ∷ rest) ⊎ Best acks (a ∷ rest)
-    better Empty e (inl bare) = inl (none_more e bare)
-    better Empty e (inr (s, u, is, most)) = inr (suc s, u, is, rw e most)
-    better (Full v) e (inl bare) =
+    better None e (inl bare) = inl (none_more e bare)
+    better None e (inr (s, u, is, most)) = inr (suc s, u, is, rw e most)
+    better (Some v) e (inl bare) =
         inr (0, v, e, rw (e, le-leb (acks_for v acks) (acks_for v acks) (omega arith)) (at_most_none (acks_for v acks) acks rest bare))
-    better (Full v) e (inr (s, u, is, most)) = go (dec_le (acks_for v acks) (acks_for u acks))
+    better (Some v) e (inr (s, u, is, most)) = go (dec_le (acks_for v acks) (acks_for u acks))
       where
         go : Dec (acks_for v acks ≤ acks_for u acks) → NoneRecorded (a ∷ rest) ⊎ Best acks (a ∷ rest)
         go (yes le) = inr (suc s, u, is, rw (e, le-leb (acks_for v acks) (acks_for u acks) le) most)
@@ -77,15 +77,15 @@ module _ (acks : List AckSlot) where
   test s = holds_most acks (ack_at acks s)
 
   -- a seat that passes has acked a slip with the most acks
-  holding : (s : ℕ) → test s ≡ true → (t : Transfer) × (ack_at acks s ≡ Full t) × (has_most acks t ≡ true)
+  holding : (s : ℕ) → test s ≡ true → (t : Transfer) × (ack_at acks s ≡ Some t) × (has_most acks t ≡ true)
   holding s e = go (ack_at acks s) refl e
     where
-      go : (p : Slot) → ack_at acks s ≡ p → holds_most acks p ≡ true → (t : Transfer) × (ack_at acks s ≡ Full t) × (has_most acks t ≡ true)
-      go Empty is e = impossible (cc)
-      go (Full t) is e = (t, is, e)
+      go : (p : Slot) → ack_at acks s ≡ p → holds_most acks p ≡ true → (t : Transfer) × (ack_at acks s ≡ Some t) × (has_most acks t ≡ true)
+      go None is e = impossible (cc)
+      go (Some t) is e = (t, is, e)
 
   -- the search finds one, where an ack is recorded
-  not_none : Best acks acks → first_where test (length acks) 0 ≡ none → ⊥
+  not_none : Best acks acks → first_where test (length acks) 0 ≡ None → ⊥
   unfolding has_most
   not_none (s, u, is, most) e =
       let missed = first_none test (length acks) 0 e s (omega arith) (omega (arith, inside acks s u is)) in
@@ -93,7 +93,7 @@ module _ (acks : List AckSlot) where
       impossible (cc)
 
   -- where an ack is recorded, it is the first of those with the most
-  pub first_of_most : (s : ℕ) (u : Transfer) → ack_at acks s ≡ Full u → FirstOfMost acks (most_acked acks)
+  pub first_of_most : (s : ℕ) (u : Transfer) → ack_at acks s ≡ Some u → FirstOfMost acks (most_acked acks)
   unfolding most_acked
   first_of_most s u is = go (first_where test (length acks) 0) refl
     where
@@ -102,14 +102,14 @@ module _ (acks : List AckSlot) where
       some_best (inr best) = best
 
       go : (o : Option ℕ) → first_where test (length acks) 0 ≡ o → FirstOfMost acks (slip_of acks o)
-      go none e = absurd (not_none (some_best (best_place acks acks)) e)
-      go (some j) e =
+      go None e = absurd (not_none (some_best (best_place acks acks)) e)
+      go (Some j) e =
           let found = first_found test (length acks) 0 j e in
           let held = holding j found.passes in
           let first : FirstOfMost acks held.0 = record { most = held.2; seat = j; acked = held.1; lowest = λ v k at most. not_lower v k at most (found.lowest k) } in
           subst (FirstOfMost acks) (sym (ap slip_in held.1)) first
         where
-          not_lower : (v : Transfer) (k : ℕ) → ack_at acks k ≡ Full v → has_most acks v ≡ true → (0 ≤ k → k < j → test k ≡ false) → j ≤ k
+          not_lower : (v : Transfer) (k : ℕ) → ack_at acks k ≡ Some v → has_most acks v ≡ true → (0 ≤ k → k < j → test k ≡ false) → j ≤ k
           not_lower v k at most lower = from (dec_le j k)
             where
               from : Dec (j ≤ k) → j ≤ k
@@ -122,17 +122,17 @@ module _ (acks : List AckSlot) where
       let g = first_of_most f.seat t f.acked in
       let same : g.seat ≡ f.seat =
       omega (arith, g.lowest t f.seat f.acked f.most, f.lowest (most_acked acks) g.seat g.acked g.most) in
-      let slips : Full (most_acked acks) ≡ Full t = sym g.acked ∙ (ap (ack_at acks) same ∙ f.acked) in
+      let slips : Some (most_acked acks) ≡ Some t = sym g.acked ∙ (ap (ack_at acks) same ∙ f.acked) in
       cc
 
   -- where nothing is recorded it is the slip of zeros
-  pub none_recorded : NoneRecorded acks → most_acked acks ≡ slip_in Empty
+  pub none_recorded : NoneRecorded acks → most_acked acks ≡ slip_in None
   unfolding most_acked
   none_recorded bare = go (first_where test (length acks) 0) refl
     where
-      go : (o : Option ℕ) → first_where test (length acks) 0 ≡ o → slip_of acks o ≡ slip_in Empty
-      go none e = refl
-      go (some j) e = ap slip_in (bare j)
+      go : (o : Option ℕ) → first_where test (length acks) 0 ≡ o → slip_of acks o ≡ slip_in None
+      go None e = refl
+      go (Some j) e = ap slip_in (bare j)
 
   -- it has the most acks, whatever is recorded
   pub most_acked_most : has_most acks (most_acked acks) ≡ true

@@ -1,5 +1,6 @@
 -- A refusal changes nothing, for every ledger and every call; and a call is refused exactly by the first rule that
 -- holds. Of messages, under every set of rules at once; and today's step is the step under the newest.
+use Rattle.std.specs.Prelude.{Option, Some, None, Err}
 use Prim.Native.Nat.{◌+◌}
 use native.Mathlib.Omega.{arith}
 use borrow.Author.Tests.{leb-false, ltb-false}
@@ -7,12 +8,11 @@ use mathlib.Core.Path.{◌≡◌, refl, ap, sym, subst, ◌∙◌}
 use mathlib.Core.Logic.{◌⊎◌, inl, inr}
 use mathlib.Core.Bool.{Bool, true, false, cond}
 use mathlib.Core.List.{List, [], ◌∷◌}
-use mathlib.Core.Option.{Option, none, some}
 use lib.Dec.{leb-zero}
-use Rattle.laws.specs.Types.{Account, Transfer, Entry, Ledger, Outcome, Opening, Refusal, UnknownSeat, OutOfRange, Message, Request, Circulated, Ack, Decision, Inquiry, Reply, Propose, Note, Refuse, OpenRefused}
+use Rattle.laws.specs.Types.{Account, Transfer, Entry, Ledger, Outcome, Opening, Refusal, UnknownSeat, OutOfRange, Message, Request, Circulated, Ack, Decision, Inquiry, Reply, Propose, Note, Refuse}
 use Rattle.model.specs.Records.{fresh_ledger, no_ledger, with_ack, with_proposed, with_retained_of}
-use Rattle.model.specs.Refusals.{Rule, first_refusal, past_number, future_number}
-use Rattle.model.specs.Openings.{open_rules, open_reply_by, open_reply, open_ledger_by, open_ledger}
+use Rattle.model.specs.Refusals.{Rule, first_refusal, past_number, future_number, check_of}
+use Rattle.model.specs.Openings.{open_rules, open_reply, open_ledger_by, open_ledger}
 use Rattle.model.specs.Acks.{acks_for, acks_recorded, enough, must_propose, most_acked}
 use Rattle.model.specs.Calls.{payer_of, Due, replied, accepts, Effect, replies, waits, tallied, effect, unless_refused, joins, finished_by, finished, entry_for, late_in, rules_in, step}
 use Rattle.model.specs.Switches.{Rules, first_rules, since_request3, since_request5, newest, rules_met, late_met, effect_under, step_under}
@@ -25,12 +25,12 @@ AllFail [] = Unit {0}
 AllFail (r ∷ rs) = (r.0 ≡ false) × AllFail rs
 
 -- what is not refused failed every test of its rules
-pub none_holds : (rules : List Rule) → first_refusal rules ≡ none → AllFail rules
+pub none_holds : (rules : List Rule) → first_refusal rules ≡ None → AllFail rules
 none_holds [] e = tt
 none_holds (r ∷ rs) e = go r.0 refl (none_holds rs)
   where
-    go : (b : Bool) → r.0 ≡ b → (first_refusal rs ≡ none → AllFail rs) → (r.0 ≡ false) × AllFail rs
-    go true h rest = let found : some r.1 ≡ none = rw h at e in impossible (cc)
+    go : (b : Bool) → r.0 ≡ b → (first_refusal rs ≡ None → AllFail rs) → (r.0 ≡ false) × AllFail rs
+    go true h rest = let found : Some r.1 ≡ None = rw h at e in impossible (cc)
     go false h rest = (h, rest (rw h at e))
 
 -- one of the rules has this refusal, and its test holds
@@ -39,12 +39,12 @@ SomeHolds q [] = ⊥
 SomeHolds q (r ∷ rs) = ((r.0 ≡ true) × (r.1 ≡ q)) ⊎ SomeHolds q rs
 
 -- what is refused met the test of one of its rules
-pub some_holds : (rules : List Rule) (q : Refusal) → first_refusal rules ≡ some q → SomeHolds q rules
+pub some_holds : (rules : List Rule) (q : Refusal) → first_refusal rules ≡ Some q → SomeHolds q rules
 some_holds [] q e = impossible (cc)
 some_holds (r ∷ rs) q e = go r.0 refl (some_holds rs q)
   where
-    go : (b : Bool) → r.0 ≡ b → (first_refusal rs ≡ some q → SomeHolds q rs) → ((r.0 ≡ true) × (r.1 ≡ q)) ⊎ SomeHolds q rs
-    go true h rest = let found : some r.1 ≡ some q = rw h at e in inl (h, cc)
+    go : (b : Bool) → r.0 ≡ b → (first_refusal rs ≡ Some q → SomeHolds q rs) → ((r.0 ≡ true) × (r.1 ≡ q)) ⊎ SomeHolds q rs
+    go true h rest = let found : Some r.1 ≡ Some q = rw h at e in inl (h, cc)
     go false h rest = inr (rest (rw h at e))
 
 -- a slip that neither 6 nor 7 refuses has the next number
@@ -111,7 +111,7 @@ refusal r l = record { reply = Refuse r; next = l }
 
 -- a reply R names the first rule that holds, and no late P was due
 pub refused_by : (v : Rules) (l : Ledger) (m : Message) (r : Refusal) → (step_under v l m).reply ≡ Refuse r
-    → (late_met v l m ≡ false) × (first_refusal (rules_met v l m) ≡ some r)
+    → (late_met v l m ≡ false) × (first_refusal (rules_met v l m) ≡ Some r)
 unfolding step_under
 refused_by v l m r h = go (late_met v l m) (first_refusal (rules_met v l m)) h
   where
@@ -123,15 +123,15 @@ refused_by v l m r h = go (late_met v l m) (first_refusal (rules_met v l m)) h
 
     go : (late : Bool) (o : Option Refusal)
         → (finished l a (effect_under v e (cond late (joins e) (unless_refused o e (effect l e m))))).reply ≡ Refuse r
-        → (late ≡ false) × (o ≡ some r)
+        → (late ≡ false) × (o ≡ Some r)
     go true o h = absurd (under_never v l a e (joins e) (λ q k. impossible (cc)) r h)
-    go false none h = absurd (under_never v l a e (effect l e m) (effect_never l e m) r h)
-    go false (some q) h =
+    go false None h = absurd (under_never v l a e (effect l e m) (effect_never l e m) r h)
+    go false (Some q) h =
         let said : Refuse q ≡ Refuse r = rw (replies_under v e e (Refuse q) refl) at h in
         (refl, cc)
 
 -- a message that a rule refuses replies its code and changes nothing
-pub refuses : (v : Rules) (l : Ledger) (m : Message) (r : Refusal) → late_met v l m ≡ false → first_refusal (rules_met v l m) ≡ some r
+pub refuses : (v : Rules) (l : Ledger) (m : Message) (r : Refusal) → late_met v l m ≡ false → first_refusal (rules_met v l m) ≡ Some r
     → step_under v l m ≡ refusal r l
 unfolding step_under
 refuses v l m r late e =
@@ -142,7 +142,7 @@ pub refusal_keeps : (v : Rules) (l : Ledger) (m : Message) (r : Refusal) → (st
 refusal_keeps v l m r h = let by = refused_by v l m r h in rw (refuses v l m r by.0 by.1)
 
 -- a message that no rule refuses has its effect
-pub not_refused : (v : Rules) (l : Ledger) (m : Message) → late_met v l m ≡ false → first_refusal (rules_met v l m) ≡ none
+pub not_refused : (v : Rules) (l : Ledger) (m : Message) → late_met v l m ≡ false → first_refusal (rules_met v l m) ≡ None
     → step_under v l m ≡ effect_in v l m
 unfolding step_under
 not_refused v l m late e = rw (late, e) refl
@@ -165,20 +165,20 @@ unfolding step_under step
 newest_step l m = refl
 
 -- a refused opening leaves any ledger as it was
-pub open_refused : (o : Opening) (r : Refusal) → open_reply o ≡ OpenRefused r → (l : Ledger) → open_ledger o l ≡ l
+pub open_refused : (o : Opening) (r : Refusal) → open_reply o ≡ Err r → (l : Ledger) → open_ledger o l ≡ l
 unfolding open_reply open_ledger
 open_refused o r h l = go (first_refusal (open_rules o)) h
   where
-    go : (q : Option Refusal) → open_reply_by q ≡ OpenRefused r → open_ledger_by q (fresh_ledger o) l ≡ l
-    go none h = impossible (cc)
-    go (some q) h = refl
+    go : (q : Option Refusal) → check_of q ≡ Err r → open_ledger_by q (fresh_ledger o) l ≡ l
+    go None h = impossible (cc)
+    go (Some q) h = refl
 
 -- the ledger with no seats and no accounts, which words that are all 0 are, refuses every message:
 -- acks with 4, all others with 5
 pub no_ledger_refuses : (m : Message) → (r : Refusal) × (step no_ledger m ≡ refusal r no_ledger)
 no_ledger_refuses m = ((first m).0, sym (newest_step no_ledger m) ∙ refuses newest no_ledger m (first m).0 (first m).1 (first m).2)
   where
-    first : (m : Message) → (r : Refusal) × (late_in no_ledger m ≡ false) × (first_refusal (rules_in no_ledger m) ≡ some r)
+    first : (m : Message) → (r : Refusal) × (late_in no_ledger m ≡ false) × (first_refusal (rules_in no_ledger m) ≡ Some r)
     first (Request t) = (OutOfRange, refl, rw (leb-zero t.account.0))
     first (Circulated t) = (OutOfRange, refl, rw (leb-zero t.account.0))
     first (Ack s t) = (UnknownSeat, rw (leb-zero s.0), rw (leb-zero s.0))

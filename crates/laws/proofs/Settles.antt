@@ -6,10 +6,10 @@ use mathlib.Core.Path.{◌≡◌, refl, ap, sym, ◌∙◌}
 use mathlib.Core.Logic.{◌≢◌}
 use mathlib.Core.Bool.{Bool, true, false}
 use mathlib.Core.List.{List}
-use mathlib.Core.Option.{Option, none, some, map}
+use Rattle.std.specs.Prelude.{Option, Some, None, option_map}
 use lib.ListN.{length, get_or-eq_default}
 use borrow.Author.Tests.{leb-true}
-use Rattle.laws.specs.Types.{Account, Transfer, Slot, Empty, Full, Entry}
+use Rattle.laws.specs.Types.{Account, Transfer, Slot, Entry}
 use Rattle.model.specs.Records.{account_of, fresh_entry, entry_at, sum_balances, sum_currents}
 use Rattle.model.specs.Basics.{first_where}
 use Rattle.model.specs.Settling.{Settled, affordable, lowest_affordable, waiting, apply, one_more, settle_at_most, settle}
@@ -21,7 +21,7 @@ pub record Lowest (es : List Entry) (a : Account) : Type 0 where
   pub affords_it : Affordable es a
   pub lowest : (b : ℕ) → b < a.0 → affordable (entry_at es (account_of b)) ≡ false
 
-pub lowest_affordable_lem : (es : List Entry) (a : Account) → lowest_affordable es ≡ some a → Lowest es a
+pub lowest_affordable_lem : (es : List Entry) (a : Account) → lowest_affordable es ≡ Some a → Lowest es a
 unfolding lowest_affordable
 lowest_affordable_lem es a e = found (first_where test (length es) 0) refl e
   where
@@ -29,8 +29,8 @@ lowest_affordable_lem es a e = found (first_where test (length es) 0) refl e
     test b = affordable (entry_at es (account_of b))
 
     slot : (s : Slot) → (entry_at es a).pending ≡ s → Found test (length es) 0 a.0 → Lowest es a
-    slot Empty h f = impossible (let z : false ≡ true = rw h at f.passes in cc)
-    slot (Full t) h f =
+    slot None h f = impossible (let z : false ≡ true = rw h at f.passes in cc)
+    slot (Some t) h f =
         record {
           affords_it =
               record {
@@ -42,9 +42,9 @@ lowest_affordable_lem es a e = found (first_where test (length es) 0) refl e
           lowest = λ b below. f.lowest b (omega arith) below;
         }
 
-    found : (o : Option ℕ) → first_where test (length es) 0 ≡ o → map account_of o ≡ some a → Lowest es a
-    found none w e = impossible (cc)
-    found (some n) w e = slot (entry_at es a).pending refl (first_found test (length es) 0 a.0 (rw (← number) at w))
+    found : (o : Option ℕ) → first_where test (length es) 0 ≡ o → option_map account_of o ≡ Some a → Lowest es a
+    found None w e = impossible (cc)
+    found (Some n) w e = slot (entry_at es a).pending refl (first_found test (length es) 0 a.0 (rw (← number) at w))
       where
         same : account_of n ≡ a
         same = cc
@@ -53,23 +53,23 @@ lowest_affordable_lem es a e = found (first_where test (length es) 0) refl e
         number = sym (ap (λ (b : Account). b.0) same)
 
 -- the search finds none: no account is affordable, also behind the last entry
-pub none_affordable : (es : List Entry) → lowest_affordable es ≡ none → (a : Account) → affordable (entry_at es a) ≡ false
+pub none_affordable : (es : List Entry) → lowest_affordable es ≡ None → (a : Account) → affordable (entry_at es a) ≡ false
 unfolding lowest_affordable
 none_affordable es e a = found (first_where test (length es) 0) refl e
   where
     test : ℕ → Bool
     test b = affordable (entry_at es (account_of b))
 
-    within : first_where test (length es) 0 ≡ none → Dec (a.0 < length es) → affordable (entry_at es a) ≡ false
+    within : first_where test (length es) 0 ≡ None → Dec (a.0 < length es) → affordable (entry_at es a) ≡ false
     within w (yes inside) = first_none test (length es) 0 w a.0 (omega arith) (omega arith)
     within w (no outside) = rw (get_or-eq_default es (fresh_entry 0) {n = a.0} (omega arith))
 
-    found : (o : Option ℕ) → first_where test (length es) 0 ≡ o → map account_of o ≡ none → affordable (entry_at es a) ≡ false
-    found none w e = within w (dec_lt a.0 (length es))
-    found (some n) w e = impossible (cc)
+    found : (o : Option ℕ) → first_where test (length es) 0 ≡ o → option_map account_of o ≡ None → affordable (entry_at es a) ≡ false
+    found None w e = within w (dec_lt a.0 (length es))
+    found (Some n) w e = impossible (cc)
 
 -- nothing is affordable: settling ends
-pub settle_none : (es : List Entry) → lowest_affordable es ≡ none → settle es ≡ record { applied = 0; entries = es }
+pub settle_none : (es : List Entry) → lowest_affordable es ≡ None → settle es ≡ record { applied = 0; entries = es }
 unfolding settle settle_at_most
 settle_none es e = go (waiting es)
   where
@@ -78,7 +78,7 @@ settle_none es e = go (waiting es)
     go (suc n) = rw (e, settle_at_most)
 
 -- otherwise the lowest affordable account is booked, and settling goes on with one fewer slip that waits
-pub settle_some : (es : List Entry) (a : Account) → lowest_affordable es ≡ some a → settle es ≡ one_more (settle (apply es a))
+pub settle_some : (es : List Entry) (a : Account) → lowest_affordable es ≡ Some a → settle es ≡ one_more (settle (apply es a))
 unfolding settle settle_at_most
 settle_some es a e = rw (apply_waiting es a (lowest_affordable_lem es a e).affords_it, e, settle_at_most)
 
@@ -86,7 +86,7 @@ settle_some es a e = rw (apply_waiting es a (lowest_affordable_lem es a e).affor
 -- account is booked, from what settling makes of the rest.
 module _
     (P : List Entry → Settled → Type 0)
-    (stop : (es : List Entry) → lowest_affordable es ≡ none → P es (record { applied = 0; entries = es }))
+    (stop : (es : List Entry) → lowest_affordable es ≡ None → P es (record { applied = 0; entries = es }))
     (go_on : (es : List Entry) (a : Account) → Lowest es a → P (apply es a) (settle (apply es a))
     → P es (one_more (settle (apply es a))))
   where
@@ -97,8 +97,8 @@ module _
     one_turn es rest = go (lowest_affordable es) refl
       where
         go : (o : Option Account) → lowest_affordable es ≡ o → P es (settle es)
-        go none e = rw (settle_none es e) (stop es e)
-        go (some a) e =
+        go None e = rw (settle_none es e) (stop es e)
+        go (Some a) e =
             let at = lowest_affordable_lem es a e in
             rw (settle_some es a e) (go_on es a at (rest a (apply_waiting es a at.affords_it)))
 
@@ -110,8 +110,8 @@ module _
     settle_induction es = at_most (waiting es) es refl
 
 -- settling ends only when no waiting slip is affordable
-pub settle_done : (es : List Entry) → lowest_affordable (settle es).entries ≡ none
-settle_done = settle_induction (λ es s. lowest_affordable s.entries ≡ none) (λ es e. e) (λ es a at rest. rest)
+pub settle_done : (es : List Entry) → lowest_affordable (settle es).entries ≡ None
+settle_done = settle_induction (λ es s. lowest_affordable s.entries ≡ None) (λ es e. e) (λ es a at rest. rest)
 
 -- the count that settling gives is how many slips fewer wait
 pub settle_waiting : (es : List Entry) → waiting es ≡ (settle es).applied + waiting (settle es).entries
@@ -131,14 +131,14 @@ settle_length =
 -- What reachable ledgers have: all balances together fit, and each waiting slip's recipient is an account.
 pub record Bounded (es : List Entry) : Type 0 where
   pub sum_fits : sum_balances es < 4_294_967_296
-  pub recipients : (a : Account) (t : Transfer) → (entry_at es a).pending ≡ Full t → t.recipient.0 < length es
+  pub recipients : (a : Account) (t : Transfer) → (entry_at es a).pending ≡ Some t → t.recipient.0 < length es
 
 -- a slip that waits after a booking waited before it, in another account
 pub waited : (es : List Entry) (a : Account) → Affordable es a → (b : Account) (t : Transfer)
-    → (entry_at (apply es a) b).pending ≡ Full t → (b.0 ≢ a.0) × ((entry_at es b).pending ≡ Full t)
+    → (entry_at (apply es a) b).pending ≡ Some t → (b.0 ≢ a.0) × ((entry_at es b).pending ≡ Some t)
 waited es a at b t h = go (ℕ_discrete b.0 a.0)
   where
-    go : Dec (b.0 ≡ a.0) → (b.0 ≢ a.0) × ((entry_at es b).pending ≡ Full t)
+    go : Dec (b.0 ≡ a.0) → (b.0 ≢ a.0) × ((entry_at es b).pending ≡ Some t)
     go (yes same) = impossible (cc (rw same at h, (apply_clears es a at).none_pending))
     go (no other) = (other, ap (λ (e : Entry). e.pending) (sym (apply_others es a at b other)) ∙ h)
 
@@ -170,7 +170,7 @@ settle_sum =
 -- What settling made of an entry: nothing but its balance changed, or the slip that waited in it was booked.
 pub data Turned (e e' : Entry) : Type 0 where
   kept : SameButBalance e e' → Turned e e'
-  booked : (t : Transfer) → e.pending ≡ Full t → Cleared t e e' → Turned e e'
+  booked : (t : Transfer) → e.pending ≡ Some t → Cleared t e e' → Turned e e'
 
 -- and so for every account
 pub settle_entry : (b : Account) (es : List Entry) → Turned (entry_at es b) (entry_at (settle es).entries b)
@@ -212,7 +212,7 @@ settle_entry b =
 -- booked, holds of each after settling
 pub settle_each : (I : Account → Entry → Type 0)
     → ((a : Account) (e e' : Entry) → SameButBalance e e' → I a e → I a e')
-    → ((a : Account) (e e' : Entry) (t : Transfer) → e.pending ≡ Full t → Cleared t e e' → I a e → I a e')
+    → ((a : Account) (e e' : Entry) (t : Transfer) → e.pending ≡ Some t → Cleared t e e' → I a e → I a e')
     → (es : List Entry) → ((a : Account) → I a (entry_at es a)) → (a : Account) → I a (entry_at (settle es).entries a)
 settle_each I on_balance on_booked es each a = go (settle_entry a es)
   where
@@ -222,7 +222,7 @@ settle_each I on_balance on_booked es each a = go (settle_entry a es)
 
 -- account b is neither payer nor recipient of a waiting slip
 abbrev pub Apart : Account → List Entry → Type 0
-Apart b es = (a : Account) (t : Transfer) → (entry_at es a).pending ≡ Full t → (b.0 ≢ a.0) × (b.0 ≢ t.recipient.0)
+Apart b es = (a : Account) (t : Transfer) → (entry_at es a).pending ≡ Some t → (b.0 ≢ a.0) × (b.0 ≢ t.recipient.0)
 
 -- then settling leaves its entry as it is
 pub settle_apart : (b : Account) (es : List Entry) → Apart b es → entry_at (settle es).entries b ≡ entry_at es b
@@ -236,7 +236,7 @@ settle_apart b =
 
 -- each waiting slip has its account's next number
 abbrev pub NextWaits : List Entry → Type 0
-NextWaits es = (a : Account) (t : Transfer) → (entry_at es a).pending ≡ Full t → t.number ≡ (entry_at es a).current + 1
+NextWaits es = (a : Account) (t : Transfer) → (entry_at es a).pending ≡ Some t → t.number ≡ (entry_at es a).current + 1
 
 pub apply_next : (es : List Entry) (a : Account) → Affordable es a → NextWaits es → NextWaits (apply es a)
 apply_next es a at next b t h =

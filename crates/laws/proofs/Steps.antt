@@ -1,15 +1,15 @@
 -- What a call does, as one case per outcome with its evidence, for every set of rules, ledger and message. Proofs about
 -- runs use `happens` and the laws after it in place of the definitions' text.
+use Rattle.std.specs.Prelude.{Option, Some, None}
 use Prim.Native.Nat.{ℕ, ◌+◌, ◌<◌}
 use native.Mathlib.Omega.{arith}
 use mathlib.Core.Path.{◌≡◌, refl, ap, sym, subst, ◌∙◌}
 use mathlib.Core.Logic.{◌⊎◌, inl, inr}
 use mathlib.Core.Bool.{Bool, true, false, cond, not, ◌&&◌, ◌||◌}
 use mathlib.Core.List.{List, [], ◌∷◌}
-use mathlib.Core.Option.{Option, none, some}
 use lib.Dec.{eqb, ltb}
 use borrow.Author.Tests.{leb-false}
-use Rattle.laws.specs.Types.{Seat, Account, Transfer, Slot, Empty, Full, Entry, Ledger, Refusal, Message, Request, Circulated, Ack, Decision, Inquiry, Reply, Circulate, Acknowledge, Accept, Propose, Note, Balance, Refuse}
+use Rattle.laws.specs.Types.{Seat, Account, Transfer, Slot, Entry, Ledger, Refusal, Message, Request, Circulated, Ack, Decision, Inquiry, Reply, Circulate, Acknowledge, Accept, Propose, Note, Balance, Refuse}
 use Rattle.model.specs.Records.{entry_of, set_entry, with_entry, with_entries, with_acked, with_ack, with_proposed, with_pending, with_retained, with_retained_of, with_retained_proposed}
 use Rattle.model.specs.Replies.{code_of}
 use Rattle.model.specs.Transfers.{conflict}
@@ -74,7 +74,7 @@ retain_keeps since_request3 e t = refl
 retain_keeps since_request5 e t = refl
 
 -- what is retained then is what was, or this slip
-pub retained_or : (v : Rules) (e : Entry) (t u : Transfer) → (retain_under v e t).retained ≡ Full u → (e.retained ≡ Full u) ⊎ (t ≡ u)
+pub retained_or : (v : Rules) (e : Entry) (t u : Transfer) → (retain_under v e t).retained ≡ Some u → (e.retained ≡ Some u) ⊎ (t ≡ u)
 retained_or first_rules e t u h = inl h
 retained_or since_request3 e t u h = inl h
 retained_or since_request5 e t u h = inr (cc)
@@ -89,7 +89,7 @@ pub record Joining (l : Ledger) (s : Seat) (t u : Transfer) : Type 0 where
   pub seat_known : s.0 < l.seats
   pub in_range : out_of_range l t ≡ false
   pub account_known : t.account.0 < l.accounts
-  pub is_retained : (entry_of l t.account).retained ≡ Full u
+  pub is_retained : (entry_of l t.account).retained ≡ Some u
   pub conflicting : conflict u t ≡ true
   pub nothing_proposed : (entry_of l t.account).retained_proposed ≡ false
 
@@ -222,9 +222,9 @@ joining l s t late =
       nothing_proposed = is_not e.retained_proposed join.1;
     }
   where
-    in_place : (p : Slot) → (entry_of l t.account).retained ≡ p → conflicts t p ≡ true → (p ≡ Full (slip_in p)) × (conflict (slip_in p) t ≡ true)
-    in_place Empty is h = impossible (cc)
-    in_place (Full u) is h = (refl, h)
+    in_place : (p : Slot) → (entry_of l t.account).retained ≡ p → conflicts t p ≡ true → (p ≡ Some (slip_in p)) × (conflict (slip_in p) t ≡ true)
+    in_place None is h = impossible (cc)
+    in_place (Some u) is h = (refl, h)
 
 -- a late P
 late_happens : (v : Rules) (l : Ledger) (m : Message) → late_met v l m ≡ true → Happens v l m (joins_in l m).reply (joins_in l m).next
@@ -244,8 +244,8 @@ happens v l m = go (late_met v l m) refl (first_refusal (rules_met v l m)) refl
     go : (late : Bool) → late_met v l m ≡ late → (o : Option Refusal) → first_refusal (rules_met v l m) ≡ o
         → Happens v l m (step_under v l m).reply (step_under v l m).next
     go true late o e = rw (joins_in_lem v l m late) (late_happens v l m late)
-    go false late none e = rw (not_refused v l m late e) (effect_happens v l m (first_fail v l m (none_holds (rules_met v l m) e)))
-    go false late (some q) e = rw (refuses v l m q late e) (refused q refl refl)
+    go false late None e = rw (not_refused v l m late e) (effect_happens v l m (first_fail v l m (none_holds (rules_met v l m) e)))
+    go false late (Some q) e = rw (refuses v l m q late e) (refused q refl refl)
 
 -- no message changes n, f, k or the opening sum
 pub step_group : (v : Rules) (l : Ledger) (m : Message) → SameGroup (step_under v l m).next l
@@ -288,8 +288,8 @@ carries_most v l m u late h = go (first_refusal (rules_met v l m)) refl
     taken (Inquiry a) h = impossible (cc)
 
     go : (o : Option Refusal) → first_refusal (rules_met v l m) ≡ o → CarriesMost l m u
-    go none e =
+    go None e =
         let x = effect_under v (entry_for l m) (effect l (entry_for l m) m) in
         let is = due x.due x.entry (payer_of m) (rw (not_refused v l m late e) at h) in
         taken m (sym (due_under v (entry_for l m) (effect l (entry_for l m) m)) ∙ is)
-    go (some q) e = impossible (let z : Refuse q ≡ Propose u = rw (refuses v l m q late e) at h in cc)
+    go (Some q) e = impossible (let z : Refuse q ≡ Propose u = rw (refuses v l m q late e) at h in cc)

@@ -1,4 +1,5 @@
 -- Laws of sums, counts and searches.
+use Rattle.std.specs.Prelude.{Some, None}
 use Prim.Native.Nat.{ℕ, zero, suc, ◌+◌, ◌≤◌, ◌<◌}
 use native.Mathlib.Nat.{le_of_suc-le-suc, not-suc-le-zero}
 use native.Mathlib.Decide.{ℕ_discrete}
@@ -6,7 +7,6 @@ use native.Mathlib.Omega.{arith}
 use mathlib.Core.Path.{◌≡◌, refl, ap, sym, ◌∙◌}
 use mathlib.Core.Bool.{Bool, true, false, not, ◌&&◌, ◌||◌, and-false, or-true}
 use mathlib.Core.List.{List, [], ◌∷◌, map}
-use mathlib.Core.Option.{none, some}
 use lib.Dec.{eqb}
 use lib.ListN.{length, get_or, take, set}
 use borrow.Author.Tests.{eqb-true, eq-eqb}
@@ -136,13 +136,13 @@ abbrev pub NotFound : (ℕ → Bool) → ℕ → ℕ → Type 0
 NotFound p left i = (k : ℕ) → i ≤ k → k < i + left → p k ≡ false
 
 module _ (p : ℕ → Bool) where
-  pub first_found : (left i j : ℕ) → first_where p left i ≡ some j → Found p left i j
+  pub first_found : (left i j : ℕ) → first_where p left i ≡ Some j → Found p left i j
   first_found zero i j e = impossible (cc)
   first_found (suc left) i j e = go (p i) refl (first_found left (suc i) j)
     where
-      go : (b : Bool) → p i ≡ b → (first_where p left (suc i) ≡ some j → Found p left (suc i) j) → Found p (suc left) i j
+      go : (b : Bool) → p i ≡ b → (first_where p left (suc i) ≡ Some j → Found p left (suc i) j) → Found p (suc left) i j
       go true h rest =
-          let here : some i ≡ some j = rw h at e in
+          let here : Some i ≡ Some j = rw h at e in
           let same : i ≡ j = cc in
           record { passes = rw (← same) h; above = omega arith; below = omega arith; lowest = λ k from to. absurd (omega arith) }
       go false h rest =
@@ -158,12 +158,12 @@ module _ (p : ℕ → Bool) where
           before k lower from to (yes at) = rw (← at) h
           before k lower from to (no other) = lower (omega arith) to
 
-  pub first_none : (left i : ℕ) → first_where p left i ≡ none → NotFound p left i
+  pub first_none : (left i : ℕ) → first_where p left i ≡ None → NotFound p left i
   first_none zero i e k from to = absurd (omega arith)
   first_none (suc left) i e k from to = go (p i) refl (first_none left (suc i)) (ℕ_discrete i k)
     where
-      go : (b : Bool) → p i ≡ b → (first_where p left (suc i) ≡ none → NotFound p left (suc i)) → Dec (i ≡ k) → p k ≡ false
-      go true h rest at = let found : some i ≡ none = rw h at e in impossible (cc)
+      go : (b : Bool) → p i ≡ b → (first_where p left (suc i) ≡ None → NotFound p left (suc i)) → Dec (i ≡ k) → p k ≡ false
+      go true h rest at = let found : Some i ≡ None = rw h at e in impossible (cc)
       go false h rest (yes at) = rw (← at) h
       go false h rest (no other) = rest (rw h at e) k (omega arith) (omega arith)
 
@@ -175,7 +175,7 @@ same_found p q (suc left) i h =
     rw (h i (omega arith) (omega arith), same_found p q left (suc i) (λ k from to. h k (omega arith) (omega arith)))
 
 -- a test that nothing passes finds nothing
-pub none_passes : (left i : ℕ) → first_where (λ k. false) left i ≡ none
+pub none_passes : (left i : ℕ) → first_where (λ k. false) left i ≡ None
 none_passes zero i = refl
 none_passes (suc left) i = none_passes left (suc i)
 

@@ -1,10 +1,11 @@
 -- The sets of rules: that the first are document 01's; what acks and rulings meet, which does not differ between them;
 -- and what a switch does to a ledger: nothing but what is retained changes.
+use Rattle.std.specs.Prelude.{Some, None}
 use mathlib.Core.Path.{◌≡◌, refl}
 use mathlib.Core.Logic.{◌⊎◌, inl, inr}
 use mathlib.Core.List.{[], ◌∷◌, ◌++◌, map}
 use lib.ListN.{length, get_or-map, length-map}
-use Rattle.laws.specs.Types.{Seat, Account, Transfer, Slot, Empty, Full, Entry, Ledger, InsufficientFunds, AlreadyAcked, Request, Circulated, Ack, Decision}
+use Rattle.laws.specs.Types.{Seat, Account, Transfer, Slot, Entry, Ledger, InsufficientFunds, AlreadyAcked, Request, Circulated, Ack, Decision}
 use Rattle.model.specs.Refusals.{above_balance, transfer_rules, rules_of}
 use Rattle.model.specs.Calls.{rules_in}
 use Rattle.model.specs.Switches.{Rules, first_rules, since_request3, since_request5, retains_from, retains_waiting, switched, rules_under, rules_met}
@@ -47,18 +48,18 @@ takes_over_keeps first_rules e = refl
 takes_over_keeps since_request3 e = go e.pending
   where
     go : (p : Slot) → SameButRetained e (retains_from p e)
-    go Empty = refl
-    go (Full t) = refl
+    go None = refl
+    go (Some t) = refl
 takes_over_keeps since_request5 e = refl
 
 -- what is retained then is what was, or what waits
-pub takes_over_from : (v : Rules) (e : Entry) (t : Transfer) → (takes_over v e).retained ≡ Full t → (e.retained ≡ Full t) ⊎ (e.pending ≡ Full t)
+pub takes_over_from : (v : Rules) (e : Entry) (t : Transfer) → (takes_over v e).retained ≡ Some t → (e.retained ≡ Some t) ⊎ (e.pending ≡ Some t)
 takes_over_from first_rules e t h = inl h
 takes_over_from since_request3 e t h = inr (go e.pending refl h)
   where
-    go : (p : Slot) → e.pending ≡ p → (retains_from p e).retained ≡ Full t → p ≡ Full t
-    go Empty is h = h
-    go (Full u) is h = h
+    go : (p : Slot) → e.pending ≡ p → (retains_from p e).retained ≡ Some t → p ≡ Some t
+    go None is h = h
+    go (Some u) is h = h
 takes_over_from since_request5 e t h = inl h
 
 -- so of each account nothing changes but what is retained

@@ -1,9 +1,9 @@
 -- Nothing here is empty: an opened ledger has the bounds of the laws.
+use Rattle.std.specs.Prelude.{Option, Some, None}
 use Prim.Native.Nat.{ℕ, ◌<◌}
 use native.Mathlib.Omega.{arith}
 use mathlib.Core.Path.{◌≡◌, refl, ap}
 use mathlib.Core.List.{List, map}
-use mathlib.Core.Option.{Option, none, some}
 use lib.Dec.{lit<}
 use lib.ListN.{get_or-map}
 use borrow.Author.Tests.{ltb-false}
@@ -37,7 +37,7 @@ unfolding open_ledger
 open_bounded o l before = go (first_refusal (open_rules o)) refl
   where
     go : (q : Option Refusal) → first_refusal (open_rules o) ≡ q → Bounded (open_ledger_by q (fresh_ledger o) l).entries
-    go none e =
+    go None e =
         let sum_passed = (none_holds (open_rules o) e).1.1.0 in
         fresh_bounded o (omega (arith, ltb-false 4_294_967_295 (sum_of (λ b. b) o.balances) sum_passed))
-    go (some r) e = before
+    go (Some r) e = before

@@ -1,7 +1,8 @@
 -- Document 02, request 7: what is claimed of the join, for all bytes and every ruled slip. The proofs are in Joins.antt
 -- of proofs/.
+use Rattle.model.specs.Types.{join_refused, found_pair, no_pair}
 use Rattle.std.specs.Prelude.{ℕ, ◌<◌, ◌≡◌, ◌⊎◌, List}
-use Rattle.laws.specs.Types.{Seat, Transfer, Refusal, Which, FoundPair, NoPair, JoinRefused}
+use Rattle.laws.specs.Types.{Seat, Transfer, Refusal, Which}
 use Rattle.model.specs.Bundles.{page_at, transfer_of}
 use Rattle.model.specs.Joins.{seats_of, seat_on, Pair, evidence, shown_body}
 
@@ -16,11 +17,11 @@ Without first second = (i j : ℕ) → Pair first second i j → ⊥
 -- some pair is found
 abbrev pub FindsOne : List ℕ → List ℕ → Transfer → Type 0
 FindsOne first second ruled =
-    (seat : Seat) × (i : ℕ) × (j : ℕ) × (shown : Which) × (evidence first second ruled ≡ FoundPair seat i j shown)
+    (seat : Seat) × (i : ℕ) × (j : ℕ) × (shown : Which) × (evidence first second ruled ≡ found_pair seat i j shown)
 
 -- no check refuses the two
 abbrev pub NotRefused : List ℕ → List ℕ → Transfer → Type 0
-NotRefused first second ruled = (r : Refusal) (of : Which) (i : ℕ) → evidence first second ruled ≡ JoinRefused r of i → ⊥
+NotRefused first second ruled = (r : Refusal) (of : Which) (i : ℕ) → evidence first second ruled ≡ join_refused r of i → ⊥
 
 -- What is found:
 pub record Finds (first second : List ℕ) (ruled : Transfer) (seat : Seat) (i j : ℕ) (shown : Which) : Type 0 where
@@ -33,19 +34,19 @@ pub record Finds (first second : List ℕ) (ruled : Transfer) (seat : Seat) (i j
   pub in_second : seat ≡ seat_on (page_at second j)
   pub below : seat.0 < seats_of first
   -- the body that is shown is never the ruled slip's
-  pub not_ruled : transfer_of (shown_body first second (FoundPair seat i j shown)) ≡ ruled → ⊥
+  pub not_ruled : transfer_of (shown_body first second (found_pair seat i j shown)) ≡ ruled → ⊥
   -- joined the other way round, one is found too, and so exactly then; it may be another one. Whatever slip was ruled
   pub turned : (other : Transfer) → FindsOne second first other
 
 abbrev pub FoundRight : Type 0
 FoundRight =
     (first second : List ℕ) (ruled : Transfer) (seat : Seat) (i j : ℕ) (shown : Which)
-    → evidence first second ruled ≡ FoundPair seat i j shown
+    → evidence first second ruled ≡ found_pair seat i j shown
     → Finds first second ruled seat i j shown
 
 -- "If there is no such pair it says so": where it does, there is none; and where the two are not refused, it does
 abbrev pub NoneExactly : Type 0
 NoneExactly =
     (first second : List ℕ) (ruled : Transfer)
-    → (evidence first second ruled ≡ NoPair → Without first second)
-    × (NotRefused first second ruled → Without first second → evidence first second ruled ≡ NoPair)
+    → (evidence first second ruled ≡ no_pair → Without first second)
+    × (NotRefused first second ruled → Without first second → evidence first second ruled ≡ no_pair)

@@ -2,8 +2,7 @@
 pub use Rattle.model.specs.declared.Seat.{Seat}
 pub use Rattle.model.specs.declared.Account.{Account}
 pub use Rattle.model.specs.declared.Transfer.{Transfer}
-pub use Rattle.model.specs.declared.Slot.{Slot}
-pub use Rattle.model.specs.declared.Slot.TheVariants.{Empty, Full}
+pub use Rattle.model.specs.Types.{Slot}
 pub use Rattle.model.specs.Types.{AckSlot, Entry, Ledger, Outcome}
 pub use Rattle.model.specs.declared.Opening.{Opening}
 pub use Rattle.model.specs.declared.Refusal.{Refusal}
@@ -12,10 +11,7 @@ pub use Rattle.model.specs.declared.Message.{Message}
 pub use Rattle.model.specs.declared.Message.TheVariants.{Request, Circulated, Ack, Decision, Inquiry}
 pub use Rattle.model.specs.declared.Reply.{Reply}
 pub use Rattle.model.specs.declared.Reply.TheVariants.{Circulate, Acknowledge, Accept, Propose, Note, Balance, Refuse}
-pub use Rattle.model.specs.declared.OpenReply.TheVariants.{Opened, OpenRefused}
-pub use Rattle.model.specs.declared.ListReply.{ListReply}
-pub use Rattle.model.specs.declared.ListReply.TheVariants.{Listed, ListRefused}
+pub use Rattle.model.specs.Types.{ListReply}
 pub use Rattle.model.specs.declared.Which.{Which}
 pub use Rattle.model.specs.declared.Which.TheVariants.{First, Second, Neither}
-pub use Rattle.model.specs.declared.Evidence.{Evidence}
-pub use Rattle.model.specs.declared.Evidence.TheVariants.{FoundPair, NoPair, JoinRefused}
+pub use Rattle.model.specs.Types.{Evidence}

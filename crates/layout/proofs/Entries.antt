@@ -1,4 +1,5 @@
 -- What is stored in an account's block, and what that makes of the account's entry; and the group's words.
+use Rattle.std.specs.Prelude.{Some, None}
 use Prim.Native.Nat.{ℕ, ◌+◌, ◌*◌, ◌%◌, ◌≤◌, ◌<◌}
 use native.Mathlib.Nat.{zero-add, mod-eq_of_lt}
 use native.Mathlib.Decide.{dec_lt}
@@ -14,7 +15,6 @@ use borrow.Author.Tests.{lt-ltb, le-ltb, ne_eqb, eqb-false}
 use Rattle.model.specs.declared.Seat.{Seat}
 use Rattle.model.specs.declared.Account.{Account}
 use Rattle.model.specs.declared.Transfer.{Transfer}
-use Rattle.model.specs.declared.Slot.TheVariants.{Empty, Full}
 use Rattle.model.specs.Types.{AckSlot, Entry}
 use Rattle.model.specs.Records.{account_of, entry_of, with_entry, with_balance, with_acked, with_ack, with_proposed, with_pending, with_retained_as, with_retained_proposed}
 use Rattle.model.specs.Refusals.{ack_from}
@@ -53,7 +53,7 @@ module _ (a : ℕ) (w : Block) where
   late_put = refl
 
 -- the words of a slip are a place with that slip
-pub slip_by : (t : Transfer) → 0 < t.value → t.recipient.0 < 256 → slot_by t.account.0 t.value t.number t.recipient.0 ≡ Full t
+pub slip_by : (t : Transfer) → 0 < t.value → t.recipient.0 < 256 → slot_by t.account.0 t.value t.number t.recipient.0 ≡ Some t
 slip_by t v r = rw (ne_eqb t.value 0 (λ e. absurd (omega arith)), mod-eq_of_lt r)
 
 -- the slip that waits
@@ -65,14 +65,14 @@ pending_put w t v r = rw (slip_by t v r)
 -- the retained slip, with a mark
 pub retained_put : (w : Block) (t : Transfer) (word : ℕ) → 0 < t.value → t.recipient.0 < 256
     → entry_by t.account.0 (put (put (put (put w 39 t.value) 40 t.number) 41 t.recipient.0) 42 word)
-    ≡ with_retained_as (entry_by t.account.0 w) (Full t) (mark word)
+    ≡ with_retained_as (entry_by t.account.0 w) (Some t) (mark word)
 unfolding entry_by
 retained_put w t word v r = rw (slip_by t v r)
 
 -- a seat's ack
 ack_in_lem : (a : ℕ) (w : Block) (s : Seat) → s.0 < 16 → ack_from (entry_by a w) s ≡ (ack_in a w s.0).slot
 unfolding entry_by
-ack_in_lem a w s h = ap (λ k. k.slot) (table_at (ack_in a w) 16 0 s.0 (record { slot = Empty }) h ∙ ap (ack_in a w) (omega arith))
+ack_in_lem a w s h = ap (λ k. k.slot) (table_at (ack_in a w) 16 0 s.0 (record { slot = None }) h ∙ ap (ack_in a w) (omega arith))
 
 pub ack_read : (ws : List ℕ) (a : Account) (s : Seat) (value number recipient : ℕ) → a.0 < 32 → s.0 < 16
     → value ≡ block ws a.0 (7 + s.0) → recipient ≡ block ws a.0 (23 + s.0) → number ≡ (entry_of (ledger_in ws) a).current + 1
@@ -87,14 +87,14 @@ acks_length ws a h = ap (λ e. length e.acks) (entry_in_lem ws a h) ∙ table_le
 
 -- a slip that stands in a place is of the block's account, has the place's number and a value, and
 -- its recipient's number is a byte
-pub slot_of_next : (a value number recipient : ℕ) (u : Transfer) → slot_by a value number recipient ≡ Full u
+pub slot_of_next : (a value number recipient : ℕ) (u : Transfer) → slot_by a value number recipient ≡ Some u
     → (u.account ≡ account_of a) × (u.number ≡ number) × (0 < u.value) × (u.recipient.0 < 256)
 slot_of_next a value number recipient u = go (eqb value 0) refl
   where
     t : Transfer
     t = record { account = account_of a; number = number; value = value; recipient = account_of (recipient % 256) }
 
-    go : (b : Bool) → eqb value 0 ≡ b → cond b Empty (Full t) ≡ Full u
+    go : (b : Bool) → eqb value 0 ≡ b → cond b None (Some t) ≡ Some u
         → (u.account ≡ account_of a) × (u.number ≡ number) × (0 < u.value) × (u.recipient.0 < 256)
     go true is e = impossible (cc)
     go false is e =
@@ -102,7 +102,7 @@ slot_of_next a value number recipient u = go (eqb value 0) refl
         rw (← same) (refl, refl, omega (arith, eqb-false value 0 is), omega arith)
 
 -- so is what waits
-pub pending_of : (ws : List ℕ) (a : Account) (u : Transfer) → a.0 < 32 → (entry_of (ledger_in ws) a).pending ≡ Full u
+pub pending_of : (ws : List ℕ) (a : Account) (u : Transfer) → a.0 < 32 → (entry_of (ledger_in ws) a).pending ≡ Some u
     → (u.account ≡ a) × (0 < u.value) × (u.recipient.0 < 256)
 unfolding entry_by
 pending_of ws a u h waits =
@@ -110,7 +110,7 @@ pending_of ws a u h waits =
     let found = slot_of_next a.0 (w 4) (w 5) (w 6) u (sym (ap (λ e. e.pending) (entry_in_lem ws a h)) ∙ waits) in
     (found.0, found.2, found.3)
 
-pub ack_of_next : (ws : List ℕ) (a : Account) (s : Seat) (u : Transfer) → a.0 < 32 → ack_from (entry_of (ledger_in ws) a) s ≡ Full u
+pub ack_of_next : (ws : List ℕ) (a : Account) (s : Seat) (u : Transfer) → a.0 < 32 → ack_from (entry_of (ledger_in ws) a) s ≡ Some u
     → (u.account ≡ a) × (u.number ≡ (entry_of (ledger_in ws) a).current + 1)
 unfolding entry_by
 ack_of_next ws a s u h = rw (entry_in_lem ws a h)
@@ -121,10 +121,10 @@ ack_of_next ws a s u h = rw (entry_in_lem ws a h)
     w = block ws a.0
 
     none : AckSlot
-    none = record { slot = Empty }
+    none = record { slot = None }
 
     OfNext : AckSlot → Type 0
-    OfNext k = k.slot ≡ Full u → (u.account ≡ a) × (u.number ≡ w current_place + 1)
+    OfNext k = k.slot ≡ Some u → (u.account ≡ a) × (u.number ≡ w current_place + 1)
 
 module _ (w : Block) (s : Seat) (t : Transfer) (seat : s.0 < 16) (value : 0 < t.value) (byte : t.recipient.0 < 256) (next : t.number ≡ w current_place + 1) where
   -- a block that is the same but at the seat's two places
@@ -137,9 +137,9 @@ module _ (w : Block) (s : Seat) (t : Transfer) (seat : s.0 < 16) (value : 0 < t.
       let a = t.account.0 in
       let others : (k : ℕ) → k < 16 → k ≢ s.0 → ack_in a w' k ≡ ack_in a w k =
       λ k h n. rw (same (7 + k) (λ e. n (omega arith)) (λ e. absurd (omega arith)), same (23 + k) (λ e. absurd (omega arith)) (λ e. n (omega arith)), low 1 (omega arith)) in
-      let here : ack_in a w' s.0 ≡ record { slot = Full t } =
+      let here : ack_in a w' s.0 ≡ record { slot = Some t } =
       rw (v, r, low 1 (omega arith), ← next, slip_by t value byte) in
-      let acks : table_from (ack_in a w') 16 0 ≡ set (table_from (ack_in a w) 16 0) s.0 (record { slot = Full t }) =
+      let acks : table_from (ack_in a w') 16 0 ≡ set (table_from (ack_in a w) 16 0) s.0 (record { slot = Some t }) =
       table_set (ack_in a w) (ack_in a w') 16 0 s.0 (λ k l h. others k (omega arith) (λ e. h (omega arith))) ∙ rw (zero-add s.0, here) in
       rw (
         acks,

@@ -1,4 +1,5 @@
 -- Worked facts, computed: the words that are all 0, and one book written out.
+use Rattle.std.specs.Prelude.{Some, None}
 use Prim.Native.Nat.{ℕ, ◌*◌, ◌-◌}
 use mathlib.Core.Path.{◌≡◌, refl}
 use mathlib.Core.Bool.{true, false}
@@ -6,8 +7,7 @@ use mathlib.Core.List.{List, [], ◌∷◌, ◌++◌}
 use lib.ListN.{length, set, replicate}
 use Rattle.model.specs.declared.Message.{Message}
 use Rattle.model.specs.declared.Refusal.{Refusal}
-use Rattle.model.specs.declared.Slot.{Slot}
-use Rattle.model.specs.declared.Slot.TheVariants.{Empty, Full}
+use Rattle.model.specs.Types.{Slot}
 use Rattle.model.specs.Types.{Entry, Ledger}
 use Rattle.model.specs.Records.{account_of, no_acks, no_ledger, with_none_retained, entry_of}
 use Rattle.model.specs.Switches.{since_request3, switched}
@@ -48,7 +48,7 @@ abbrev entry : ℕ → Entry
 entry a = entry_of (ledger 6 1 2) (account_of a)
 
 abbrev slip_of : ℕ → ℕ → ℕ → ℕ → Slot
-slip_of a number value recipient = Full (record { account = account_of a; number = number; value = value; recipient = account_of recipient })
+slip_of a number value recipient = Some (record { account = account_of a; number = number; value = value; recipient = account_of recipient })
 
 size : (length (book 6 1 2) ≡ book_words) × (length (held_book 6 1 2) ≡ held_book_words)
 size = (refl, refl)
@@ -74,7 +74,7 @@ marks : ((entry 0).acked ≡ true) × ((entry 0).proposed ≡ false) × ((entry 
 unfolding entry_by entries_in ledger_in
 marks = (refl, refl, refl, refl)
 
-waiting : ((entry 0).pending ≡ Empty) × ((entry 1).pending ≡ slip_of 1 5 12 31)
+waiting : ((entry 0).pending ≡ None) × ((entry 1).pending ≡ slip_of 1 5 12 31)
 unfolding entry_by entries_in ledger_in
 waiting = (refl, refl)
 
@@ -82,7 +82,7 @@ acks : ((entry 0).acks ≡ set no_acks 15 (record { slot = slip_of 0 3 5 1 })) �
 unfolding no_acks entry_by entries_in ledger_in
 acks = (refl, refl)
 
-retained : ((entry 0).retained ≡ slip_of 0 9 4 2) × ((entry 0).retained_proposed ≡ true) × ((entry 1).retained ≡ Empty) × ((entry 1).retained_proposed ≡ false)
+retained : ((entry 0).retained ≡ slip_of 0 9 4 2) × ((entry 0).retained_proposed ≡ true) × ((entry 1).retained ≡ None) × ((entry 1).retained_proposed ≡ false)
 unfolding entry_by entries_in ledger_in
 retained = (refl, refl, refl, refl)
 
@@ -104,7 +104,7 @@ held_entries = (refl, refl, refl)
 -- and what it becomes at the switch: account 0, at which nothing waits, retains nothing; account 1
 -- retains what waits, with its mark
 taken_over_lem :
-    ((entry_of (switched since_request3 (held 6 1 2)) (account_of 0)).retained ≡ Empty)
+    ((entry_of (switched since_request3 (held 6 1 2)) (account_of 0)).retained ≡ None)
     × ((entry_of (switched since_request3 (held 6 1 2)) (account_of 1)).retained ≡ slip_of 1 5 12 31)
     × ((entry_of (switched since_request3 (held 6 1 2)) (account_of 1)).retained_proposed ≡ true)
     × ((entry_of (switched since_request3 (held 6 1 2)) (account_of 1)).pending ≡ slip_of 1 5 12 31)

@@ -1,4 +1,5 @@
 -- The words of a ledger are that ledger: the statement is `WordsAre` in specs/Words.antt.
+use Rattle.std.specs.Prelude.{Some, None}
 use Prim.Native.Nat.{ℕ, zero, suc, ◌+◌, ◌-◌, ◌*◌, ◌/◌, ◌%◌, ◌≤◌, ◌<◌}
 use native.Mathlib.Decide.{dec_lt}
 use native.Mathlib.Omega.{arith}
@@ -10,8 +11,7 @@ use lib.ListN.{length, get_or}
 use borrow.Author.Tests.{lt-ltb, le-ltb, le-leb}
 use Rattle.model.specs.declared.Account.{Account}
 use Rattle.model.specs.declared.Transfer.{Transfer}
-use Rattle.model.specs.declared.Slot.{Slot}
-use Rattle.model.specs.declared.Slot.TheVariants.{Empty, Full}
+use Rattle.model.specs.Types.{Slot}
 use Rattle.model.specs.Types.{Entry, Ledger}
 use Rattle.model.specs.Basics.{bit}
 use Rattle.model.specs.Records.{seat_of, account_of, fresh_entry, RetainsNothing, entry_of}
@@ -34,17 +34,17 @@ mark_bit true = refl
 mark_bit false = refl
 
 -- the words of a slip that its place can tell are that slip
-slot_told : (a : Account) (number : ℕ) (p : Slot) → ((t : Transfer) → p ≡ Full t → ToldBy a number t)
+slot_told : (a : Account) (number : ℕ) (p : Slot) → ((t : Transfer) → p ≡ Some t → ToldBy a number t)
     → slot_by a.0 (value_word p) number (recipient_word p) ≡ p
-slot_told a number Empty told = refl
-slot_told a number (Full t) told =
+slot_told a number None told = refl
+slot_told a number (Some t) told =
     let tells = told t refl in
     rw (← tells.account, ← tells.number) (slip_by t tells.value tells.recipient)
 
-pending_told : (a : Account) (p : Slot) → ((t : Transfer) → p ≡ Full t → ToldBy a t.number t)
+pending_told : (a : Account) (p : Slot) → ((t : Transfer) → p ≡ Some t → ToldBy a t.number t)
     → slot_by a.0 (value_word p) (number_word p) (recipient_word p) ≡ p
-pending_told a Empty told = refl
-pending_told a (Full t) told = slot_told a t.number (Full t) (λ u h. let same : t ≡ u = cc in rw (← same) (told t refl))
+pending_told a None told = refl
+pending_told a (Some t) told = slot_told a t.number (Some t) (λ u h. let same : t ≡ u = cc in rw (← same) (told t refl))
 
 -- the words of a seat's ack
 module _ (e : Entry) (k : ℕ) (seat : k < 16) where
@@ -60,7 +60,7 @@ module _ (e : Entry) (k : ℕ) (seat : k < 16) where
 
 -- a block with an entry's words is that entry
 module _ (a : Account) (e : Entry) (w : Block) (told : EntryTold a e) (is : (i : ℕ) → i < block_words → w i ≡ entry_word e i) where
-  ack_told : (k : ℕ) → k < 16 → ack_in a.0 w k ≡ get_or e.acks k (record { slot = Empty })
+  ack_told : (k : ℕ) → k < 16 → ack_in a.0 w k ≡ get_or e.acks k (record { slot = None })
   ack_told k h =
       rw (is (7 + k) (omega arith), is (23 + k) (omega arith), is 1 (omega arith), value_word_lem e k h, recipient_word_lem e k h)
       (ap (λ (p : Slot). record { slot = p }) (slot_told a (e.current + 1) (ack_from e (seat_of k)) (told.acks (seat_of k))))
@@ -68,7 +68,7 @@ module _ (a : Account) (e : Entry) (w : Block) (told : EntryTold a e) (is : (i :
   acks_told : table_from (ack_in a.0 w) 16 0 ≡ e.acks
   acks_told =
       ap (λ (n : ℕ). table_from (ack_in a.0 w) n 0) (sym told.acks_size)
-      ∙ table_is (ack_in a.0 w) e.acks 0 (record { slot = Empty })
+      ∙ table_is (ack_in a.0 w) e.acks 0 (record { slot = None })
       (λ k h. ap (ack_in a.0 w) (zero-add k) ∙ ack_told k (omega (arith, told.acks_size)))
 
   entry_told : entry_by a.0 w ≡ e

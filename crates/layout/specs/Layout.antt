@@ -2,9 +2,8 @@
 -- with no seats and no accounts, which refuses every message. What a place tells is not stored again: an ack
 -- stands in its account's block, and its number is that account's next; a slip that was taken never has
 -- value 0, so a value of 0 is an empty place.
-use Rattle.std.specs.Prelude.{ℕ, zero, suc, ◌+◌, ◌*◌, ◌%◌, Bool, not, cond, List, [], ◌∷◌, eqb, leb, ltb, get_or}
-use Rattle.model.specs.declared.Slot.{Slot}
-use Rattle.model.specs.declared.Slot.TheVariants.{Empty, Full}
+use Rattle.std.specs.Prelude.{ℕ, zero, suc, ◌+◌, ◌*◌, ◌%◌, Bool, not, cond, List, [], ◌∷◌, eqb, leb, ltb, get_or, Some, None}
+use Rattle.model.specs.Types.{Slot}
 use Rattle.model.specs.declared.Account.{Account}
 use Rattle.model.specs.Types.{AckSlot, Entry, Ledger}
 use Rattle.model.specs.Records.{account_of, entry_of}
@@ -97,7 +96,7 @@ mark word = not (eqb word 0)
 -- pays. An account's number is a byte
 abbrev pub slot_by : ℕ → ℕ → ℕ → ℕ → Slot
 slot_by a value number recipient =
-    cond (eqb value 0) Empty (Full (record { account = account_of a; number = number; value = value; recipient = account_of (recipient % 256) }))
+    cond (eqb value 0) None (Some (record { account = account_of a; number = number; value = value; recipient = account_of (recipient % 256) }))
 
 -- the ack of a seat: its account is the block's, and its number the next
 abbrev pub ack_in : ℕ → Block → ℕ → AckSlot

@@ -1,11 +1,10 @@
 -- The words of a ledger: for every ledger whose stored slips are as their places tell, words that are this ledger. The
 -- proof is in proofs/Words.antt.
-use Rattle.std.specs.Prelude.{ℕ, ◌+◌, ◌-◌, ◌*◌, ◌/◌, ◌%◌, ◌≤◌, ◌<◌, ◌≡◌, cond, List, [], ◌∷◌, ltb, length, get_or}
+use Rattle.std.specs.Prelude.{ℕ, ◌+◌, ◌-◌, ◌*◌, ◌/◌, ◌%◌, ◌≤◌, ◌<◌, ◌≡◌, cond, List, [], ◌∷◌, ltb, length, get_or, Some, None}
 use Rattle.model.specs.declared.Seat.{Seat}
 use Rattle.model.specs.declared.Account.{Account}
 use Rattle.model.specs.declared.Transfer.{Transfer}
-use Rattle.model.specs.declared.Slot.{Slot}
-use Rattle.model.specs.declared.Slot.TheVariants.{Empty, Full}
+use Rattle.model.specs.Types.{Slot}
 use Rattle.model.specs.Types.{Entry, Ledger}
 use Rattle.model.specs.Basics.{bit}
 use Rattle.model.specs.Records.{seat_of, account_of, RetainsNothing, entry_of}
@@ -14,16 +13,16 @@ use Rattle.layout.specs.Layout.{block_words, held_block_words, ack_values_place,
 
 -- a slip's value, number and recipient as words, 0 where there is none
 abbrev pub value_word : Slot → ℕ
-value_word Empty = 0
-value_word (Full t) = t.value
+value_word None = 0
+value_word (Some t) = t.value
 
 abbrev pub number_word : Slot → ℕ
-number_word Empty = 0
-number_word (Full t) = t.number
+number_word None = 0
+number_word (Some t) = t.number
 
 abbrev pub recipient_word : Slot → ℕ
-recipient_word Empty = 0
-recipient_word (Full t) = t.recipient.0
+recipient_word None = 0
+recipient_word (Some t) = t.recipient.0
 
 -- the words of an account's block: those before the acks, in the order of their places; then the values of the 16
 -- seats' acks, and their recipients; then those of what is retained
@@ -67,9 +66,9 @@ pub record ToldBy (a : Account) (n : ℕ) (t : Transfer) : Type 0 where
 -- The places of an account's entry can tell what stands in them.
 pub record EntryTold (a : Account) (e : Entry) : Type 0 where
   pub acks_size : length e.acks ≡ 16
-  pub acks : (s : Seat) (t : Transfer) → ack_from e s ≡ Full t → ToldBy a (e.current + 1) t
-  pub pending : (t : Transfer) → e.pending ≡ Full t → ToldBy a t.number t
-  pub retained : (t : Transfer) → e.retained ≡ Full t → ToldBy a t.number t
+  pub acks : (s : Seat) (t : Transfer) → ack_from e s ≡ Some t → ToldBy a (e.current + 1) t
+  pub pending : (t : Transfer) → e.pending ≡ Some t → ToldBy a t.number t
+  pub retained : (t : Transfer) → e.retained ≡ Some t → ToldBy a t.number t
 
 pub record LedgerTold (l : Ledger) : Type 0 where
   pub seats_fit : l.seats ≤ 16

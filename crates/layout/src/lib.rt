@@ -43,6 +43,9 @@ pub const ACCOUNTS: usize = SEATS + 2;
 pub const TOTAL: usize = SEATS + 3;
 // How many words a book has: 1,380.
 pub const BOOK_WORDS: usize = SEATS + 4;
+
+// The book, in memory that a caller lends.
+pub type Book = [u32; BOOK_WORDS];
 // A book held from before request 5 of document 02: its blocks end before the retained
 // transfer, and it has 1,252 words.
 pub const HELD_BLOCK: usize = RETAINED_VALUE;
@@ -56,3 +59,5 @@ pub const HELD_ACCOUNTS: usize = HELD_SEATS + 2;
 pub const HELD_TOTAL: usize = HELD_SEATS + 3;
 
 pub const HELD_WORDS: usize = HELD_SEATS + 4;
+
+pub type HeldBook = [u32; HELD_WORDS];

@@ -2,13 +2,12 @@
 -- that the words are: for every content of the words and every argument the reply, the ledger after it and each lent
 -- buffer. What a message promises is `Answered`, of crate calls. "Each enum answer has a definition that gives this
 -- paper's number and values for each of its cases. The promises use that definition": the fields `told`.
-use Rattle.std.specs.Prelude.{ℕ, ◌≡◌, List, [], ◌∷◌, length}
-use Rattle.std.proofs.Math.Option.{Option, none, some}
+use Rattle.std.specs.Prelude.{ℕ, ◌≡◌, List, [], ◌∷◌, length, Option, Some, None}
 use Rattle.model.specs.Types.{Ledger}
 use Rattle.model.specs.declared.Opening.{Opening}
 use Rattle.model.specs.declared.Refusal.{Refusal}
-use Rattle.model.specs.declared.OpenReply.{OpenReply}
-use Rattle.model.specs.declared.ListReply.{ListReply}
+use Rattle.model.specs.Types.{OpenReply}
+use Rattle.model.specs.Types.{ListReply}
 use Rattle.model.specs.Refusals.{first_refusal, list_refusal}
 use Rattle.model.specs.Replies.{code_of, values_of_open, values_of_list}
 use Rattle.model.specs.Openings.{open_rules}
@@ -20,8 +19,8 @@ pub use Rattle.calls.specs.Promises.{Answered}
 
 -- the code of a refusal, 0 where there is none
 abbrev pub code_if_any : Option Refusal → ℕ
-code_if_any none = 0
-code_if_any (some r) = code_of r
+code_if_any None = 0
+code_if_any (Some r) = code_of r
 
 -- An opening: the reply and the ledger.
 pub record OpenedAs (before : List ℕ) (page : Opening) (r : OpenReply) (after : List ℕ) : Type 0 where
@@ -34,8 +33,8 @@ pub record SwitchedAs (held after : List ℕ) : Type 0 where
 
 -- the code and the count of a list of so many accounts
 abbrev pub list_values : Option Refusal → ℕ → List ℕ
-list_values none count = 0 ∷ count ∷ []
-list_values (some r) count = code_of r ∷ []
+list_values None count = 0 ∷ count ∷ []
+list_values (Some r) count = code_of r ∷ []
 
 -- A list of these accounts: the reply, given the refusal that it meets, if any, and the buffer after
 -- it, given the buffer before it.

@@ -1,5 +1,6 @@
 -- What the loop over the accounts knows of the buffer: in front are those before `i` at which a slip
 -- waits, and at the end all of them.
+use Rattle.std.specs.Prelude.{Ok, Err}
 use Prim.Native.Nat.{ℕ, suc, ◌+◌, ◌≤◌, ◌<◌}
 use native.Mathlib.Nat.{zero-add}
 use native.Mathlib.Numerals.{add-one}
@@ -12,7 +13,6 @@ use lib.Seq.{drop-cons, append_snoc, set_at}
 use borrow.Author.Tests.{lt-ltb, le-ltb}
 use Rattle.model.specs.Types.{Ledger}
 use Rattle.model.specs.declared.Refusal.TheVariants.{ShortBuffer}
-use Rattle.model.specs.declared.ListReply.TheVariants.{Listed, ListRefused}
 use Rattle.model.specs.Basics.{all_where}
 use Rattle.model.specs.Calls.{waits_at, waiting_accounts, Lists}
 use Rattle.laws.proofs.Searches.{alone, all_more}
@@ -33,7 +33,7 @@ module _ (l : Ledger) (before : List ℕ) where
   listed_none = record { many = refl; few = omega arith; size = refl; front = refl }
 
   -- a buffer that is too short stays
-  pub not_listed : length before < 32 → Lists (waiting_accounts l) before (ListRefused ShortBuffer) before
+  pub not_listed : length before < 32 → Lists (waiting_accounts l) before (Err ShortBuffer) before
   not_listed short = record { reply = rw (lt-ltb (length before) 32 short); buffer = refl }
 
   passed_more : (i : ℕ) → passed (i + 1) ≡ passed i ++ alone (waits_at l i) i
@@ -59,7 +59,7 @@ module _ (l : Ledger) (before : List ℕ) where
         }
 
     -- after the last account the list is done
-    pub listed_all : i ≡ length l.entries → 32 ≤ length before → Lists (waiting_accounts l) before (Listed n) now
+    pub listed_all : i ≡ length l.entries → 32 ≤ length before → Lists (waiting_accounts l) before (Ok n) now
     unfolding waiting_accounts
     listed_all all room =
         let many : n ≡ length (passed (length l.entries)) = h.many ∙ ap (λ (k : ℕ). length (passed k)) all in

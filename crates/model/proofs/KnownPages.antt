@@ -1,11 +1,12 @@
 -- Document 01, "Known pages": its facts as the rows of one table, with document 02's cases beside them, and one
 -- theorem, computed, that all of them hold of the definitions.
+use Rattle.std.specs.Prelude.{Some, None}
 use Prim.Native.Nat.{ℕ, zero, suc}
 use mathlib.Core.Bool.{true, false}
 use mathlib.Core.List.{List, [], ◌∷◌, ◌++◌}
 use lib.Dec.{T}
 use lib.ListN.{take, set, replicate}
-use Rattle.model.specs.Types.{Transfer, Empty, Full, Message, Request, Circulated, Decision, Inquiry}
+use Rattle.model.specs.Types.{Transfer, Message, Request, Circulated, Decision, Inquiry}
 use Rattle.model.specs.Basics.{every}
 use Rattle.model.specs.Records.{account_of, no_acks, empty_page}
 use Rattle.model.specs.Transfers.{equal, conflict}
@@ -81,11 +82,11 @@ tied =
     ∷ runs 6 1 (10 ∷ 3 ∷ [])
     (ack_by 3 t gives N ∷ ack_by 4 t gives N ∷ ack_by 1 u gives N ∷ ack_by 2 w gives N ∷ ack_by 0 u gives P u ∷ [])
     (10 ∷ 3 ∷ [])
-    ∷ puts_forward (Full x ∷ Full u ∷ Full w ∷ Full t ∷ Full t ∷ Full w ∷ Full u ∷ []) u
-    ∷ puts_forward (Full v ∷ Full x ∷ Full w ∷ Full u ∷ Full t ∷ Full t ∷ Full u ∷ Full x ∷ Full w ∷ []) x
-    ∷ puts_forward (Full w ∷ Full w ∷ Full t ∷ Full u ∷ Full t ∷ Full t ∷ []) t
-    ∷ puts_forward (Empty ∷ Empty ∷ Full u ∷ Empty ∷ Full t ∷ []) u
-    ∷ puts_forward (replicate 16 Empty) (slip 0 0 0 0)
+    ∷ puts_forward (Some x ∷ Some u ∷ Some w ∷ Some t ∷ Some t ∷ Some w ∷ Some u ∷ []) u
+    ∷ puts_forward (Some v ∷ Some x ∷ Some w ∷ Some u ∷ Some t ∷ Some t ∷ Some u ∷ Some x ∷ Some w ∷ []) x
+    ∷ puts_forward (Some w ∷ Some w ∷ Some t ∷ Some u ∷ Some t ∷ Some t ∷ []) t
+    ∷ puts_forward (None ∷ None ∷ Some u ∷ None ∷ Some t ∷ []) u
+    ∷ puts_forward (replicate 16 None) (slip 0 0 0 0)
     ∷ []
 
 -- Document 02, request 3: a home pays itself. Requests and slips meet 20, after 5 and before 6, 7, 8, 12 and 11: a
@@ -208,15 +209,15 @@ taken_over =
 -- them; every seat; and no acks.
 pub gathering : List Row
 gathering =
-    gathers (Full t ∷ Full t ∷ Full t ∷ Full u ∷ Full u ∷ Full u ∷ Full w ∷ []) t (0 ∷ 1 ∷ 2 ∷ [])
-    ∷ gathers (Full t ∷ Full t ∷ Full t ∷ Full u ∷ Full u ∷ Full u ∷ Full w ∷ []) u (3 ∷ 4 ∷ 5 ∷ [])
-    ∷ gathers (Full t ∷ Full t ∷ Full t ∷ Full u ∷ Full u ∷ Full u ∷ Full w ∷ []) w (6 ∷ [])
-    ∷ gathers (Full t ∷ Full u ∷ []) v []
-    ∷ gathers (Full t ∷ Full u ∷ []) (slip 0 2 4 1) []
-    ∷ gathers (Empty ∷ Full u ∷ Full t ∷ Empty ∷ Full u ∷ Full t ∷ Full t ∷ []) t (2 ∷ 5 ∷ 6 ∷ [])
-    ∷ gathers (Full u ∷ replicate 14 Empty ++ (Full u ∷ [])) u (0 ∷ 15 ∷ [])
-    ∷ gathers (replicate 16 (Full t)) t (0 ∷ 1 ∷ 2 ∷ 3 ∷ 4 ∷ 5 ∷ 6 ∷ 7 ∷ 8 ∷ 9 ∷ 10 ∷ 11 ∷ 12 ∷ 13 ∷ 14 ∷ 15 ∷ [])
-    ∷ gathers (replicate 16 Empty) t []
+    gathers (Some t ∷ Some t ∷ Some t ∷ Some u ∷ Some u ∷ Some u ∷ Some w ∷ []) t (0 ∷ 1 ∷ 2 ∷ [])
+    ∷ gathers (Some t ∷ Some t ∷ Some t ∷ Some u ∷ Some u ∷ Some u ∷ Some w ∷ []) u (3 ∷ 4 ∷ 5 ∷ [])
+    ∷ gathers (Some t ∷ Some t ∷ Some t ∷ Some u ∷ Some u ∷ Some u ∷ Some w ∷ []) w (6 ∷ [])
+    ∷ gathers (Some t ∷ Some u ∷ []) v []
+    ∷ gathers (Some t ∷ Some u ∷ []) (slip 0 2 4 1) []
+    ∷ gathers (None ∷ Some u ∷ Some t ∷ None ∷ Some u ∷ Some t ∷ Some t ∷ []) t (2 ∷ 5 ∷ 6 ∷ [])
+    ∷ gathers (Some u ∷ replicate 14 None ++ (Some u ∷ [])) u (0 ∷ 15 ∷ [])
+    ∷ gathers (replicate 16 (Some t)) t (0 ∷ 1 ∷ 2 ∷ 3 ∷ 4 ∷ 5 ∷ 6 ∷ 7 ∷ 8 ∷ 9 ∷ 10 ∷ 11 ∷ 12 ∷ 13 ∷ 14 ∷ 15 ∷ [])
+    ∷ gathers (replicate 16 None) t []
     ∷ []
 
 -- Further cases, in document 01's order: daybook's whole output; a seat's second ack;

@@ -1,14 +1,14 @@
 -- What a fact of the table of known pages is, and when it holds of the definitions.
+use Rattle.std.specs.Prelude.{Option, Some, None}
 use Prim.Native.Nat.{ℕ, ◌-◌}
 use mathlib.Core.Bool.{Bool, not, ◌&&◌, beq}
 use mathlib.Core.List.{List, [], ◌∷◌, ◌++◌, map}
-use mathlib.Core.Option.{Option, none, some}
 use lib.Dec.{eqb}
 use lib.ListN.{length, take, replicate}
 use Rattle.model.specs.Types.{Transfer, Slot, Ledger, Outcome, Opening, Message, Request, Circulated, Ack, Decision, Inquiry, Reply, ListReply}
 use Rattle.model.specs.Basics.{same}
 use Rattle.model.specs.Records.{seat_of, account_of, no_ledger}
-use Rattle.model.specs.Replies.{letter_of, values_of, values_of_transfer, values_of_open, values_of_list, values_of_bundle, values_of_write, values_of_evidence}
+use Rattle.model.specs.Replies.{letter_of, values_of, values_of_transfer, values_of_open, values_of_list, values_of_bundle, values_of_evidence}
 use Rattle.model.specs.Refusals.{list_refusal}
 use Rattle.model.specs.Openings.{open_reply, open_ledger}
 use Rattle.model.specs.Acks.{enough, most_acked}
@@ -133,12 +133,12 @@ lists_as before said after l =
 
 -- a message's kind, seat and slip as numbers
 abbrev pub numbers_of : Option Message → List ℕ
-numbers_of none = []
-numbers_of (some (Request t)) = 1 ∷ 0 ∷ values_of_transfer t
-numbers_of (some (Circulated t)) = 2 ∷ 0 ∷ values_of_transfer t
-numbers_of (some (Ack s t)) = 3 ∷ s.0 ∷ values_of_transfer t
-numbers_of (some (Decision t)) = 4 ∷ 0 ∷ values_of_transfer t
-numbers_of (some (Inquiry a)) = 5 ∷ 0 ∷ a.0 ∷ []
+numbers_of None = []
+numbers_of (Some (Request t)) = 1 ∷ 0 ∷ values_of_transfer t
+numbers_of (Some (Circulated t)) = 2 ∷ 0 ∷ values_of_transfer t
+numbers_of (Some (Ack s t)) = 3 ∷ s.0 ∷ values_of_transfer t
+numbers_of (Some (Decision t)) = 4 ∷ 0 ∷ values_of_transfer t
+numbers_of (Some (Inquiry a)) = 5 ∷ 0 ∷ a.0 ∷ []
 
 -- an opening page's numbers
 abbrev pub numbers_of_page : Opening → List ℕ
@@ -165,11 +165,11 @@ row_holds (checks bytes said) = same (values_of_bundle (check_bundle bytes)) sai
 row_holds (counts m bad) = beq (bad_count m) bad
 row_holds (shows_opening body o) = same (numbers_of_page (opening_of body)) (numbers_of_page o)
 row_holds (reads bytes place kinds next) = took (read_next bytes place) kinds next
-row_holds (shows bytes i m) = same (numbers_of (message_of (page_at bytes i))) (numbers_of (some m))
+row_holds (shows bytes i m) = same (numbers_of (message_of (page_at bytes i))) (numbers_of (Some m))
 row_holds (writes page messages bytes) = same (written page messages) bytes
 row_holds (fits count size room said) =
     let bundle : List ℕ = replicate size 0 in
-    same (values_of_write (write_reply (write_faults count bundle room) bundle)) said
+    same (values_of_bundle (write_reply (write_faults count bundle room) bundle)) said
 row_holds (leaves count bundle before after) =
     same (buffer_after (write_reply (write_faults count bundle (length before)) bundle) bundle before) after
 row_holds (joins first second ruled said body) =

@@ -1,12 +1,13 @@
 -- What no answer of the known pages shows, computed: which acks conflict, what an opening leaves, what is retained; and
 -- what two statements say at single places.
+use Rattle.std.specs.Prelude.{Some, None, Ok, Err}
 use Prim.Native.Nat.{ℕ, ◌<◌}
 use mathlib.Core.Path.{◌≡◌, refl}
 use mathlib.Core.Bool.{Bool, true, false}
 use mathlib.Core.List.{List, [], ◌∷◌, map}
 use lib.Dec.{lit<}
 use lib.ListN.{take, replicate}
-use Rattle.model.specs.Types.{Transfer, Slot, Empty, Full, Ledger, Decision, ShortBuffer, Listed, ListRefused}
+use Rattle.model.specs.Types.{Transfer, Slot, Ledger, Decision, ShortBuffer}
 use Rattle.model.specs.Basics.{Rising}
 use Rattle.model.specs.Records.{account_of, no_acks, entry_of, no_ledger}
 use Rattle.model.specs.Transfers.{equal, conflict}
@@ -25,7 +26,7 @@ abbrev conflicting : List Slot → Bool
 conflicting places = two_conflict (map (λ s. record { slot = s }) places)
 
 -- .. those of two slips, and not those of one, nor an empty place beside them
-pub conflicts_tried : (conflicting (Empty ∷ Full t ∷ Full (slip 0 1 5 1) ∷ []) ≡ true) × (conflicting (Full t ∷ Empty ∷ Full t ∷ []) ≡ false)
+pub conflicts_tried : (conflicting (None ∷ Some t ∷ Some (slip 0 1 5 1) ∷ []) ≡ true) × (conflicting (Some t ∷ None ∷ Some t ∷ []) ≡ false)
 unfolding equal conflict
 conflicts_tried = (refl, refl)
 
@@ -40,7 +41,7 @@ balances l = take 2 (map (λ e. e.balance) l.entries)
 pub opened_tried :
     ((entry_of opened (account_of 0)).acked ≡ false)
     × ((entry_of opened (account_of 0)).proposed ≡ false)
-    × ((entry_of opened (account_of 0)).retained ≡ Empty)
+    × ((entry_of opened (account_of 0)).retained ≡ None)
     × ((entry_of opened (account_of 0)).retained_proposed ≡ false)
 unfolding open_ledger
 opened_tried = (refl, refl, refl, refl)
@@ -54,7 +55,7 @@ refused_opening_tried = (refl, refl)
 abbrev retained_under : Rules → Slot
 retained_under v = (entry_of (step_under v opened (Decision t)).next (account_of 0)).retained
 
-pub retained_tried : (retained_under first_rules ≡ Empty) × (retained_under since_request3 ≡ Empty) × (retained_under since_request5 ≡ Full t)
+pub retained_tried : (retained_under first_rules ≡ None) × (retained_under since_request3 ≡ None) × (retained_under since_request5 ≡ Some t)
 unfolding no_acks open_ledger lowest_affordable apply settle_at_most settle step_under
 retained_tried = (refl, refl, refl)
 
@@ -64,6 +65,6 @@ rising_says rises = rises 0 1 (lit< tt) (lit< tt)
 
 -- what a list of two accounts leaves in a buffer, and no other content; a refused one leaves it as it was
 pub lists_say : (after : List ℕ)
-    → (Lists (0 ∷ 3 ∷ []) (replicate 32 9) (Listed 2) after → after ≡ 0 ∷ 3 ∷ replicate 30 9)
-    × (Lists (0 ∷ 3 ∷ []) (7 ∷ []) (ListRefused ShortBuffer) after → after ≡ 7 ∷ [])
+    → (Lists (0 ∷ 3 ∷ []) (replicate 32 9) (Ok 2) after → after ≡ 0 ∷ 3 ∷ replicate 30 9)
+    × (Lists (0 ∷ 3 ∷ []) (7 ∷ []) (Err ShortBuffer) after → after ≡ 7 ∷ [])
 lists_say after = (λ lists. lists.buffer, λ lists. lists.buffer)

@@ -1,6 +1,5 @@
 -- Sums, counts and searches over lists and over numbers, which the definitions share.
-use Rattle.std.specs.Prelude.{ℕ, zero, suc, ◌+◌, ◌<◌, ◌≡◌, Bool, true, false, cond, ◌&&◌, ◌||◌, List, [], ◌∷◌, eqb, length, get_or}
-use Rattle.std.proofs.Math.Option.{Option, none, some}
+use Rattle.std.specs.Prelude.{ℕ, zero, suc, ◌+◌, ◌<◌, ◌≡◌, Bool, true, false, cond, ◌&&◌, ◌||◌, List, [], ◌∷◌, eqb, length, get_or, Option, Some, None}
 
 abbrev pub bit : Bool → ℕ
 bit true = 1
@@ -32,15 +31,10 @@ same [] (y ∷ ys) = false
 same (x ∷ xs) [] = false
 same (x ∷ xs) (y ∷ ys) = eqb x y && same xs ys
 
--- there is one
-abbrev pub is_some : {A : Type 0} → Option A → Bool
-is_some none = false
-is_some (some x) = true
-
 -- the lowest of the `left` numbers from `i` on that passes the test
 abbrev pub first_where : (ℕ → Bool) → ℕ → ℕ → Option ℕ
-first_where p zero i = none
-first_where p (suc left) i = cond (p i) (some i) (first_where p left (suc i))
+first_where p zero i = None
+first_where p (suc left) i = cond (p i) (Some i) (first_where p left (suc i))
 
 -- those of the `left` numbers from `i` on that pass the test, lowest first
 abbrev pub all_where : (ℕ → Bool) → ℕ → ℕ → List ℕ

@@ -1,8 +1,7 @@
 -- Document 01, "The bundle: contents, then bodies". A bundle is a list of bytes.
-use Rattle.std.specs.Prelude.{ℕ, zero, suc, ◌+◌, ◌*◌, ◌%◌, Bool, not, cond, ◌&&◌, ◌||◌, List, [], ◌∷◌, ltb, eqb, length, get_or, take, drop}
+use Rattle.std.specs.Prelude.{ℕ, zero, suc, ◌+◌, ◌*◌, ◌%◌, Bool, not, cond, ◌&&◌, ◌||◌, List, [], ◌∷◌, ltb, eqb, length, get_or, take, drop, Option, Some, None, Ok}
 use Rattle.std.specs.Bool.{beq}
-use Rattle.std.proofs.Math.Option.{Option, none, some}
-use Rattle.model.specs.Types.{Transfer, Opening, Message, Request, Circulated, Ack, Decision, Inquiry, Refusal, BadHeader, BadContents, BadEnd, BadSum, ContentsEntry, BundleReply, Sound, BundleRefused}
+use Rattle.model.specs.Types.{Transfer, Opening, Message, Request, Circulated, Ack, Decision, Inquiry, Refusal, BadHeader, BadContents, BadEnd, BadSum, ContentsEntry, BundleReply, refused_at}
 use Rattle.model.specs.Basics.{first_where}
 use Rattle.model.specs.Records.{seat_of, account_of}
 use Rattle.model.specs.Replies.{code_of}
@@ -114,13 +113,13 @@ Fault = Option ℕ × Refusal
 
 -- a fault of the whole bundle names entry 0
 abbrev pub of_whole : Bool → Option ℕ
-of_whole b = cond b (some 0) none
+of_whole b = cond b (Some 0) None
 
 -- the answer that the first fault makes, if there is one; else this one
 abbrev pub unless_fault : {A : Type 0} → (Refusal → ℕ → A) → A → List Fault → A
 unless_fault refused answer [] = answer
 unless_fault refused answer (f ∷ fs) =
-    elim f.0 [ none ↦ unless_fault refused answer fs | some i ↦ refused f.1 i ]
+    elim f.0 [ None ↦ unless_fault refused answer fs | Some i ↦ refused f.1 i ]
 
 -- as values: the code and the entry, or 0 and a number
 abbrev pub fault_values : ℕ → List Fault → List ℕ
@@ -128,7 +127,7 @@ fault_values n fs = unless_fault (λ r i. code_of r ∷ i ∷ []) (0 ∷ n ∷ [
 
 -- with no fault, a sound bundle of m entries
 abbrev pub first_fault : ℕ → List Fault → BundleReply
-first_fault m fs = unless_fault BundleRefused (Sound m) fs
+first_fault m fs = unless_fault refused_at (Ok m) fs
 
 -- "Codes 13, 14, 15, 16 are tried in that order over the whole bundle, the lowest entry first"
 abbrev pub faults : List ℕ → List Fault
@@ -175,13 +174,13 @@ transfer_of body =
 -- "Kinds 1 to 4 are request, slip, ack, ruling". "Kind 5 is a balance question: account." Any other kind is no message.
 abbrev pub message_of : Page → Option Message
 message_of p =
-    cond (eqb p.kind 1) (some (Request (transfer_of p.body)))
-    (cond (eqb p.kind 2) (some (Circulated (transfer_of p.body)))
-    (cond (eqb p.kind 3) (some (Ack (seat_of p.seat) (transfer_of p.body)))
-    (cond (eqb p.kind 4) (some (Decision (transfer_of p.body)))
-    (cond (eqb p.kind 5) (some (Inquiry (account_of (get_or p.body 0 0)))) none))))
+    cond (eqb p.kind 1) (Some (Request (transfer_of p.body)))
+    (cond (eqb p.kind 2) (Some (Circulated (transfer_of p.body)))
+    (cond (eqb p.kind 3) (Some (Ack (seat_of p.seat) (transfer_of p.body)))
+    (cond (eqb p.kind 4) (Some (Decision (transfer_of p.body)))
+    (cond (eqb p.kind 5) (Some (Inquiry (account_of (get_or p.body 0 0)))) None))))
 
 -- a page's message; what stands for one that is none never shows where 14 is tried first
 abbrev pub message_or : Option Message → Message
-message_or none = Inquiry (account_of 0)
-message_or (some m) = m
+message_or None = Inquiry (account_of 0)
+message_or (Some m) = m

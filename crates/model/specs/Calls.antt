@@ -2,9 +2,8 @@
 -- request 5: the late P. A message is about one account. What it comes to is said of that account's entry (`turn_by`),
 -- which is then stored; and where its slip is accepted, settling begins (`finished`). `step` is by today's rules; how
 -- earlier rules differ is in Switches.antt.
-use Rattle.std.specs.Prelude.{ℕ, ◌≡◌, Bool, false, cond, not, ◌&&◌, ◌||◌, List, ◌++◌, length, drop}
-use Rattle.std.proofs.Math.Option.{Option, none, some}
-use Rattle.model.specs.Types.{Account, Transfer, Entry, Ledger, Outcome, Refusal, Message, Request, Circulated, Ack, Decision, Inquiry, Reply, Circulate, Acknowledge, Accept, Propose, Note, Balance, Refuse, ListReply, Listed, ListRefused}
+use Rattle.std.specs.Prelude.{ℕ, ◌≡◌, Bool, false, cond, not, ◌&&◌, ◌||◌, List, ◌++◌, length, drop, Option, Some, None, Ok, Err}
+use Rattle.model.specs.Types.{Account, Transfer, Entry, Ledger, Outcome, Refusal, Message, Request, Circulated, Ack, Decision, Inquiry, Reply, Circulate, Acknowledge, Accept, Propose, Note, Balance, Refuse, ListReply}
 use Rattle.model.specs.Basics.{all_where}
 use Rattle.model.specs.Records.{account_of, entry_of, set_entry, with_entry, with_entries, with_acked, with_ack, with_proposed, with_pending, with_retained, with_retained_proposed}
 use Rattle.model.specs.Refusals.{Rule, first_refusal, unknown_seat, out_of_range, rules_of, list_refusal}
@@ -66,8 +65,8 @@ effect l e (Inquiry a) = replies (Balance e.balance) e
 
 -- "A refusal replies its code and changes nothing."
 abbrev pub unless_refused : Option Refusal → Entry → Effect → Effect
-unless_refused none e x = x
-unless_refused (some r) e x = replies (Refuse r) e
+unless_refused None e x = x
+unless_refused (Some r) e x = replies (Refuse r) e
 
 -- "If an ack that passes 4 and 5 carries that account and number and a different slip, and nothing was put forward": of
 -- the slip that the account's entry retains. No other message does this
@@ -129,13 +128,13 @@ waiting_accounts l = all_where (waits_at l) (length l.entries) 0
 
 -- "replies how many", unless it is refused
 abbrev pub list_reply : Option Refusal → List ℕ → ListReply
-list_reply none accounts = Listed (length accounts)
-list_reply (some r) accounts = ListRefused r
+list_reply None accounts = Ok (length accounts)
+list_reply (Some r) accounts = Err r
 
 -- "into the front of a lent buffer ... Bytes behind them keep their content." A refusal changes nothing.
 abbrev pub list_buffer : ListReply → List ℕ → List ℕ → List ℕ
-list_buffer (Listed n) accounts before = accounts ++ drop n before
-list_buffer (ListRefused r) accounts before = before
+list_buffer (Ok n) accounts before = accounts ++ drop n before
+list_buffer (Err r) accounts before = before
 
 -- What a list of these accounts replies, given the refusal that it meets, if any, and leaves in a buffer that held this
 -- before. The ledger stays the same.

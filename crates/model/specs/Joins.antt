@@ -1,8 +1,7 @@
 -- Document 02, request 7: "Which seat acknowledged two slips?" Of two bundles' bytes and a ruled slip.
-use Rattle.std.specs.Prelude.{ℕ, ◌<◌, ◌≡◌, Bool, true, not, cond, ◌&&◌, List, [], ◌∷◌, ltb, eqb}
-use Rattle.std.proofs.Math.Option.{Option, none, some}
-use Rattle.model.specs.Types.{Seat, Transfer, Refusal, PagesDiffer, Which, First, Second, Neither, Evidence, FoundPair, NoPair, JoinRefused}
-use Rattle.model.specs.Basics.{is_some, first_where, same}
+use Rattle.std.specs.Prelude.{ℕ, ◌<◌, ◌≡◌, Bool, true, not, cond, ◌&&◌, List, [], ◌∷◌, ltb, eqb, Option, Some, None, is_some, Ok, Err}
+use Rattle.model.specs.Types.{Seat, Transfer, Refusal, PagesDiffer, Which, First, Second, Neither, Evidence, join_refused, found_pair, no_pair}
+use Rattle.model.specs.Basics.{first_where, same}
 use Rattle.model.specs.Records.{seat_of}
 use Rattle.model.specs.Transfers.{equal, conflict}
 use Rattle.model.specs.Bundles.{entry_count, contents_at, Page, page_at, Fault, of_whole, unless_fault, faults, opening_of, transfer_of}
@@ -47,8 +46,8 @@ earliest first second = first_where (λ i. is_some (partner_of first second i)) 
 
 -- then the earliest in the second."
 abbrev pub with_partner : List ℕ → List ℕ → Option ℕ → Option (ℕ × ℕ)
-with_partner first second none = none
-with_partner first second (some i) = elim (partner_of first second i) [ none ↦ none | some j ↦ some (i, j) ]
+with_partner first second None = None
+with_partner first second (Some i) = elim (partner_of first second i) [ None ↦ None | Some j ↦ Some (i, j) ]
 
 unfoldable pub earliest_pair : List ℕ → List ℕ → Option (ℕ × ℕ)
 earliest_pair first second = with_partner first second (earliest first second)
@@ -60,10 +59,10 @@ shown_by ruled t = cond (equal t ruled) Second First
 
 -- "It replies the seat, both entries, and ..". "If there is no such pair it says so."
 abbrev pub answer_of : List ℕ → Transfer → Option (ℕ × ℕ) → Evidence
-answer_of first ruled none = NoPair
-answer_of first ruled (some (i, j)) =
+answer_of first ruled None = no_pair
+answer_of first ruled (Some (i, j)) =
     let p : Page = page_at first i in
-    FoundPair (seat_on p) i j (shown_by ruled (slip_on p))
+    found_pair (seat_on p) i j (shown_by ruled (slip_on p))
 
 -- "21 if the two opening pages differ": their bodies, in any byte. It names neither bundle, and entry 0
 abbrev pub page_faults : List ℕ → List ℕ → List Fault
@@ -80,7 +79,7 @@ unless_join_fault refused answer first second =
     (faults first)
 
 unfoldable pub evidence : List ℕ → List ℕ → Transfer → Evidence
-evidence first second ruled = unless_join_fault JoinRefused (answer_of first ruled (earliest_pair first second)) first second
+evidence first second ruled = unless_join_fault join_refused (answer_of first ruled (earliest_pair first second)) first second
 
 -- the bundle that is meant; neither has no bytes
 abbrev pub bundle_named : Which → List ℕ → List ℕ → List ℕ
@@ -96,18 +95,18 @@ entry_named Neither i j = 0
 
 -- "shown as that body's bytes in whichever bundle holds it". Without a pair there are none
 abbrev pub shown_body : List ℕ → List ℕ → Evidence → List ℕ
-shown_body first second (FoundPair s i j shown) = (page_at (bundle_named shown first second) (entry_named shown i j)).body
-shown_body first second NoPair = []
-shown_body first second (JoinRefused r of i) = []
+shown_body first second (Ok (Some p)) = (page_at (bundle_named p.shown first second) (entry_named p.shown p.first p.second)).body
+shown_body first second (Ok None) = []
+shown_body first second (Err e) = []
 
 -- where they start there
 abbrev pub shown_start : List ℕ → List ℕ → Evidence → ℕ
-shown_start first second (FoundPair s i j shown) = (contents_at (bundle_named shown first second) (entry_named shown i j)).start
-shown_start first second NoPair = 0
-shown_start first second (JoinRefused r of i) = 0
+shown_start first second (Ok (Some p)) = (contents_at (bundle_named p.shown first second) (entry_named p.shown p.first p.second)).start
+shown_start first second (Ok None) = 0
+shown_start first second (Err e) = 0
 
 -- and which bundle that is
 abbrev pub shown_in : Evidence → Which
-shown_in (FoundPair s i j shown) = shown
-shown_in NoPair = Neither
-shown_in (JoinRefused r of i) = Neither
+shown_in (Ok (Some p)) = p.shown
+shown_in (Ok None) = Neither
+shown_in (Err e) = Neither

@@ -1,10 +1,9 @@
 -- Document 01: the opening of a ledger, and codes 1, 2 and 3, in this order.
-use Rattle.std.specs.Prelude.{◌*◌, Bool, not, ◌||◌, List, [], ◌∷◌, leb, ltb, eqb, drop}
-use Rattle.std.proofs.Math.Option.{Option, none, some}
-use Rattle.model.specs.Types.{Ledger, Opening, Refusal, BadGroup, BadAccounts, SumTooLarge, OpenReply, Opened, OpenRefused}
+use Rattle.std.specs.Prelude.{◌*◌, Bool, not, ◌||◌, List, [], ◌∷◌, leb, ltb, eqb, drop, Option, Some, None}
+use Rattle.model.specs.Types.{Ledger, Opening, Refusal, BadGroup, BadAccounts, SumTooLarge, OpenReply}
 use Rattle.model.specs.Basics.{any, sum_of}
 use Rattle.model.specs.Records.{fresh_ledger}
-use Rattle.model.specs.Refusals.{Rule, first_refusal}
+use Rattle.model.specs.Refusals.{Rule, first_refusal, check_of}
 
 -- 1: n outside 1 to 16, or 5 × f ≥ n
 abbrev pub bad_group : Opening → Bool
@@ -23,17 +22,13 @@ abbrev pub open_rules : Opening → List Rule
 open_rules o = (bad_group o, BadGroup) ∷ (bad_accounts o, BadAccounts) ∷ (sum_too_large o, SumTooLarge) ∷ []
 
 -- what an opening replies
-abbrev pub open_reply_by : Option Refusal → OpenReply
-open_reply_by none = Opened
-open_reply_by (some r) = OpenRefused r
-
 unfoldable pub open_reply : Opening → OpenReply
-open_reply o = open_reply_by (first_refusal (open_rules o))
+open_reply o = check_of (first_refusal (open_rules o))
 
 -- "A refusal replies its code and changes nothing.": the ledger just opened, or the one that there was before
 abbrev pub open_ledger_by : Option Refusal → Ledger → Ledger → Ledger
-open_ledger_by none opened before = opened
-open_ledger_by (some r) opened before = before
+open_ledger_by None opened before = opened
+open_ledger_by (Some r) opened before = before
 
 -- the ledger after an opening from the page, given the one before it
 unfoldable pub open_ledger : Opening → Ledger → Ledger

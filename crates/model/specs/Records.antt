@@ -1,7 +1,7 @@
 -- The ledger and an account's entry: how they are made, read and changed. In the model no other file builds one of the
 -- two records; words are read as such in crate layout.
-use Rattle.std.specs.Prelude.{ℕ, ◌≡◌, Bool, true, false, List, map, get_or, set, replicate}
-use Rattle.model.specs.Types.{Seat, Account, Transfer, Slot, Empty, Full, AckSlot, Entry, Ledger, Opening}
+use Rattle.std.specs.Prelude.{ℕ, ◌≡◌, Bool, true, false, List, map, get_or, set, replicate, Some, None}
+use Rattle.model.specs.Types.{Seat, Account, Transfer, Slot, AckSlot, Entry, Ledger, Opening}
 use Rattle.model.specs.Basics.{sum_of}
 
 -- the seat and the account with a number
@@ -13,12 +13,12 @@ account_of n = record { 0 = n }
 
 -- no seat's ack is recorded
 unfoldable pub no_acks : List AckSlot
-no_acks = replicate 16 (record { slot = Empty })
+no_acks = replicate 16 (record { slot = None })
 
 -- an account at opening: its balance, current 0, nothing acked, recorded, put forward, waiting or retained
 abbrev pub fresh_entry : ℕ → Entry
 fresh_entry b =
-    record { balance = b; current = 0; acked = false; acks = no_acks; proposed = false; pending = Empty; retained = Empty; retained_proposed = false }
+    record { balance = b; current = 0; acked = false; acks = no_acks; proposed = false; pending = None; retained = None; retained_proposed = false }
 
 -- the account's entry with another balance
 abbrev pub with_balance : Entry → ℕ → Entry
@@ -37,7 +37,7 @@ with_ack e s t =
       balance = e.balance;
       current = e.current;
       acked = e.acked;
-      acks = set e.acks s.0 (record { slot = Full t });
+      acks = set e.acks s.0 (record { slot = Some t });
       proposed = e.proposed;
       pending = e.pending;
       retained = e.retained;
@@ -52,12 +52,12 @@ with_proposed e =
 -- .. with an accepted slip that waits
 abbrev pub with_pending : Entry → Transfer → Entry
 with_pending e t =
-    record { balance = e.balance; current = e.current; acked = e.acked; acks = e.acks; proposed = e.proposed; pending = Full t; retained = e.retained; retained_proposed = e.retained_proposed }
+    record { balance = e.balance; current = e.current; acked = e.acked; acks = e.acks; proposed = e.proposed; pending = Some t; retained = e.retained; retained_proposed = e.retained_proposed }
 
 -- .. with current at a number that was booked, and the account's acks and marks cleared. What is retained stays
 abbrev pub with_booked : Entry → ℕ → Entry
 with_booked e number =
-    record { balance = e.balance; current = number; acked = false; acks = no_acks; proposed = false; pending = Empty; retained = e.retained; retained_proposed = e.retained_proposed }
+    record { balance = e.balance; current = number; acked = false; acks = no_acks; proposed = false; pending = None; retained = e.retained; retained_proposed = e.retained_proposed }
 
 -- .. with these retained: a slip or none, and whether anything was put forward for its number
 abbrev pub with_retained_as : Entry → Slot → Bool → Entry
@@ -70,7 +70,7 @@ with_retained_of e kept = with_retained_as e kept.retained kept.retained_propose
 
 -- .. with a slip of the next number retained, and the mark that this number has
 abbrev pub with_retained : Entry → Transfer → Entry
-with_retained e t = with_retained_as e (Full t) e.proposed
+with_retained e t = with_retained_as e (Some t) e.proposed
 
 -- .. with the mark that a slip was put forward for the retained number
 abbrev pub with_retained_proposed : Entry → Entry
@@ -78,11 +78,11 @@ with_retained_proposed e = with_retained_as e e.retained true
 
 -- .. with nothing retained
 abbrev pub with_none_retained : Entry → Entry
-with_none_retained e = with_retained_as e Empty false
+with_none_retained e = with_retained_as e None false
 
 -- nothing is retained, and no mark of it is set
 abbrev pub RetainsNothing : Entry → Type 0
-RetainsNothing e = (e.retained ≡ Empty) × (e.retained_proposed ≡ false)
+RetainsNothing e = (e.retained ≡ None) × (e.retained_proposed ≡ false)
 
 -- the entry of an account. An account behind the last entry has a fresh one with balance 0
 abbrev pub entry_at : List Entry → Account → Entry

@@ -1,8 +1,7 @@
 -- Document 01, "Refusal codes": the tests, and for each kind of call their order. "Codes rise, save that 12 comes
 -- before 11." And document 02, request 3: "20 for such a request or slip, after 5 and before 6."
-use Rattle.std.specs.Prelude.{ℕ, ◌+◌, Bool, false, cond, ◌||◌, List, [], ◌∷◌, ◌++◌, leb, ltb, eqb, length}
-use Rattle.std.proofs.Math.Option.{Option, none, some}
-use Rattle.model.specs.Types.{Seat, Account, Transfer, Slot, Empty, Full, Entry, Ledger, Message, Request, Circulated, Ack, Decision, Inquiry, Refusal, UnknownSeat, OutOfRange, PastNumber, FutureNumber, AlreadyAccepted, AckRepeated, AckConflicting, InsufficientFunds, AlreadyAcked, ShortBuffer, SelfPayment}
+use Rattle.std.specs.Prelude.{ℕ, ◌+◌, Bool, false, cond, ◌||◌, List, [], ◌∷◌, ◌++◌, leb, ltb, eqb, length, Option, Some, None, Result, Ok, Err}
+use Rattle.model.specs.Types.{Seat, Account, Transfer, Slot, Entry, Ledger, Message, Request, Circulated, Ack, Decision, Inquiry, Refusal, UnknownSeat, OutOfRange, PastNumber, FutureNumber, AlreadyAccepted, AckRepeated, AckConflicting, InsufficientFunds, AlreadyAcked, ShortBuffer, SelfPayment}
 use Rattle.model.specs.Transfers.{same_account, same_number}
 use Rattle.model.specs.Acks.{ack_at, holds, conflicts}
 
@@ -12,8 +11,13 @@ Rule = Bool × Refusal
 
 -- the first rule whose test holds
 abbrev pub first_refusal : List Rule → Option Refusal
-first_refusal [] = none
-first_refusal (r ∷ rs) = cond r.0 (some r.1) (first_refusal rs)
+first_refusal [] = None
+first_refusal (r ∷ rs) = cond r.0 (Some r.1) (first_refusal rs)
+
+-- what is answered where nothing more is to be told: that no rule refuses, or the refusal
+abbrev pub check_of : Option Refusal → Result (Unit {0}) Refusal
+check_of None = Ok tt
+check_of (Some r) = Err r
 
 -- 4: an ack's seat is n or more
 abbrev pub unknown_seat : Ledger → Seat → Bool
@@ -43,8 +47,8 @@ future_number e t = ltb (e.current + 1) t.number
 
 -- 8: a slip with this account and number is accepted and waits
 abbrev pub waits_already : Slot → Transfer → Bool
-waits_already Empty t = false
-waits_already (Full p) t = same_number p t
+waits_already None t = false
+waits_already (Some p) t = same_number p t
 
 -- the ack that is recorded from a seat
 abbrev pub ack_from : Entry → Seat → Slot

@@ -1,8 +1,8 @@
 -- The documents' letter, number and values of the answers of messages, openings, waiting lists, and of the check, the
 -- writer and the join of bundles. Those of a reading stand in specs/ of crate bundle, those of a load in specs/ of
 -- crate host.
-use Rattle.std.specs.Prelude.{ℕ, List, [], ◌∷◌}
-use Rattle.model.specs.Types.{Transfer, Refusal, BadGroup, BadAccounts, SumTooLarge, UnknownSeat, OutOfRange, PastNumber, FutureNumber, AlreadyAccepted, AckRepeated, AckConflicting, InsufficientFunds, AlreadyAcked, BadHeader, BadContents, BadEnd, BadSum, ShortBuffer, TooManyMessages, NoRoom, SelfPayment, PagesDiffer, Reply, Circulate, Acknowledge, Accept, Propose, Note, Balance, Refuse, OpenReply, Opened, OpenRefused, ListReply, Listed, ListRefused, BundleReply, Sound, BundleRefused, WriteReply, Written, WriteRefused, Which, First, Second, Neither, Evidence, FoundPair, NoPair, JoinRefused}
+use Rattle.std.specs.Prelude.{ℕ, List, [], ◌∷◌, Ok, Err, Some, None}
+use Rattle.model.specs.Types.{Transfer, Refusal, BadGroup, BadAccounts, SumTooLarge, UnknownSeat, OutOfRange, PastNumber, FutureNumber, AlreadyAccepted, AckRepeated, AckConflicting, InsufficientFunds, AlreadyAcked, BadHeader, BadContents, BadEnd, BadSum, ShortBuffer, TooManyMessages, NoRoom, SelfPayment, PagesDiffer, Reply, Circulate, Acknowledge, Accept, Propose, Note, Balance, Refuse, OpenReply, ListReply, BundleReply, Which, First, Second, Neither, Evidence}
 
 -- the refusal codes
 abbrev pub code_of : Refusal → ℕ
@@ -55,23 +55,18 @@ values_of (Refuse r) = code_of r ∷ []
 -- The other answers: their code, 0 where it is no refusal, and what they carry.
 -- an opening
 abbrev pub values_of_open : OpenReply → List ℕ
-values_of_open Opened = 0 ∷ []
-values_of_open (OpenRefused r) = code_of r ∷ []
+values_of_open (Ok u) = 0 ∷ []
+values_of_open (Err r) = code_of r ∷ []
 
 -- the waiting list: how many
 abbrev pub values_of_list : ListReply → List ℕ
-values_of_list (Listed c) = 0 ∷ c ∷ []
-values_of_list (ListRefused r) = code_of r ∷ []
+values_of_list (Ok c) = 0 ∷ c ∷ []
+values_of_list (Err r) = code_of r ∷ []
 
--- the check of a bundle: m, or the entry at fault
+-- the check of a bundle: m; the writer: the bundle's length; or the entry at fault
 abbrev pub values_of_bundle : BundleReply → List ℕ
-values_of_bundle (Sound m) = 0 ∷ m ∷ []
-values_of_bundle (BundleRefused r i) = code_of r ∷ i ∷ []
-
--- the writer: the bundle's length, or the entry at fault
-abbrev pub values_of_write : WriteReply → List ℕ
-values_of_write (Written size) = 0 ∷ size ∷ []
-values_of_write (WriteRefused r i) = code_of r ∷ i ∷ []
+values_of_bundle (Ok m) = 0 ∷ m ∷ []
+values_of_bundle (Err e) = code_of e.refusal ∷ e.entry ∷ []
 
 -- which of two bundles: 1, 2, or 0 for neither
 abbrev pub number_of_which : Which → ℕ
@@ -82,6 +77,6 @@ number_of_which Neither = 0
 -- the evidence join: how many pairs are told, 1 or 0, and of the one the seat, both entries and the bundle whose body
 -- is shown; or which bundle is refused, and its entry at fault
 abbrev pub values_of_evidence : Evidence → List ℕ
-values_of_evidence (FoundPair s i j shown) = 0 ∷ 1 ∷ s.0 ∷ i ∷ j ∷ number_of_which shown ∷ []
-values_of_evidence NoPair = 0 ∷ 0 ∷ []
-values_of_evidence (JoinRefused r of i) = code_of r ∷ number_of_which of ∷ i ∷ []
+values_of_evidence (Ok (Some p)) = 0 ∷ 1 ∷ p.seat.0 ∷ p.first ∷ p.second ∷ number_of_which p.shown ∷ []
+values_of_evidence (Ok None) = 0 ∷ 0 ∷ []
+values_of_evidence (Err e) = code_of e.refusal ∷ number_of_which e.bundle ∷ e.entry ∷ []

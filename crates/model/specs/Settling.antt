@@ -1,19 +1,17 @@
 -- Document 01: settling, and what booking does.
-use Rattle.std.specs.Prelude.{ℕ, zero, suc, ◌+◌, ◌-◌, ◌%◌, Bool, false, List, leb, length}
-use Rattle.std.proofs.Math.Option.{Option, none, some, map}
-use Rattle.model.specs.Types.{Account, Transfer, Slot, Empty, Full, Entry}
+use Rattle.std.specs.Prelude.{ℕ, zero, suc, ◌+◌, ◌-◌, ◌%◌, Bool, false, List, leb, length, Option, Some, None, is_some, option_map}
+use Rattle.model.specs.Types.{Account, Transfer, Slot, Entry}
 use Rattle.model.specs.Basics.{count, first_where}
 use Rattle.model.specs.Records.{account_of, entry_at, set_entry, with_balance, with_booked}
-use Rattle.model.specs.Acks.{is_full}
 
 -- an accepted slip of the account waits
 abbrev pub is_waiting : Entry → Bool
-is_waiting e = is_full e.pending
+is_waiting e = is_some e.pending
 
 -- the waiting slip in this place has a value that is at most this balance
 abbrev pub affords : ℕ → Slot → Bool
-affords balance Empty = false
-affords balance (Full t) = leb t.value balance
+affords balance None = false
+affords balance (Some t) = leb t.value balance
 
 -- "some waiting slip's value is at most its payer's balance": its payer is the account that holds it
 abbrev pub affordable : Entry → Bool
@@ -21,7 +19,7 @@ affordable e = affords e.balance e.pending
 
 -- the lowest account with such a slip
 unfoldable pub lowest_affordable : List Entry → Option Account
-lowest_affordable es = map account_of (first_where (λ a. affordable (entry_at es (account_of a))) (length es) 0)
+lowest_affordable es = option_map account_of (first_where (λ a. affordable (entry_at es (account_of a))) (length es) 0)
 
 -- how many slips wait
 abbrev pub waiting : List Entry → ℕ
@@ -40,8 +38,8 @@ debited e t = with_booked (with_balance e (e.balance - t.value)) t.number
 
 -- booking the slip of an account's place: payer first, then recipient, who may be the payer
 abbrev pub apply_slot : List Entry → Account → Slot → List Entry
-apply_slot es a Empty = es
-apply_slot es a (Full t) = credit (set_entry es a (debited (entry_at es a) t)) t.recipient t.value
+apply_slot es a None = es
+apply_slot es a (Some t) = credit (set_entry es a (debited (entry_at es a) t)) t.recipient t.value
 
 -- booking the slip that waits at an account
 unfoldable pub apply : List Entry → Account → List Entry
@@ -61,8 +59,8 @@ unfoldable pub settle_at_most : ℕ → List Entry → Settled
 settle_at_most zero es = record { applied = 0; entries = es }
 settle_at_most (suc n) es =
     elim (lowest_affordable es) [
-      | none ↦ record { applied = 0; entries = es }
-      | some a ↦ one_more (settle_at_most n (apply es a))
+      | None ↦ record { applied = 0; entries = es }
+      | Some a ↦ one_more (settle_at_most n (apply es a))
     ]
 
 unfoldable pub settle : List Entry → Settled

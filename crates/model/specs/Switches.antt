@@ -2,8 +2,8 @@
 -- held ledger becomes at a switch; and the step under earlier rules, told by how it differs from today's. A request
 -- that changes the rules adds a set, and says here what those before it lack; which reply was left free by earlier
 -- rules is said where runs are (`free_slip`, in Runs.antt of runs).
-use Rattle.std.specs.Prelude.{ℕ, Bool, false, cond, List, [], ◌∷◌, map, eqb}
-use Rattle.model.specs.Types.{Slot, Empty, Full, Entry, Ledger, Outcome, Message}
+use Rattle.std.specs.Prelude.{ℕ, Bool, false, cond, List, [], ◌∷◌, map, eqb, Some, None}
+use Rattle.model.specs.Types.{Slot, Entry, Ledger, Outcome, Message}
 use Rattle.model.specs.Replies.{code_of}
 use Rattle.model.specs.Refusals.{Rule}
 use Rattle.model.specs.Records.{with_retained_of, with_retained, with_none_retained, with_entries}
@@ -35,8 +35,8 @@ next_rules since_request5 = since_request5
 
 -- the entry that retains what stands in this place, with the mark of the next number, or nothing
 abbrev pub retains_from : Slot → Entry → Entry
-retains_from Empty e = with_none_retained e
-retains_from (Full t) e = with_retained e t
+retains_from None e = with_none_retained e
+retains_from (Some t) e = with_retained e t
 
 -- "A book held from before retains its waiting slips with their marks, and no booked ones":
 -- what an account's entry becomes

@@ -1,7 +1,7 @@
 -- Document 02, request 1: the bundle that a writer makes of an opening page and a list of
 -- messages, and what the writer replies.
-use Rattle.std.specs.Prelude.{ℕ, zero, suc, ◌+◌, ◌*◌, ◌/◌, ◌%◌, ◌<◌, List, [], ◌∷◌, ◌++◌, map, ltb, length, get_or, drop}
-use Rattle.model.specs.Types.{Transfer, Opening, Message, Request, Circulated, Ack, Decision, Inquiry, TooManyMessages, NoRoom, ContentsEntry, WriteReply, Written, WriteRefused}
+use Rattle.std.specs.Prelude.{ℕ, zero, suc, ◌+◌, ◌*◌, ◌/◌, ◌%◌, ◌<◌, List, [], ◌∷◌, ◌++◌, map, ltb, length, get_or, drop, Ok, Err}
+use Rattle.model.specs.Types.{Transfer, Opening, Message, Request, Circulated, Ack, Decision, Inquiry, TooManyMessages, NoRoom, ContentsEntry, BundleReply, refused_at}
 use Rattle.model.specs.Bundles.{Page, body_sum, Fault, of_whole, unless_fault}
 
 -- "Numbers are little-endian": the bytes of a number, so many of them
@@ -76,13 +76,13 @@ abbrev pub write_faults : ℕ → List ℕ → ℕ → List Fault
 write_faults count bundle room = too_many count ∷ no_room bundle room ∷ []
 
 -- "replies the bundle's length"
-abbrev pub write_reply : List Fault → List ℕ → WriteReply
-write_reply faults bundle = unless_fault WriteRefused (Written (length bundle)) faults
+abbrev pub write_reply : List Fault → List ℕ → BundleReply
+write_reply faults bundle = unless_fault refused_at (Ok (length bundle)) faults
 
 -- "fills a lent buffer": its front, and "Bytes behind the bundle keep their content." A refusal changes nothing.
-abbrev pub buffer_after : WriteReply → List ℕ → List ℕ → List ℕ
-buffer_after (Written size) bundle before = bundle ++ drop size before
-buffer_after (WriteRefused r i) bundle before = before
+abbrev pub buffer_after : BundleReply → List ℕ → List ℕ → List ℕ
+buffer_after (Ok size) bundle before = bundle ++ drop size before
+buffer_after (Err e) bundle before = before
 
 -- a list of bytes: of numbers below 256
 abbrev pub Bytes : List ℕ → Type 0

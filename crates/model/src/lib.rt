@@ -1,31 +1,24 @@
-// The types of the credit ledger's calls and of its bundles. What they mean is said in specs/, and what a ledger is
-// too: no code holds one. A comment names document 01's word where ours is another.
+// The types of the credit ledger's calls and of its bundles, with the documents' numbers and letters of them. What they
+// mean is said in specs/, and what a ledger is too: no code holds one. A comment names document 01's word where ours is another.
 
 #![tactic(auto)]
 
 // A seat's number, from 0. A type of its own, so that it never stands where an account's number is wanted.
-#[derive(Clone, Copy)]
+#[derive(Clone, Copy, PartialEq, Eq)]
 pub struct Seat(pub u8);
 
 // An account's number, from 0.
-#[derive(Clone, Copy)]
+#[derive(Clone, Copy, PartialEq, Eq)]
 pub struct Account(pub u8);
 
 // Document 01: slip.
-#[derive(Clone, Copy)]
+#[derive(Clone, Copy, PartialEq, Eq)]
 pub struct Transfer {
     // who pays
     pub account: Account,
     pub number: u32,
     pub value: u32,
     pub recipient: Account,
-}
-
-// A place that may hold a transfer.
-#[derive(Clone, Copy)]
-pub enum Slot {
-    Empty,
-    Full(Transfer),
 }
 
 // The opening page.
@@ -63,6 +56,40 @@ pub enum Refusal {
     PagesDiffer,
 }
 
+// The documents' number of a refusal.
+impl From<Refusal> for u8 {
+    ghost use Rattle.std.specs.Prelude.{◌≡◌};
+    ghost use Rattle.model.specs.Replies.{code_of};
+
+    ghost from_gives = { λ r code. code ≡ code_of r };
+
+    fn from(r: Refusal) -> u8 {
+        match r {
+            Refusal::BadGroup => 1,
+            Refusal::BadAccounts => 2,
+            Refusal::SumTooLarge => 3,
+            Refusal::UnknownSeat => 4,
+            Refusal::OutOfRange => 5,
+            Refusal::PastNumber => 6,
+            Refusal::FutureNumber => 7,
+            Refusal::AlreadyAccepted => 8,
+            Refusal::AckRepeated => 9,
+            Refusal::AckConflicting => 10,
+            Refusal::InsufficientFunds => 11,
+            Refusal::AlreadyAcked => 12,
+            Refusal::BadHeader => 13,
+            Refusal::BadContents => 14,
+            Refusal::BadEnd => 15,
+            Refusal::BadSum => 16,
+            Refusal::ShortBuffer => 17,
+            Refusal::TooManyMessages => 18,
+            Refusal::NoRoom => 19,
+            Refusal::SelfPayment => 20,
+            Refusal::PagesDiffer => 21,
+        }
+    }
+}
+
 // What a message asks for.
 #[derive(Clone, Copy)]
 pub enum Message {
@@ -90,18 +117,24 @@ pub enum Reply {
     Refuse(Refusal),
 }
 
-// What an opening is answered.
-#[derive(Clone, Copy)]
-pub enum OpenReply {
-    Opened,
-    OpenRefused(Refusal),
-}
+impl Reply {
+    ghost use Rattle.std.specs.Prelude.{◌≡◌};
+    ghost use Rattle.model.specs.Replies.{letter_of};
 
-// What the waiting list is answered: how many accounts were written.
-#[derive(Clone, Copy)]
-pub enum ListReply {
-    Listed(u32),
-    ListRefused(Refusal),
+    // Document 01's letter.
+    pub fn letter(self) -> u8
+        ensures { result ≡ letter_of self }
+    {
+        match self {
+            Reply::Circulate => b'C',
+            Reply::Acknowledge => b'A',
+            Reply::Accept(_) => b'K',
+            Reply::Propose(_) => b'P',
+            Reply::Note => b'N',
+            Reply::Balance(_) => b'B',
+            Reply::Refuse(_) => b'R',
+        }
+    }
 }
 
 // One entry of a bundle's contents.
@@ -113,18 +146,11 @@ pub struct ContentsEntry {
     pub sum: u32,
 }
 
-// What the check of a bundle is answered: how many entries it has, or the refusal and the entry.
+// A refusal of a bundle, and the entry at fault (0 where it is no entry's).
 #[derive(Clone, Copy)]
-pub enum BundleReply {
-    Sound(u16),
-    BundleRefused(Refusal, u16),
-}
-
-// What the writer of bundles is answered: the bundle's length, or the refusal and the entry (0 where it is no entry's).
-#[derive(Clone, Copy)]
-pub enum WriteReply {
-    Written(u32),
-    WriteRefused(Refusal, u16),
+pub struct BundleError {
+    pub refusal: Refusal,
+    pub entry: u16,
 }
 
 // Which of two bundles.
@@ -135,12 +161,36 @@ pub enum Which {
     Neither,
 }
 
-// What the evidence join is answered: the seat that acked two transfers, the entry of its ack in the first bundle and
-// in the second, and which bundle's body is shown; or that there is no such pair; or the refusal, which bundle it is
-// of, and the entry (0 where it is no entry's).
+// Its number: 1, 2, or 0 for neither.
+impl From<Which> for u8 {
+    ghost use Rattle.std.specs.Prelude.{◌≡◌};
+    ghost use Rattle.model.specs.Replies.{number_of_which};
+
+    ghost from_gives = { λ which number. number ≡ number_of_which which };
+
+    fn from(which: Which) -> u8 {
+        match which {
+            Which::First => 1,
+            Which::Second => 2,
+            Which::Neither => 0,
+        }
+    }
+}
+
+// A pair that the evidence join finds: the seat that acked two transfers, the entry of its ack in the first bundle and
+// in the second, and which bundle's body is shown.
 #[derive(Clone, Copy)]
-pub enum Evidence {
-    FoundPair(Seat, u16, u16, Which),
-    NoPair,
-    JoinRefused(Refusal, Which, u16),
+pub struct FoundPair {
+    pub seat: Seat,
+    pub first: u16,
+    pub second: u16,
+    pub shown: Which,
+}
+
+// A refusal of the join, which bundle it is of, and the entry at fault (0 where it is no entry's).
+#[derive(Clone, Copy)]
+pub struct JoinError {
+    pub refusal: Refusal,
+    pub bundle: Which,
+    pub entry: u16,
 }

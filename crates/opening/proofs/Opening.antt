@@ -1,10 +1,10 @@
 -- What the functions of an opening share: the typing of its 32 balances, and what an opening promises where it
 -- is refused and where it is not.
+use Rattle.std.specs.Prelude.{Some, None, Ok, Err}
 use Prim.Native.Nat.{ℕ, ◌*◌, ◌≤◌}
 use native.Mathlib.Omega.{arith}
 use mathlib.Core.Path.{◌≡◌, refl, sym, ◌∙◌}
 use mathlib.Core.List.{List, [], ◌∷◌}
-use mathlib.Core.Option.{none, some}
 use lib.ListN.{length}
 use mir.Syntax.{w32}
 use mir.Val.{Val}
@@ -14,7 +14,6 @@ use denote.Shadow.{shadow}
 use denote.Array.{Array, each}
 use Rattle.model.specs.declared.Opening.{Opening}
 use Rattle.model.specs.declared.Refusal.{Refusal}
-use Rattle.model.specs.declared.OpenReply.TheVariants.{Opened, OpenRefused}
 use Rattle.model.specs.Basics.{sum_of}
 use Rattle.model.specs.Refusals.{first_refusal}
 use Rattle.model.specs.Records.{fresh_ledger}
@@ -39,15 +38,15 @@ module _ (xs : List ℕ) (vs : List Val) (good : Is (Array (UInt w32) 32) xs vs)
   balances_sum = omega (arith, balances_length, sum_each xs good.0 good.1.1)
 
 -- a page that no rule refuses opens
-pub unrefused : (o : Opening) → first_refusal (open_rules o) ≡ none → open_reply o ≡ Opened
+pub unrefused : (o : Opening) → first_refusal (open_rules o) ≡ None → open_reply o ≡ Ok tt
 unfolding open_reply
 unrefused o e = rw e
 
 -- the two openings: refused, where no word is stored, and opened, where the words are the page's ledger
-pub refuses : (before : List ℕ) (o : Opening) (q : Refusal) → first_refusal (open_rules o) ≡ some q → Opens before o (OpenRefused q) before
+pub refuses : (before : List ℕ) (o : Opening) (q : Refusal) → first_refusal (open_rules o) ≡ Some q → Opens before o (Err q) before
 unfolding open_reply open_ledger
 refuses before o q e = record { reply = rw e; ledger = rw e; kept = λ code same. refl }
 
-pub opens : (before after : List ℕ) (o : Opening) → open_reply o ≡ Opened → ledger_in after ≡ fresh_ledger o → Opens before o Opened after
+pub opens : (before after : List ℕ) (o : Opening) → open_reply o ≡ Ok tt → ledger_in after ≡ fresh_ledger o → Opens before o Opened after
 opens before after o e fresh =
     record { reply = sym e; ledger = fresh ∙ sym (opened_fresh o e (ledger_in before)); kept = λ code same. impossible (cc) }

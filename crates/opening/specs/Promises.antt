@@ -1,9 +1,8 @@
 -- What an opening promises, by the model's definitions.
-use Rattle.std.specs.Prelude.{ℕ, ◌≤◌, ◌≡◌, List, map}
+use Rattle.std.specs.Prelude.{ℕ, ◌≤◌, ◌≡◌, List, map, Err}
 use Rattle.model.specs.declared.Opening.{Opening}
 use Rattle.model.specs.declared.Refusal.{Refusal}
-use Rattle.model.specs.declared.OpenReply.{OpenReply}
-use Rattle.model.specs.declared.OpenReply.TheVariants.{OpenRefused}
+use Rattle.model.specs.Types.{OpenReply}
 use Rattle.model.specs.Basics.{sum_of}
 use Rattle.model.specs.Records.{fresh_entry, fresh_ledger, with_entries}
 use Rattle.model.specs.Openings.{open_reply, open_ledger}
@@ -23,4 +22,4 @@ pub record FreshLedger (page : Opening) (total : ℕ) (after : List ℕ) : Type 
 pub record Opens (before : List ℕ) (page : Opening) (r : OpenReply) (after : List ℕ) : Type 0 where
   pub reply : r ≡ open_reply page
   pub ledger : ledger_in after ≡ open_ledger page (ledger_in before)
-  pub kept : (code : Refusal) → r ≡ OpenRefused code → after ≡ before
+  pub kept : (code : Refusal) → r ≡ Err code → after ≡ before

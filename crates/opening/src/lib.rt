@@ -8,7 +8,7 @@ ghost use Rattle.model.specs.Records.{fresh_entry, with_entry};
 ghost use Rattle.model.specs.Refusals.{first_refusal};
 ghost use Rattle.model.specs.Openings.{bad_group, bad_accounts, open_rules};
 ghost use Rattle.layout.specs.Layout.{book_words, ledger_in};
-ghost use Rattle.basics.specs.Results.{check_of};
+ghost use Rattle.model.specs.Refusals.{check_of};
 ghost use Rattle.opening.specs.Promises.{FreshEntries, FreshLedger, Opens};
 
 use basics::results::Check;

@@ -1,10 +1,11 @@
 -- The partner of an entry of the first bundle, found by the second's keys, and the earliest pair.
+use Rattle.model.specs.Types.{no_pair}
+use Rattle.std.specs.Prelude.{Option, Some, None}
 use Prim.Native.Nat.{ℕ, ◌≤◌, ◌<◌}
 use native.Mathlib.Omega.{arith}
 use mathlib.Core.Path.{◌≡◌, refl, ap, sym, ◌∙◌}
 use mathlib.Core.Bool.{Bool, true, false, ◌&&◌, and-false}
 use mathlib.Core.List.{List}
-use mathlib.Core.Option.{Option, none, some}
 use lib.Dec.{ltb, eqb}
 use borrow.Author.Tests.{lt-ltb, le-ltb, eq-eqb, ne_eqb}
 use Rattle.model.specs.declared.Transfer.{Transfer}
@@ -15,8 +16,7 @@ use Rattle.model.specs.Transfers.{conflict}
 use Rattle.model.specs.Writing.{Bytes}
 use Rattle.model.specs.Joins.{is_ack, slip_on, conflicting_acks, seats_of, is_pair, partner_of, earliest, with_partner, earliest_pair}
 use Rattle.laws.proofs.Sums.{impossible, same_found, none_passes}
-use Rattle.pairs.specs.Keys.{head_of, tail_of, Keys, meets, pair_search_of}
-use Rattle.pairs.specs.declared.PairSearch.TheVariants.{PairAt, NoneFound}
+use Rattle.pairs.specs.Keys.{head_of, tail_of, Keys, meets}
 use Rattle.pairs.proofs.Keying.{page_small, tells}
 
 -- a page that is no ack, or of a seat that there is not, is in no pair
@@ -29,7 +29,7 @@ no_pair n p q e = go (is_ack p) (is_ack q) (eqb p.seat q.seat) (ltb p.seat n) (c
     go false b s l x h = refl
 
 module _ (first second : List ℕ) (i : ℕ) where
-  no_partner : (is_ack (page_at first i) && ltb (page_at first i).seat (seats_of first)) ≡ false → partner_of first second i ≡ none
+  no_partner : (is_ack (page_at first i) && ltb (page_at first i).seat (seats_of first)) ≡ false → partner_of first second i ≡ None
   unfolding partner_of is_pair
   no_partner e =
       same_found _ (λ k. false) (entry_count second) 0 (λ k from below. no_pair (seats_of first) (page_at first i) (page_at second k) e)
@@ -46,14 +46,14 @@ module _ (first second : List ℕ) (i : ℕ) where
     pub is_ack_lem : c.kind ≡ 3 → is_ack (page_at first i) ≡ true
     is_ack_lem h = eq-eqb (contents_at first i).kind 3 (kind_is ∙ h)
 
-    pub not_ack : (c.kind ≡ 3 → ⊥) → partner_of first second i ≡ none
+    pub not_ack : (c.kind ≡ 3 → ⊥) → partner_of first second i ≡ None
     not_ack h = no_partner (rw (ne_eqb (contents_at first i).kind 3 (λ e. h (sym kind_is ∙ e))) refl)
 
     module _ (n : ℕ) (seats : n ≡ seats_of first) where
       pub is_seat : c.seat < n → ltb (page_at first i).seat (seats_of first) ≡ true
       is_seat h = lt-ltb (contents_at first i).seat (seats_of first) (omega (arith, h, seat_is, seats))
 
-      pub not_seat : n ≤ c.seat → partner_of first second i ≡ none
+      pub not_seat : n ≤ c.seat → partner_of first second i ≡ None
       not_seat h = no_partner (rw (le-ltb (contents_at first i).seat (seats_of first) (omega (arith, h, seat_is, seats))) (and-false (is_ack (page_at first i))))
 
   -- an ack's partner is the first that has its head and another tail
@@ -74,20 +74,20 @@ module _ (first second : List ℕ) (i : ℕ) where
     partner_found c t head tail m entry slip heads tails count = rw (heads, tails, count, slip, entry) by_keys
 
   -- the earliest pair, where entry i is the first that has a partner
-  pub pair_at : {j : ℕ} → earliest first second ≡ some i → partner_of first second i ≡ some j → earliest_pair first second ≡ some (i, j)
+  pub pair_at : {j : ℕ} → earliest first second ≡ Some i → partner_of first second i ≡ Some j → earliest_pair first second ≡ Some (i, j)
   unfolding earliest_pair
   pair_at e f = ap (with_partner first second) e ∙ rw (with_partner, f) refl
 
 -- and where there is none
-pub none_at : (first second : List ℕ) → earliest first second ≡ none → earliest_pair first second ≡ none
+pub none_at : (first second : List ℕ) → earliest first second ≡ None → earliest_pair first second ≡ None
 unfolding earliest_pair
 none_at first second e = ap (with_partner first second) e
 
 -- what a search for a pair answers
-pub pair_is : (o : Option (ℕ × ℕ)) {i j : ℕ} → pair_search_of o ≡ PairAt i j → o ≡ some (i, j)
-pair_is none e = impossible (cc)
-pair_is (some (a, b)) e = cc
+pub pair_is : (o : Option (ℕ × ℕ)) {i j : ℕ} → pair_search_of o ≡ PairAt i j → o ≡ Some (i, j)
+pair_is None e = impossible (cc)
+pair_is (Some (a, b)) e = cc
 
-pub pair_none : (o : Option (ℕ × ℕ)) → pair_search_of o ≡ NoneFound → o ≡ none
-pair_none none e = refl
-pair_none (some (a, b)) e = impossible (cc)
+pub pair_none : (o : Option (ℕ × ℕ)) → pair_search_of o ≡ NoneFound → o ≡ None
+pair_none None e = refl
+pair_none (Some (a, b)) e = impossible (cc)

@@ -1,12 +1,9 @@
 -- An ack as two numbers, so that a pair is told by comparing these: with equal heads its two acks have one seat,
 -- account and number; with different tails their slips differ.
-use Rattle.std.specs.Prelude.{ℕ, ◌+◌, ◌*◌, ◌<◌, ◌≤◌, ◌≡◌, Bool, cond, not, ◌&&◌, List, eqb, length, get_or}
-use Rattle.std.proofs.Math.Option.{Option, none, some}
+use Rattle.std.specs.Prelude.{ℕ, ◌+◌, ◌*◌, ◌<◌, ◌≤◌, ◌≡◌, Bool, cond, not, ◌&&◌, List, eqb, length, get_or, Option, Some, None}
 use Rattle.model.specs.declared.Transfer.{Transfer}
 use Rattle.model.specs.Bundles.{entry_count, Page, page_at}
 use Rattle.model.specs.Joins.{is_ack, slip_on}
-use Rattle.pairs.specs.declared.PairSearch.{PairSearch}
-use Rattle.pairs.specs.declared.PairSearch.TheVariants.{PairAt, NoneFound}
 
 -- the seat (1 byte), account (1) and number (4)
 abbrev pub head_of : ℕ → Transfer → ℕ
@@ -40,5 +37,5 @@ meets keys head tail j = eqb (get_or keys j 0) head && not (eqb (get_or keys (1_
 
 -- what a search for a pair finds
 abbrev pub pair_search_of : Option (ℕ × ℕ) → PairSearch
-pair_search_of none = NoneFound
-pair_search_of (some (i, j)) = PairAt i j
+pair_search_of None = NoneFound
+pair_search_of (Some (i, j)) = PairAt i j

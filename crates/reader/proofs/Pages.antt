@@ -8,7 +8,6 @@ use lib.Dec.{ltb}
 use borrow.Author.Tests.{lt-ltb, ltb-true, ltb-false}
 use Rattle.model.specs.Bundles.{entry_count, contents_at, page_at}
 use Rattle.bundle.specs.declared.Read.{Read}
-use Rattle.bundle.specs.declared.Read.TheVariants.{Taken, NoMore}
 use Rattle.bundle.specs.Promises.{read_of, ReadAs}
 use Rattle.bundle.proofs.Reading.{reads_page, reads_none}
 use Rattle.reader.specs.Promises.{next_of, place_after, last_body, opening_body}

@@ -2,7 +2,6 @@
 use Rattle.std.specs.Prelude.{ℕ, zero, suc, cond, List, [], ltb}
 use Rattle.model.specs.Bundles.{entry_count, page_at}
 use Rattle.bundle.specs.declared.Read.{Read}
-use Rattle.bundle.specs.declared.Read.TheVariants.{Taken, NoMore}
 use Rattle.bundle.specs.Promises.{read_of}
 use Rattle.reader.specs.declared.Reader.{Reader}
 

@@ -4,8 +4,7 @@ use Prim.Native.Nat.{ℕ, ◌<◌}
 use mathlib.Core.Path.{◌≡◌, refl, ap, sym, ◌∙◌}
 use mathlib.Core.List.{List}
 use lib.ListN.{length, take}
-use Rattle.model.specs.declared.BundleReply.{BundleReply}
-use Rattle.model.specs.declared.BundleReply.TheVariants.{Sound, BundleRefused}
+use Rattle.model.specs.Types.{BundleReply, refused_at}
 use Rattle.model.specs.Bundles.{check_bundle}
 use Rattle.bundle.proofs.Longest.{front, read_front}
 use Rattle.bundle.specs.Promises.{longest}
@@ -17,7 +16,7 @@ same_text n large bytes = rw (front bytes n large) (go (check_bundle bytes) refl
   where
     go : (r : BundleReply) → check_bundle bytes ≡ r → checked_text (take n bytes) r ≡ checked_text bytes r
     go (Sound m) e = rw (read_front bytes n m large e)
-    go (BundleRefused q i) e = refl
+    go (refused_at q i) e = refl
 
 -- so the text of what was read into a buffer of more bytes than the longest bundle has is that of the input
 pub text_of_input : (input : List ℕ) (read n : ℕ) {before after : List ℕ} {r : ℕ} → longest < length input → take n input ≡ take read input

@@ -1,11 +1,11 @@
 -- What the loop over the entries knows at each turn: the lines that are written, followed by those of the entries that
 -- are left, are the lines of all of them.
+use Rattle.std.specs.Prelude.{Option, Some, None}
 use Prim.Native.Nat.{ℕ, suc, ◌+◌, ◌*◌, ◌-◌, ◌≤◌, ◌<◌}
 use native.Mathlib.Numerals.{add-one}
 use native.Mathlib.Omega.{arith}
 use mathlib.Core.Path.{◌≡◌, refl, sym, subst, ◌∙◌}
 use mathlib.Core.List.{List, [], ◌++◌, append_assoc, append-nil}
-use mathlib.Core.Option.{Option, none, some}
 use lib.ListN.{length}
 use Rattle.model.specs.Types.{Ledger}
 use Rattle.model.specs.declared.Message.{Message}
@@ -27,10 +27,10 @@ pub record PlayedEntry (i : ℕ) (l : Ledger) (asked : Option Message) (before :
 
 -- what one entry does: nothing without a message; else the line of the reply and the ledger that the call leaves
 module _ {i : ℕ} {l : Ledger} {asked : Option Message} {before : List ℕ} {at : ℕ} where
-  pub entry_none : asked ≡ none → PlayedEntry i l asked before at before at l
+  pub entry_none : asked ≡ None → PlayedEntry i l asked before at before at l
   entry_none e = rw e (record { writes = nothing; ledger_after_lem = refl })
 
-  pub entry_some : {m : Message} {r : Reply} {next : Ledger} {after : List ℕ} {filled : ℕ} → asked ≡ some m → r ≡ (step l m).reply → next ≡ (step l m).next
+  pub entry_some : {m : Message} {r : Reply} {next : Ledger} {after : List ℕ} {filled : ℕ} → asked ≡ Some m → r ≡ (step l m).reply → next ≡ (step l m).next
       → Writes before at (reply_line i r) (length (decimal i) + 33) after filled → PlayedEntry i l asked before at after filled next
   entry_some e reply ledger w = rw e (record { writes = rw reply at w; ledger_after_lem = ledger })
 

@@ -1,4 +1,5 @@
 -- The whole text, put together: of the bundle's entries, of a refused opening, of a refused bundle.
+use Rattle.std.specs.Prelude.{Ok, Err}
 use Prim.Native.Nat.{ℕ, ◌-◌, ◌≤◌}
 use native.Mathlib.Omega.{arith}
 use mathlib.Core.Path.{◌≡◌}
@@ -6,9 +7,7 @@ use mathlib.Core.List.{List}
 use lib.ListN.{length, take, drop, length-append}
 use lib.Seq.{take-append_seam}
 use Rattle.model.specs.declared.Refusal.{Refusal}
-use Rattle.model.specs.declared.OpenReply.{OpenReply}
-use Rattle.model.specs.declared.OpenReply.TheVariants.{Opened, OpenRefused}
-use Rattle.model.specs.declared.BundleReply.TheVariants.{Sound, BundleRefused}
+use Rattle.model.specs.Types.{OpenReply, refused_at}
 use Rattle.model.specs.Bundles.{entry_count, check_bundle}
 use Rattle.model.specs.Replies.{code_of}
 use Rattle.basics.specs.Outputs.{Writes}
@@ -28,23 +27,23 @@ module _ (bytes : List ℕ) {before : List ℕ} where
 
   module _ {after : List ℕ} {r : ℕ} where
     -- the answer of the opening page decides what follows
-    pub wrote_opened : (words held : List ℕ) (a : OpenReply) → Opens words (opening_page bytes) a held → a ≡ Opened
+    pub wrote_opened : (words held : List ℕ) (a : OpenReply) → Opens words (opening_page bytes) a held → a ≡ Ok tt
         → Wrote (played_text bytes (entry_count bytes - 1) (ledger_in held)) before after r
         → Wrote (checked_text bytes (Sound (entry_count bytes))) before after r
     wrote_opened words held a answer opens w =
         rw (← answer.reply, opens) (rw (fresh_words words held (opening_page bytes) a answer opens) at w)
 
-    pub wrote_not_opened : (words held : List ℕ) (a : OpenReply) (q : Refusal) → Opens words (opening_page bytes) a held → a ≡ OpenRefused q
+    pub wrote_not_opened : (words held : List ℕ) (a : OpenReply) (q : Refusal) → Opens words (opening_page bytes) a held → a ≡ Err q
         → Writes before 0 (refusal_line (code_of q) 0) 24 after r
         → Wrote (checked_text bytes (Sound (entry_count bytes))) before after r
     wrote_not_opened words held a q answer refused w = rw (← answer.reply, refused) (within (omega arith) w)
 
     -- and so does that of the check
-    pub wrote_sound : {m : ℕ} → check_bundle bytes ≡ Sound m → m ≡ entry_count bytes
+    pub wrote_sound : {m : ℕ} → check_bundle bytes ≡ Ok m → m ≡ entry_count bytes
         → Wrote (checked_text bytes (Sound (entry_count bytes))) before after r → Wrote (text_of bytes) before after r
     wrote_sound sound same w = rw (sound, same) w
 
-    pub wrote_refused : (q : Refusal) (i : ℕ) → check_bundle bytes ≡ BundleRefused q i
+    pub wrote_refused : (q : Refusal) (i : ℕ) → check_bundle bytes ≡ refused_at q i
         → Writes before 0 (refusal_line (code_of q) i) 24 after r → Wrote (text_of bytes) before after r
     wrote_refused q i refused w = rw refused (within (omega arith) w)
 

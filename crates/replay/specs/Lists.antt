@@ -1,13 +1,10 @@
 -- The waiting list of the ledger that a bundle leaves. No bundle asks for it; a host may, behind the last entry.
-use Rattle.std.specs.Prelude.{ℕ, ◌-◌, List}
-use Rattle.std.proofs.Math.Option.{Option, some}
-use Rattle.model.specs.Types.{Ledger}
+use Rattle.std.specs.Prelude.{ℕ, ◌-◌, List, Option, Some, Err}
+use Rattle.model.specs.Types.{Ledger, refused_at}
 use Rattle.model.specs.declared.Refusal.{Refusal}
-use Rattle.model.specs.declared.ListReply.{ListReply}
-use Rattle.model.specs.declared.OpenReply.{OpenReply}
-use Rattle.model.specs.declared.OpenReply.TheVariants.{Opened, OpenRefused}
-use Rattle.model.specs.declared.BundleReply.{BundleReply}
-use Rattle.model.specs.declared.BundleReply.TheVariants.{Sound, BundleRefused}
+use Rattle.model.specs.Types.{ListReply}
+use Rattle.model.specs.Types.{OpenReply}
+use Rattle.model.specs.Types.{BundleReply}
 use Rattle.model.specs.Records.{fresh_ledger}
 use Rattle.model.specs.Refusals.{list_refusal}
 use Rattle.model.specs.Bundles.{entry_count, check_bundle}
@@ -25,11 +22,11 @@ accounts_behind bytes = accounts_from bytes (fresh_ledger (opening_page bytes))
 
 -- the refusal of an opening; and of a bundle; where there is none, one that is tried later
 abbrev pub opening_refusal_or : Option Refusal → OpenReply → Option Refusal
-opening_refusal_or later (OpenRefused r) = some r
+opening_refusal_or later (Err r) = Some r
 opening_refusal_or later Opened = later
 
 abbrev pub bundle_refusal_or : Option Refusal → BundleReply → Option Refusal
-bundle_refusal_or later (BundleRefused r i) = some r
+bundle_refusal_or later (refused_at r i) = Some r
 bundle_refusal_or later (Sound m) = later
 
 -- the refusal that the list behind a sound bundle meets: its opening's, else 17; and behind any

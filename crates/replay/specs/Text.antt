@@ -1,13 +1,10 @@
 -- Document 01, "The program `daybook`": the whole text that it writes for a bundle, as a list of bytes.
-use Rattle.std.specs.Prelude.{ℕ, zero, suc, ◌-◌, List, [], ◌∷◌, ◌++◌}
-use Rattle.std.proofs.Math.Option.{Option, none, some}
-use Rattle.model.specs.Types.{Entry, Ledger}
+use Rattle.std.specs.Prelude.{ℕ, zero, suc, ◌-◌, List, [], ◌∷◌, ◌++◌, Option, Some, None, Err}
+use Rattle.model.specs.Types.{Entry, Ledger, refused_at}
 use Rattle.model.specs.declared.Message.{Message}
 use Rattle.model.specs.declared.Opening.{Opening}
-use Rattle.model.specs.declared.OpenReply.{OpenReply}
-use Rattle.model.specs.declared.OpenReply.TheVariants.{Opened, OpenRefused}
-use Rattle.model.specs.declared.BundleReply.{BundleReply}
-use Rattle.model.specs.declared.BundleReply.TheVariants.{Sound, BundleRefused}
+use Rattle.model.specs.Types.{OpenReply}
+use Rattle.model.specs.Types.{BundleReply}
 use Rattle.model.specs.Records.{account_of, entry_of, fresh_ledger}
 use Rattle.model.specs.Replies.{code_of}
 use Rattle.model.specs.Openings.{open_reply}
@@ -19,13 +16,13 @@ use Rattle.text.specs.Lines.{refusal_line, reply_line, account_line}
 -- "one line per entry from 1: entry, reply letter, and what it carries". A page with no message, which no sound bundle
 -- has behind page 0, adds nothing.
 abbrev pub entry_line : ℕ → Ledger → Option Message → List ℕ
-entry_line i l none = []
-entry_line i l (some m) = reply_line i (step l m).reply
+entry_line i l None = []
+entry_line i l (Some m) = reply_line i (step l m).reply
 
 -- the ledger after the entry
 abbrev pub ledger_after : Ledger → Option Message → Ledger
-ledger_after l none = l
-ledger_after l (some m) = (step l m).next
+ledger_after l None = l
+ledger_after l (Some m) = (step l m).next
 
 -- the ledger after the `left` entries from i on
 abbrev pub ledger_from : List ℕ → ℕ → ℕ → Ledger → Ledger
@@ -74,12 +71,12 @@ opened bytes = open_reply (opening_page bytes)
 -- the text of an opening's answer. "`F code entry` for a bundle or opening that is refused
 -- (entry 0 for codes 1, 2, 3 ..)"
 abbrev pub opened_text : List ℕ → ℕ → OpenReply → List ℕ
-opened_text bytes m (OpenRefused r) = refusal_line (code_of r) 0
+opened_text bytes m (Err r) = refusal_line (code_of r) 0
 opened_text bytes m Opened = played_text bytes (m - 1) (fresh_ledger (opening_page bytes))
 
 -- the text of the check's answer: nothing is opened before the whole bundle is checked
 abbrev pub checked_text : List ℕ → BundleReply → List ℕ
-checked_text bytes (BundleRefused r i) = refusal_line (code_of r) i
+checked_text bytes (refused_at r i) = refusal_line (code_of r) i
 checked_text bytes (Sound m) = opened_text bytes m (opened bytes)
 
 -- what `daybook` writes for these bytes

@@ -1,5 +1,6 @@
 -- The waiting list in a run: the one with the lowest account first is one of those that may be; their
 -- order is free, and nothing else.
+use Rattle.std.specs.Prelude.{Ok}
 use Prim.Native.Nat.{ℕ, zero, suc, ◌+◌, ◌≤◌, ◌<◌}
 use native.Mathlib.Nat.{le_of_suc-le-suc, not-suc-le-zero}
 use native.Mathlib.Omega.{arith}
@@ -9,7 +10,6 @@ use mathlib.Core.List.{List, [], ◌∷◌, ◌++◌}
 use lib.Dec.{eqb, eqb-zero-suc, eqb-suc-zero, eqb-suc-suc}
 use lib.ListN.{length}
 use borrow.Author.Tests.{eq-eqb}
-use Rattle.model.specs.declared.ListReply.TheVariants.{Listed}
 use Rattle.model.specs.Basics.{bit, count, Rising}
 use Rattle.model.specs.Refusals.{list_refusal}
 use Rattle.model.specs.Settling.{waiting}
@@ -95,7 +95,7 @@ module _ (l : Ledger) where
       waits false some = absurd (not-suc-le-zero some)
 
   -- and the reply is how many slips wait.
-  pub any_number : (before : List ℕ) (n : ℕ) (after : List ℕ) → MayList l before (Listed n) after → n ≡ waiting l.entries
+  pub any_number : (before : List ℕ) (n : ℕ) (after : List ℕ) → MayList l before (Ok n) after → n ≡ waiting l.entries
   any_number before n after (accounts, h, lists) =
       let many = same_length accounts (waiting_accounts l) (length l.entries) inside (λ a. h a ∙ sym (waiting_once l a)) in
       list_number (list_refusal before) accounts before after n lists ∙ many ∙ waiting_number l

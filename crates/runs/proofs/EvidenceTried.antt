@@ -1,13 +1,14 @@
 -- The statement on evidence, tried: a run with a bad seat that is found, and one ack that no call of the run backs, by
 -- which an honest seat is. All is computed.
+use Rattle.model.specs.Types.{found_pair}
+use Rattle.std.specs.Prelude.{None}
 use Prim.Native.Nat.{ℕ}
 use native.Mathlib.Omega.{arith}
 use mathlib.Core.Path.{◌≡◌, refl}
 use mathlib.Core.Bool.{Bool, true, false, not, ◌&&◌}
 use mathlib.Core.List.{List, [], ◌∷◌}
-use mathlib.Core.Option.{none}
 use lib.Dec.{lit<}
-use Rattle.laws.specs.Types.{Seat, Transfer, Opening, Which, First, FoundPair}
+use Rattle.laws.specs.Types.{Seat, Transfer, Opening, Which, First}
 use Rattle.runs.specs.Runs.{Opens, honest, Run, ◌▹◌, rules_at, ledger_at, Obeys}
 use Rattle.runs.specs.Premises.{implies, acked_by}
 use Rattle.runs.specs.Evidence.{Genuine, BothGenuine, HonestNeverFound}
@@ -48,7 +49,7 @@ module _ (bytes : List ℕ) where
   backed i =
       implies (is_ack (page_at bytes i) && honest page bad (seat_on (page_at bytes i))) (acked_by (seat_on (page_at bytes i)) (slip_on (page_at bytes i)) three_acked)
 
-  none_forged : first_where (λ i. not (backed i)) (entry_count bytes) 0 ≡ none → Genuine page bad three_acked bytes
+  none_forged : first_where (λ i. not (backed i)) (entry_count bytes) 0 ≡ None → Genuine page bad three_acked bytes
   none_forged e i below ack fair =
       let holds = is_so (backed i) (first_none (λ k. not (backed k)) (entry_count bytes) 0 e i (omega arith) (omega (arith, below))) in
       rw (ack, fair) at holds
@@ -63,17 +64,17 @@ unfolding written equal
 both_genuine = record { in_first = one_genuine; in_second = none_forged bundle_other refl }
 
 -- and the bad seat is found.
-pub bad_found : (evidence bundle_one bundle_other unruled ≡ FoundPair (seat_of 5) 2 4 First) × (honest page bad (seat_of 5) ≡ false)
+pub bad_found : (evidence bundle_one bundle_other unruled ≡ found_pair (seat_of 5) 2 4 First) × (honest page bad (seat_of 5) ≡ false)
 unfolding written equal conflict is_pair partner_of earliest_pair evidence
 bad_found = (refl, refl)
 
 -- By a forged ack of an honest seat in one of the bundles alone that seat is found, in the second
-pub honest_found : (evidence bundle_one forged unruled ≡ FoundPair (seat_of 0) 1 2 First) × (honest page bad (seat_of 0) ≡ true)
+pub honest_found : (evidence bundle_one forged unruled ≡ found_pair (seat_of 0) 1 2 First) × (honest page bad (seat_of 0) ≡ true)
 unfolding written equal conflict is_pair partner_of earliest_pair evidence
 honest_found = (refl, refl)
 
 -- .. or in the first;
-pub honest_found_first : evidence forged bundle_one unruled ≡ FoundPair (seat_of 0) 2 1 First
+pub honest_found_first : evidence forged bundle_one unruled ≡ found_pair (seat_of 0) 2 1 First
 unfolding written equal conflict is_pair partner_of earliest_pair evidence
 honest_found_first = refl
 
@@ -94,7 +95,7 @@ evidence_says claim genuine =
 -- .. and with less of a premise it would be false: with the acks of the first bundle alone, and so with none.
 pub both_needed :
     ((o : Opening) (bad : Seat → Bool) (run : Run) (first second : List ℕ) (ruled : Transfer) (seat : Seat) (i j : ℕ) (shown : Which)
-    → Opens o → Obeys o run → Genuine o bad run first → evidence first second ruled ≡ FoundPair seat i j shown → honest o bad seat ≡ false)
+    → Opens o → Obeys o run → Genuine o bad run first → evidence first second ruled ≡ found_pair seat i j shown → honest o bad seat ≡ false)
     → ⊥
 both_needed claim =
     let apart = claim page bad three_acked bundle_one forged unruled (seat_of 0) 1 2 First witness_keeps.0 three_obey one_genuine honest_found.0 in

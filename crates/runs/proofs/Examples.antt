@@ -1,12 +1,12 @@
 -- The statement of demand 3, tried on runs. One run keeps all premises and has in it what they are about, so the
 -- statement is not empty. Other runs lack one premise each, and two accepted slips conflict in them, so each premise is
 -- needed. Further runs show what the premises leave free, and what slates say. All is computed.
+use Rattle.std.specs.Prelude.{Some, Ok, Err}
 use Prim.Native.Nat.{ℕ, zero, suc, ◌≤◌}
 use native.Mathlib.Omega.{arith}
 use mathlib.Core.Path.{◌≡◌, refl}
 use mathlib.Core.Bool.{Bool, true, false, not, ◌&&◌, ◌||◌, false≢true}
 use mathlib.Core.List.{List, [], ◌∷◌}
-use mathlib.Core.Option.{some}
 use lib.Dec.{eqb, lit≤}
 use lib.ListN.{replicate}
 use Rattle.laws.specs.Types.{Seat, Transfer, Opening, Message, Request, Circulated, Ack, Decision, Inquiry, Reply, Circulate, Acknowledge, Accept, Propose, Note, Balance, Refuse}
@@ -15,8 +15,7 @@ use Rattle.runs.specs.Premises.{Premises, genuine, rightful, proposals, some_sli
 use Rattle.runs.specs.Slates.{Slate, lowest, leave_at_most, leave_all, slate_at}
 use Rattle.runs.specs.Claims.{Claim}
 use Rattle.model.specs.declared.Refusal.TheVariants.{OutOfRange, PastNumber, AlreadyAcked, AckConflicting, ShortBuffer}
-use Rattle.model.specs.declared.ListReply.{ListReply}
-use Rattle.model.specs.declared.ListReply.TheVariants.{Listed, ListRefused}
+use Rattle.model.specs.Types.{ListReply}
 use Rattle.model.specs.Records.{seat_of, account_of, no_acks}
 use Rattle.model.specs.Transfers.{equal, conflict}
 use Rattle.model.specs.Openings.{open_reply}
@@ -123,13 +122,13 @@ waits =
 
 -- .. and its waiting list is asked for, with a buffer that is too short
 abbrev asks : Run
-asks = waits ▹ lists 4 [] (ListRefused ShortBuffer) []
+asks = waits ▹ lists 4 [] (Err ShortBuffer) []
 
 -- .. then the waiting list has v, and the ruling for t, which is late at seat 4, brings the funds
 abbrev pub witness : Run
 witness =
     asks
-    ▹ lists 4 (replicate 32 9) (Listed 1) (1 ∷ replicate 31 9)
+    ▹ lists 4 (replicate 32 9) (Ok 1) (1 ∷ replicate 31 9)
     ▹ ruling 4 t (Accept 2)
 
 pub witness_obeys : Obeys page witness
@@ -428,10 +427,10 @@ abbrev pub both_wait : Run
 both_wait = today ▹ ruling 0 (slip 0 1 11 1) (Accept 0) ▹ ruling 0 (slip 1 1 4 0) (Accept 0) ▹ ruling 1 (slip 1 1 4 0) (Accept 0) ▹ ruling 1 (slip 0 1 11 1) (Accept 0)
 
 abbrev listed_first : Run
-listed_first = both_wait ▹ lists 0 (replicate 32 9) (Listed 2) (0 ∷ 1 ∷ replicate 30 9)
+listed_first = both_wait ▹ lists 0 (replicate 32 9) (Ok 2) (0 ∷ 1 ∷ replicate 30 9)
 
 abbrev either_order : Run
-either_order = listed_first ▹ lists 1 (replicate 32 9) (Listed 2) (1 ∷ 0 ∷ replicate 30 9)
+either_order = listed_first ▹ lists 1 (replicate 32 9) (Ok 2) (1 ∷ 0 ∷ replicate 30 9)
 
 pub either_order_lem : Obeys page either_order
 unfolding rules_at ledger_at waiting_accounts no_acks equal conflict has_most most_acked lowest_affordable apply settle_at_most settle step_under
@@ -466,6 +465,6 @@ slate_facts = (refl, refl, refl, refl, refl, refl, refl, refl, refl)
 
 -- "the one with the lowest account leaves", in whichever order they came
 pub lowest_first :
-    (lowest (λ s. true) (t ∷ v ∷ []) ≡ some t)
-    × (lowest (λ s. true) (v ∷ t ∷ []) ≡ some t)
+    (lowest (λ s. true) (t ∷ v ∷ []) ≡ Some t)
+    × (lowest (λ s. true) (v ∷ t ∷ []) ≡ Some t)
 lowest_first = (refl, refl)

@@ -1,7 +1,7 @@
 -- What a test over a run found: an event that passes it, and a slip that is equal to the one looked for.
+use Rattle.std.specs.Prelude.{Option, Some, None}
 use mathlib.Core.Path.{◌≡◌, refl, ap, sym}
 use mathlib.Core.Bool.{Bool, true, false}
-use mathlib.Core.Option.{Option, none, some}
 use Rattle.laws.specs.Types.{Transfer}
 use Rattle.runs.specs.Runs.{Event, Run, start, ◌▹◌, Within, at_end, sooner, happened, passes}
 use Rattle.model.specs.Transfers.{equal}
@@ -21,6 +21,6 @@ happened_found test (r ▹ e) h = go (happened test r) refl (happened_found test
     go false yet rest = (r, e, at_end, rw yet at h)
 
 -- a slip that is equal to t is t
-pub that_slip : (t : Transfer) (x : Option Transfer) → passes (equal t) x ≡ true → x ≡ some t
-that_slip t none e = impossible (cc)
-that_slip t (some u) e = ap some (sym (equal_sound t u e))
+pub that_slip : (t : Transfer) (x : Option Transfer) → passes (equal t) x ≡ true → x ≡ Some t
+that_slip t None e = impossible (cc)
+that_slip t (Some u) e = ap Some (sym (equal_sound t u e))

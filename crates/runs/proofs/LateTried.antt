@@ -1,14 +1,14 @@
 -- Document 02, request 5, tried: runs with late P's, from a number that is booked and from one that waits, that keep
 -- the premises, and what is said of them. All is computed.
+use Rattle.std.specs.Prelude.{Some, None}
 use Prim.Native.Nat.{ℕ, ◌-◌, ◌≤◌, ◌<◌}
 use native.Mathlib.Omega.{arith}
 use mathlib.Core.Path.{◌≡◌, refl, ap}
 use mathlib.Core.Logic.{◌⊎◌}
 use mathlib.Core.Bool.{true, false, cond, not, ◌&&◌, ◌||◌}
 use mathlib.Core.List.{[], ◌∷◌}
-use mathlib.Core.Option.{some}
 use lib.Dec.{eqb, lit≤, lit<}
-use Rattle.laws.specs.Types.{Transfer, Empty, Full, Ledger, Message, Ack, Reply, Accept, Propose, Note, Refuse}
+use Rattle.laws.specs.Types.{Transfer, Slot, Ledger, Message, Ack, Reply, Accept, Propose, Note, Refuse}
 use Rattle.runs.specs.Runs.{Opens, FewBad, Run, start, ◌▹◌, at_end, sooner, happened, at_honest, rules_at, ledger_at, Obeys, proposed, ruled, passes}
 use Rattle.runs.specs.Premises.{acked_by, Premises}
 use Rattle.runs.specs.Slates.{leave_at_most, leave_all, slate_at}
@@ -178,15 +178,15 @@ mixed_has = (refl, refl, refl, refl, refl, refl)
 -- the second run seat 3, which switched when t was booked, retains nothing, nor does seat 2; and seat 4, which
 -- accepted t after its switch, has t.
 pub held :
-    ((entry_of (ledger_at page (seat_of 0) joined_in) (account_of 0)).retained ≡ Full t)
+    ((entry_of (ledger_at page (seat_of 0) joined_in) (account_of 0)).retained ≡ Some t)
     × ((entry_of (ledger_at page (seat_of 0) joined_in) (account_of 0)).retained_proposed ≡ true)
-    × ((entry_of (ledger_at page (seat_of 0) joined_in) (account_of 1)).retained ≡ Empty)
+    × ((entry_of (ledger_at page (seat_of 0) joined_in) (account_of 1)).retained ≡ None)
     × ((entry_of (ledger_at page (seat_of 4) joined_in) (account_of 0)).retained_proposed ≡ true)
-    × ((entry_of (ledger_at page (seat_of 4) joined_in) (account_of 1)).retained ≡ Full v)
-    × ((entry_of (ledger_at page (seat_of 2) mixed) (account_of 0)).retained ≡ Empty)
-    × ((entry_of (ledger_at page (seat_of 3) mixed) (account_of 0)).retained ≡ Empty)
-    × ((entry_of (ledger_at page (seat_of 4) mixed) (account_of 0)).retained ≡ Full t)
-    × ((entry_of (ledger_at page (seat_of 4) mixed) (account_of 1)).retained ≡ Full v)
+    × ((entry_of (ledger_at page (seat_of 4) joined_in) (account_of 1)).retained ≡ Some v)
+    × ((entry_of (ledger_at page (seat_of 2) mixed) (account_of 0)).retained ≡ None)
+    × ((entry_of (ledger_at page (seat_of 3) mixed) (account_of 0)).retained ≡ None)
+    × ((entry_of (ledger_at page (seat_of 4) mixed) (account_of 0)).retained ≡ Some t)
+    × ((entry_of (ledger_at page (seat_of 4) mixed) (account_of 1)).retained ≡ Some v)
 unfolding rules_at ledger_at no_acks equal conflict has_most most_acked lowest_affordable apply settle_at_most settle step_under
 held = (refl, refl, refl, refl, refl, refl, refl, refl, refl)
 
@@ -212,8 +212,8 @@ pub late_says : Facts single later_alone
     × ((t ≡ t) × (2 ≤ 2))
     × (1 is 2 → (t ≡ t2) × (late_alone ▹ ack 0 0 t2 (Accept 1) ≡ late_alone ▹ ack 0 0 t2 (Accept 1)))
     × ((account_of 0 ≡ account_of 0) × (true ≡ true) × (2 is 2))
-    × (1 is 2 → Full t2 ≡ Full t)
-    × (2 is 2 → Full t2 ≡ Full t2)
+    × (1 is 2 → Some t2 ≡ Some t)
+    × (2 is 2 → Some t2 ≡ Some t2)
 unfolding rules_at ledger_at no_acks equal conflict has_most most_acked lowest_affordable apply settle_at_most settle step_under
 late_says f = (
   f.accepts_exactly (today ▹ ack 0 0 t (Accept 1)) (ack 0 0 u (Propose t)) (sooner (sooner at_end)),
@@ -231,7 +231,7 @@ late_says f = (
 )
 
 -- What a seat accepted under earlier rules is not retained, and that is not said of it.
-pub late_says_earlier : Facts single (as_it_was ▹ ack 0 0 t (Accept 1)) → 2 ≤ 0 → 1 is 1 → Empty ≡ Full t
+pub late_says_earlier : Facts single (as_it_was ▹ ack 0 0 t (Accept 1)) → 2 ≤ 0 → 1 is 1 → None ≡ Some t
 unfolding rules_at ledger_at no_acks equal conflict has_most most_acked lowest_affordable apply settle_at_most settle step_under
 late_says_earlier f = f.latest_retained as_it_was (as_it_was ▹ ack 0 0 t (Accept 1)) (ack 0 0 t (Accept 1)) t at_end at_end refl
 
@@ -241,11 +241,11 @@ late_says_earlier f = f.latest_retained as_it_was (as_it_was ▹ ack 0 0 t (Acce
 pub late_says_waiting :
     (Facts page before_ruling → (account_of 1 ≡ account_of 1) × (true ≡ true) × (1 is 1))
     × (Facts page before_ruling → true ≡ true)
-    × (Facts page before_ruling → 1 is 1 → Full v ≡ Full v)
-    × (Facts page at_switch → 2 ≤ 2 → Full v ≡ Full v → Full v ≡ Full v)
-    × (Facts page before_switch → 2 ≤ 0 → Full v ≡ Full v → Empty ≡ Full v)
-    × (Facts page mixed → (Empty ≡ Empty) × (false ≡ false))
-    × (Facts page joined_in → 2 < 2 → (Full t ≡ Empty) × (true ≡ false))
+    × (Facts page before_ruling → 1 is 1 → Some v ≡ Some v)
+    × (Facts page at_switch → 2 ≤ 2 → Some v ≡ Some v → Some v ≡ Some v)
+    × (Facts page before_switch → 2 ≤ 0 → Some v ≡ Some v → None ≡ Some v)
+    × (Facts page mixed → (◌≡◌ {A = Slot} None None) × (false ≡ false))
+    × (Facts page joined_in → 2 < 2 → (Some t ≡ None) × (true ≡ false))
 unfolding rules_at ledger_at no_acks equal conflict has_most most_acked lowest_affordable apply settle_at_most settle step_under
 late_says_waiting = (
   λ f. f.retained_stands before_ruling (seat_of 4) (account_of 1) v at_end refl,
@@ -262,9 +262,9 @@ late_says_waiting = (
 -- In place of what it comes: of 6 at seat 0, where t is booked, and of 8 at seat 4, where v waits; at a seat under
 -- earlier rules it does not come.
 pub in_place_says :
-    (Facts page (accepts today) → true ≡ true → (some PastNumber ≡ some PastNumber) ⊎ (some PastNumber ≡ some AlreadyAccepted))
-    × (Facts page at_switch → true ≡ true → (some AlreadyAccepted ≡ some PastNumber) ⊎ (some AlreadyAccepted ≡ some AlreadyAccepted))
-    × (Facts page mixed → false ≡ true → (some PastNumber ≡ some PastNumber) ⊎ (some PastNumber ≡ some AlreadyAccepted))
+    (Facts page (accepts today) → true ≡ true → (Some PastNumber ≡ Some PastNumber) ⊎ (Some PastNumber ≡ Some AlreadyAccepted))
+    × (Facts page at_switch → true ≡ true → (Some AlreadyAccepted ≡ Some PastNumber) ⊎ (Some AlreadyAccepted ≡ Some AlreadyAccepted))
+    × (Facts page mixed → false ≡ true → (Some PastNumber ≡ Some PastNumber) ⊎ (Some PastNumber ≡ Some AlreadyAccepted))
 unfolding rules_at ledger_at no_acks equal conflict has_most most_acked lowest_affordable apply settle_at_most settle step_under
 in_place_says = (
   λ f. f.in_place (accepts today) (seat_of 0) (Ack (seat_of 4) u) at_end,
@@ -282,7 +282,7 @@ used_up = today ▹ ack 0 0 t Note ▹ ack 0 1 u (Propose t) ▹ ruling 0 u (Acc
 pub marks_say :
     (Facts page before_ruling → false ≡ false)
     × (Facts page before_ruling → true ≡ true)
-    × (Facts page before_ruling → Full v ≡ Empty → false ≡ true)
+    × (Facts page before_ruling → Some v ≡ None → false ≡ true)
     × (Facts two_seats used_up → true ≡ true)
 unfolding rules_at ledger_at no_acks equal conflict has_most most_acked lowest_affordable apply settle_at_most settle step_under
 marks_say = (

@@ -1,5 +1,6 @@
 -- Document 02, request 3, tried: a run in which seats switch on different days keeps the premises; what is said of a
 -- mark, and of what is alike; and running an old bundle again, which is no switch. All is computed.
+use Rattle.std.specs.Prelude.{Err}
 use Prim.Native.Nat.{ℕ, ◌≤◌, ◌<◌}
 use mathlib.Core.Path.{◌≡◌, refl, ap}
 use mathlib.Core.Logic.{inl, inr}
@@ -15,7 +16,6 @@ use Rattle.runs.proofs.AnyOrder.{rising_conforms}
 use Rattle.runs.proofs.FactsTried.{single}
 use Rattle.runs.proofs.Examples.{page, t, bad, today, asked, acks, ack, ruling, ◌then◌, puts_forward, takes, slate}
 use Rattle.model.specs.declared.Refusal.TheVariants.{AlreadyAcked, ShortBuffer, SelfPayment}
-use Rattle.model.specs.declared.ListReply.TheVariants.{ListRefused}
 use Rattle.model.specs.Records.{seat_of, account_of, fresh_ledger, entry_of, no_acks}
 use Rattle.model.specs.Transfers.{equal, conflict}
 use Rattle.model.specs.Openings.{open_reply}
@@ -45,7 +45,7 @@ as_it_was = start (λ s. first_rules)
 
 -- seat s is asked for its waiting list, with a buffer that is too short
 abbrev no_room : ℕ → Event
-no_room s = record { at = seat_of s; call = waiting_list [] (ListRefused ShortBuffer) [] }
+no_room s = record { at = seat_of s; call = waiting_list [] (Err ShortBuffer) [] }
 
 -- seat s switches
 abbrev pub switches : ℕ → Event

@@ -1,11 +1,12 @@
 -- Document 02, request 2, tried: the split 3, 3, 1 at two seats, the acks in two orders.
+use Rattle.std.specs.Prelude.{Some}
 use Prim.Native.Nat.{◌<◌}
 use native.Mathlib.Omega.{arith}
 use mathlib.Core.Path.{◌≡◌, refl, ap, sym, ◌∙◌}
 use mathlib.Core.Bool.{true, false, false≢true}
 use mathlib.Core.List.{List, [], ◌∷◌}
 use lib.Dec.{lit<}
-use Rattle.laws.specs.Types.{Transfer, Full, AckSlot, Ledger, Opening, Message, Ack, Reply, Propose, Note}
+use Rattle.laws.specs.Types.{Transfer, AckSlot, Ledger, Opening, Message, Ack, Reply, Propose, Note}
 use Rattle.runs.specs.Runs.{Run, start, ◌▹◌, rules_at, ledger_at, acks_with, MayReply, Obeys}
 use Rattle.runs.specs.Proposals.{SameAcks}
 use Rattle.runs.specs.Switching.{SameSaveTies, Alike}
@@ -106,9 +107,9 @@ pub same_acks_needed :
     × ((step more_u (Ack (seat_of 1) t)).reply ≡ Propose u)
     × (SameAcks more_t (Ack (seat_of 4) u) more_u (Ack (seat_of 1) t) → ⊥)
 unfolding rules_at ledger_at no_acks equal conflict has_most most_acked lowest_affordable apply settle_at_most settle step step_under
-same_acks_needed = (refl, refl, λ same. let held : Full t ≡ Full u = same (seat_of 2) in apart held)
+same_acks_needed = (refl, refl, λ same. let held : Some t ≡ Some u = same (seat_of 2) in apart held)
   where
-    apart : Full t ≡ Full u → ⊥
+    apart : Some t ≡ Some u → ⊥
     apart held = let slips : t ≡ u = cc in absurd (omega (arith, ap (λ (v : Transfer). v.value) slips))
 
 -- What is alike between the sets of rules, on that tie: no more than that both slips have the most acks.

@@ -1,6 +1,5 @@
 -- Demand 3 as one statement. Its proof is `demand3` in Demand3.antt of the crate agreement.
-use Rattle.std.specs.Prelude.{ℕ, ◌<◌, ◌≡◌, Bool, true}
-use Rattle.std.proofs.Math.Option.{some}
+use Rattle.std.specs.Prelude.{ℕ, ◌<◌, ◌≡◌, Bool, true, Some}
 use Rattle.laws.specs.Types.{Seat, Account, Transfer, Opening, Inquiry, Balance}
 use Rattle.runs.specs.Runs.{Opens, FewBad, honest, message, Event, Run, ◌▹◌, Within, at_honest, ledger_at, Obeys, accepted}
 use Rattle.runs.specs.Premises.{Premises}
@@ -15,8 +14,8 @@ SameCounts o s p z q = (a : Account) → a.0 < o.accounts → (slate_at o s p).c
 pub record Claim (o : Opening) (bad : Seat → Bool) (run : Run) : Type 0 where
   -- "Any two accepted slips with equal account and number are equal, whether one honest seat accepted them or two."
   pub agree : (p q : Run) (e d : Event) (t u : Transfer)
-      → Within (p ▹ e) run → accepted e.call ≡ some t
-      → Within (q ▹ d) run → accepted d.call ≡ some u
+      → Within (p ▹ e) run → accepted e.call ≡ Some t
+      → Within (q ▹ d) run → accepted d.call ≡ Some u
       → t.account ≡ u.account → t.number ≡ u.number → t ≡ u
   -- "At the start and after each call, the balances and current numbers in each honest book are
   -- its slate's balances and counts"

@@ -1,8 +1,9 @@
 -- Document 02, request 7: "An honest seat never appears if each ack in either bundle that names an honest seat carries
 -- a slip that a call at that seat acked, in one run for both bundles." The proof is `honest_never_found` in
 -- Evidence.antt of the crate agreement.
+use Rattle.model.specs.Types.{found_pair}
 use Rattle.std.specs.Prelude.{ℕ, ◌<◌, ◌≡◌, Bool, true, false, List}
-use Rattle.laws.specs.Types.{Seat, Transfer, Opening, Which, FoundPair}
+use Rattle.laws.specs.Types.{Seat, Transfer, Opening, Which}
 use Rattle.runs.specs.Runs.{Opens, honest, Run, Obeys}
 use Rattle.runs.specs.Premises.{acked_by}
 use Rattle.model.specs.Bundles.{entry_count, page_at}
@@ -26,5 +27,5 @@ abbrev pub HonestNeverFound : Type 0
 HonestNeverFound =
     (o : Opening) (bad : Seat → Bool) (run : Run) (first second : List ℕ) (ruled : Transfer) (seat : Seat) (i j : ℕ) (shown : Which)
     → Opens o → Obeys o run → BothGenuine o bad run first second
-    → evidence first second ruled ≡ FoundPair seat i j shown
+    → evidence first second ruled ≡ found_pair seat i j shown
     → honest o bad seat ≡ false

@@ -1,8 +1,7 @@
 -- What holds of every run that obeys the definitions, premises or not: the whole-run facts of demand 2. The proof is
 -- `always` in Always.antt of the crate agreement.
-use Rattle.std.specs.Prelude.{ℕ, ◌+◌, ◌≤◌, ◌<◌, ◌≡◌, ◌⊎◌, Bool, true, false, not, ◌&&◌, ◌||◌, take}
-use Rattle.std.proofs.Math.Option.{some}
-use Rattle.laws.specs.Types.{Seat, Account, Transfer, Empty, Full, Ledger, Opening, Message, Request, Circulated, Ack, Decision, Inquiry, Reply, Circulate, Acknowledge, Accept, Propose, Note, Balance, Refuse}
+use Rattle.std.specs.Prelude.{ℕ, ◌+◌, ◌≤◌, ◌<◌, ◌≡◌, ◌⊎◌, Bool, true, false, not, ◌&&◌, ◌||◌, take, Some, None}
+use Rattle.laws.specs.Types.{Seat, Account, Transfer, Ledger, Opening, Message, Request, Circulated, Ack, Decision, Inquiry, Reply, Circulate, Acknowledge, Accept, Propose, Note, Balance, Refuse}
 use Rattle.runs.specs.Runs.{Opens, Call, message, waiting_list, switch, Event, Run, ◌▹◌, Within, happened, same_seat, rules_at, ledger_at, Obeys, is_accept, is_refusal, acked, accepted, proposed, ruled, passes}
 use Rattle.runs.specs.Slates.{slate_at}
 use Rattle.model.specs.Basics.{bit, sum_of}
@@ -86,45 +85,45 @@ pub record Facts (o : Opening) (run : Run) : Type 0 where
       → sum_currents (ledger_at o e.at (p ▹ e)).entries ≡ sum_currents (ledger_at o e.at p).entries + count_of r
   -- a seat acks at most one slip per account and number
   pub acked_once : (p q : Run) (e d : Event) (t u : Transfer) → Within (p ▹ e) run → Within (q ▹ d) run → e.at ≡ d.at
-      → acked e.call ≡ some t → acked d.call ≡ some u → t.account ≡ u.account → t.number ≡ u.number → t ≡ u
+      → acked e.call ≡ Some t → acked d.call ≡ Some u → t.account ≡ u.account → t.number ≡ u.number → t ≡ u
   -- after it accepted a slip, a seat puts forward for that number only the accepted slip, and under the
   -- rules before request 5 nothing
   pub only_accepted_proposed : (p q : Run) (e d : Event) (t u : Transfer) → Within (p ▹ e) q → Within (q ▹ d) run → e.at ≡ d.at
-      → accepted e.call ≡ some t → proposed d.call ≡ some u → t.account ≡ u.account → t.number ≡ u.number
+      → accepted e.call ≡ Some t → proposed d.call ≡ Some u → t.account ≡ u.account → t.number ≡ u.number
       → (t ≡ u) × (rank since_request5 ≤ rank (rules_at d.at q))
   -- "It happens at most once for a number": a seat puts forward at most one slip for an account and number,
   -- and at most one time, late or not
   pub proposed_once : (p q : Run) (e d : Event) (t u : Transfer) → Within (p ▹ e) run → Within (q ▹ d) run → e.at ≡ d.at
-      → proposed e.call ≡ some t → proposed d.call ≡ some u → t.account ≡ u.account → t.number ≡ u.number
+      → proposed e.call ≡ Some t → proposed d.call ≡ Some u → t.account ≡ u.account → t.number ≡ u.number
       → (t ≡ u) × (p ≡ q) × (e ≡ d)
   -- what is retained was accepted there: "the latest accepted slip, waiting or booked", so its number is
   -- current + 1 if it waits, and else current
-  pub retained_stands : (p : Run) (s : Seat) (a : Account) (t : Transfer) → Within p run → (entry_of (ledger_at o s p) a).retained ≡ Full t
+  pub retained_stands : (p : Run) (s : Seat) (a : Account) (t : Transfer) → Within p run → (entry_of (ledger_at o s p) a).retained ≡ Some t
       → (t.account ≡ a) × (accepted_by s t p ≡ true)
       × (t.number ≡ (entry_of (ledger_at o s p) a).current + bit (is_waiting (entry_of (ledger_at o s p) a)))
   -- its mark says "whether anything was put forward for its number" there, late or not; and the next number's, where
   -- nothing waits, whether something was for that
-  pub retained_marked : (p : Run) (s : Seat) (a : Account) (t : Transfer) → Within p run → (entry_of (ledger_at o s p) a).retained ≡ Full t
+  pub retained_marked : (p : Run) (s : Seat) (a : Account) (t : Transfer) → Within p run → (entry_of (ledger_at o s p) a).retained ≡ Some t
       → (entry_of (ledger_at o s p) a).retained_proposed ≡ proposed_for s t p
   pub next_marked : (p : Run) (s : Seat) (t : Transfer) → Within p run
-      → t.number ≡ (entry_of (ledger_at o s p) t.account).current + 1 → (entry_of (ledger_at o s p) t.account).pending ≡ Empty
+      → t.number ≡ (entry_of (ledger_at o s p) t.account).current + 1 → (entry_of (ledger_at o s p) t.account).pending ≡ None
       → (entry_of (ledger_at o s p) t.account).proposed ≡ proposed_for s t p
   -- and under the rules since request 5 it is there: what was accepted under them, for as long as it is the latest
   pub latest_retained : (p q : Run) (e : Event) (t : Transfer) → Within (p ▹ e) q → Within q run
-      → accepted e.call ≡ some t → rank since_request5 ≤ rank (rules_at e.at p)
+      → accepted e.call ≡ Some t → rank since_request5 ≤ rank (rules_at e.at p)
       → t.number ≡ (entry_of (ledger_at o e.at q) t.account).current + bit (is_waiting (entry_of (ledger_at o e.at q) t.account))
-      → (entry_of (ledger_at o e.at q) t.account).retained ≡ Full t
+      → (entry_of (ledger_at o e.at q) t.account).retained ≡ Some t
   -- .. and what waits, also what was accepted before and is taken over at a switch
   pub waiting_retained : (p : Run) (s : Seat) (a : Account) (t : Transfer) → Within p run → rank since_request5 ≤ rank (rules_at s p)
-      → (entry_of (ledger_at o s p) a).pending ≡ Full t → (entry_of (ledger_at o s p) a).retained ≡ Full t
+      → (entry_of (ledger_at o s p) a).pending ≡ Some t → (entry_of (ledger_at o s p) a).retained ≡ Some t
   -- before request 5 nothing is retained
   pub none_retained : (p : Run) (s : Seat) (a : Account) → Within p run → rank (rules_at s p) < rank since_request5
       → RetainsNothing (entry_of (ledger_at o s p) a)
   -- "the reply is P with the retained slip and not 6 or 8": a late P comes in place of
   -- one of these, and of nothing else
   pub in_place : (p : Run) (s : Seat) (m : Message) → Within p run → late_met (rules_at s p) (ledger_at o s p) m ≡ true
-      → (first_refusal (rules_met (rules_at s p) (ledger_at o s p) m) ≡ some PastNumber)
-      ⊎ (first_refusal (rules_met (rules_at s p) (ledger_at o s p) m) ≡ some AlreadyAccepted)
+      → (first_refusal (rules_met (rules_at s p) (ledger_at o s p) m) ≡ Some PastNumber)
+      ⊎ (first_refusal (rules_met (rules_at s p) (ledger_at o s p) m) ≡ Some AlreadyAccepted)
   -- a call accepts exactly if it is an ack that is recorded and makes enough or a ruling, and is
   -- not refused: no other call does
   pub accepts_exactly : (p : Run) (e : Event) → Within (p ▹ e) run → answered_k e.call ≡ must_accept (rules_at e.at p) (ledger_at o e.at p) e.call
@@ -139,16 +138,16 @@ pub record Facts (o : Opening) (run : Run) : Type 0 where
       → t.number ≡ (entry_of (ledger_at o s p) t.account).current + 1
       → accepted_by s t p ≡ holds t (entry_of (ledger_at o s p) t.account).pending
   -- it waits for funds: what its payer's balance covers has been booked
-  pub waits_for_funds : (p : Run) (s : Seat) (a : Account) (t : Transfer) → Within p run → (entry_of (ledger_at o s p) a).pending ≡ Full t
+  pub waits_for_funds : (p : Run) (s : Seat) (a : Account) (t : Transfer) → Within p run → (entry_of (ledger_at o s p) a).pending ≡ Some t
       → (entry_of (ledger_at o s p) a).balance < t.value
   -- each number up to an account's current one was accepted there
   pub booked_accepted : (p : Run) (s : Seat) (a : Account) (m : ℕ) → Within p run → 1 ≤ m → m ≤ (entry_of (ledger_at o s p) a).current
       → (t : Transfer) × (t.account ≡ a) × (t.number ≡ m) × (accepted_by s t p ≡ true)
   -- a recorded ack is of its entry's account, of the next number, and from one of the n seats
-  pub acks_stand : (p : Run) (s i : Seat) (a : Account) (t : Transfer) → Within p run → ack_from (entry_of (ledger_at o s p) a) i ≡ Full t
+  pub acks_stand : (p : Run) (s i : Seat) (a : Account) (t : Transfer) → Within p run → ack_from (entry_of (ledger_at o s p) a) i ≡ Some t
       → (i.0 < o.seats) × (t.account ≡ a) × (t.number ≡ (entry_of (ledger_at o s p) a).current + 1)
   -- a waiting slip is of its entry's account, one of the k, and of the next number, for one of the k
-  pub pending_stands : (p : Run) (s : Seat) (a : Account) (t : Transfer) → Within p run → (entry_of (ledger_at o s p) a).pending ≡ Full t
+  pub pending_stands : (p : Run) (s : Seat) (a : Account) (t : Transfer) → Within p run → (entry_of (ledger_at o s p) a).pending ≡ Some t
       → (t.account ≡ a) × (t.number ≡ (entry_of (ledger_at o s p) a).current + 1) × (t.account.0 < o.accounts) × (t.recipient.0 < o.accounts)
 
 abbrev pub Always : Type 0

@@ -1,6 +1,5 @@
 -- Document 01: "The premises on a run".
-use Rattle.std.specs.Prelude.{◌≡◌, Bool, true, false, cond, not, ◌&&◌, ◌||◌, List, [], ◌∷◌, ◌++◌}
-use Rattle.std.proofs.Math.Option.{Option, none, some}
+use Rattle.std.specs.Prelude.{◌≡◌, Bool, true, false, cond, not, ◌&&◌, ◌||◌, List, [], ◌∷◌, ◌++◌, Option, Some, None}
 use Rattle.laws.specs.Types.{Seat, Transfer, Opening, Request, Circulated, Ack, Decision, Inquiry}
 use Rattle.runs.specs.Runs.{Call, message, waiting_list, switch, Run, start, ◌▹◌, happened, throughout, honest, same_seat, acked, proposed, ruled, passes}
 use Rattle.model.specs.Basics.{every}
@@ -33,8 +32,8 @@ ruled_otherwise t run = happened (λ e. passes (conflict t) (ruled e.call)) run
 
 -- the slip, if there is one and it has t's account and number
 abbrev pub likewise : Transfer → Option Transfer → List Transfer
-likewise t none = []
-likewise t (some u) = cond (same_number t u) (u ∷ []) []
+likewise t None = []
+likewise t (Some u) = cond (same_number t u) (u ∷ []) []
 
 -- the slips with t's account and number that calls of this run put forward
 abbrev pub proposals : Transfer → Run → List Transfer
@@ -59,8 +58,8 @@ founded t slips = some_slip slips && implies (all_equal slips) (every (equal t) 
 -- "All rulings for one account and number carry the same slip, whichever seats they reach."
 -- And the first of them is founded
 abbrev pub rightful : Run → Option Transfer → Bool
-rightful before none = true
-rightful before (some t) = not (ruled_otherwise t before) && (ruled_on t before || founded t (proposals t before))
+rightful before None = true
+rightful before (Some t) = not (ruled_otherwise t before) && (ruled_on t before || founded t (proposals t before))
 
 pub record Premises (o : Opening) (bad : Seat → Bool) (run : Run) : Type 0 where
   pub acks_genuine : throughout (λ before e. genuine o bad before e.call) run ≡ true

@@ -1,9 +1,8 @@
 -- Document 01, "A run, as demand 3 means it": calls, runs, the ledger of a seat at any place of a run, and what a call
 -- did. And document 02, request 3: a seat that switches to newer rules, on a day of its own, and the rules of a seat at
 -- any place; later requests add to the rules.
-use Rattle.std.specs.Prelude.{ℕ, zero, suc, ◌+◌, ◌≤◌, ◌≡◌, Bool, true, false, cond, not, ◌&&◌, ◌||◌, List, eqb, ltb, length}
-use Rattle.std.proofs.Math.Option.{Option, none, some}
-use Rattle.laws.specs.Types.{Seat, Transfer, AckSlot, Ledger, Opening, Message, Request, Circulated, Ack, Decision, Inquiry, Reply, Circulate, Acknowledge, Accept, Propose, Note, Balance, Refuse, Opened, ListReply}
+use Rattle.std.specs.Prelude.{ℕ, zero, suc, ◌+◌, ◌≤◌, ◌≡◌, Bool, true, false, cond, not, ◌&&◌, ◌||◌, List, eqb, ltb, length, Option, Some, None, Ok}
+use Rattle.laws.specs.Types.{Seat, Transfer, AckSlot, Ledger, Opening, Message, Request, Circulated, Ack, Decision, Inquiry, Reply, Circulate, Acknowledge, Accept, Propose, Note, Balance, Refuse, ListReply}
 use Rattle.model.specs.Basics.{bit, count}
 use Rattle.model.specs.Records.{seat_of, fresh_ledger, entry_of, with_ack}
 use Rattle.model.specs.Acks.{has_most}
@@ -15,7 +14,7 @@ use Rattle.model.specs.Switches.{Rules, first_rules, since_request3, since_reque
 -- "Take any opening page that is not refused": a page has 32 balances.
 pub record Opens (o : Opening) : Type 0 where
   pub full_page : length o.balances ≡ 32
-  pub not_refused : open_reply o ≡ Opened
+  pub not_refused : open_reply o ≡ Ok tt
 
 -- how many of the numbers below n pass the test
 abbrev pub count_below : (ℕ → Bool) → ℕ → ℕ
@@ -98,13 +97,13 @@ ledger_at o s (r ▹ e) = cond (same_seat e.at s) (next_ledger (rules_at s r) (l
 
 -- the slip that a reply P carries
 abbrev pub proposal : Reply → Option Transfer
-proposal Circulate = none
-proposal Acknowledge = none
-proposal (Accept c) = none
-proposal (Propose t) = some t
-proposal Note = none
-proposal (Balance b) = none
-proposal (Refuse q) = none
+proposal Circulate = None
+proposal Acknowledge = None
+proposal (Accept c) = None
+proposal (Propose t) = Some t
+proposal Note = None
+proposal (Balance b) = None
+proposal (Refuse q) = None
 
 -- the acks of a message's account by which it is answered: with the ack at hand, if it is one
 abbrev pub acks_with : Ledger → Message → List AckSlot
@@ -118,14 +117,14 @@ acks_with l (Inquiry a) = (entry_of l a).acks
 -- too, any; since request 3, none
 abbrev pub free_slip : Rules → Reply → Option Transfer
 free_slip first_rules r = proposal r
-free_slip since_request3 r = none
-free_slip since_request5 r = none
+free_slip since_request3 r = None
+free_slip since_request5 r = None
 
 -- a reply that may stand for the one that is due, given its slip that is left free, if any, and the acks: P with any
 -- of the slips with the most acks
 abbrev pub StandsFor : Reply → Option Transfer → List AckSlot → Reply → Type 0
-StandsFor due none acks r = r ≡ due
-StandsFor due (some t) acks r = (u : Transfer) × (r ≡ Propose u) × (has_most acks u ≡ true)
+StandsFor due None acks r = r ≡ due
+StandsFor due (Some t) acks r = (u : Transfer) × (r ≡ Propose u) × (has_most acks u ≡ true)
 
 -- What a message may be replied under a set of rules: what the step under them replies, or what may stand for it.
 abbrev pub MayReply : Rules → Ledger → Message → Reply → Type 0
@@ -163,41 +162,41 @@ is_refusal r = eqb (letter_of r) 82
 
 -- "A slip answered A is acked by that seat."
 abbrev pub acked : Call → Option Transfer
-acked (message (Request t) r) = none
-acked (message (Circulated t) r) = cond (is_acknowledge r) (some t) none
-acked (message (Ack s t) r) = none
-acked (message (Decision t) r) = none
-acked (message (Inquiry a) r) = none
-acked (waiting_list before r after) = none
-acked switch = none
+acked (message (Request t) r) = None
+acked (message (Circulated t) r) = cond (is_acknowledge r) (Some t) None
+acked (message (Ack s t) r) = None
+acked (message (Decision t) r) = None
+acked (message (Inquiry a) r) = None
+acked (waiting_list before r after) = None
+acked switch = None
 
 -- "An ack or ruling answered K accepts its slip at that seat."
 abbrev pub accepted : Call → Option Transfer
-accepted (message (Request t) r) = none
-accepted (message (Circulated t) r) = none
-accepted (message (Ack s t) r) = cond (is_accept r) (some t) none
-accepted (message (Decision t) r) = cond (is_accept r) (some t) none
-accepted (message (Inquiry a) r) = none
-accepted (waiting_list before r after) = none
-accepted switch = none
+accepted (message (Request t) r) = None
+accepted (message (Circulated t) r) = None
+accepted (message (Ack s t) r) = cond (is_accept r) (Some t) None
+accepted (message (Decision t) r) = cond (is_accept r) (Some t) None
+accepted (message (Inquiry a) r) = None
+accepted (waiting_list before r after) = None
+accepted switch = None
 
 -- "A reply P puts forward the slip that it carries."
 abbrev pub proposed : Call → Option Transfer
 proposed (message m r) = proposal r
-proposed (waiting_list before r after) = none
-proposed switch = none
+proposed (waiting_list before r after) = None
+proposed switch = None
 
 -- the slip of a ruling, refused or not
 abbrev pub ruled : Call → Option Transfer
-ruled (message (Request t) r) = none
-ruled (message (Circulated t) r) = none
-ruled (message (Ack s t) r) = none
-ruled (message (Decision t) r) = some t
-ruled (message (Inquiry a) r) = none
-ruled (waiting_list before r after) = none
-ruled switch = none
+ruled (message (Request t) r) = None
+ruled (message (Circulated t) r) = None
+ruled (message (Ack s t) r) = None
+ruled (message (Decision t) r) = Some t
+ruled (message (Inquiry a) r) = None
+ruled (waiting_list before r after) = None
+ruled switch = None
 
 -- there is a slip, and it passes the test
 abbrev pub passes : (Transfer → Bool) → Option Transfer → Bool
-passes p none = false
-passes p (some t) = p t
+passes p None = false
+passes p (Some t) = p t

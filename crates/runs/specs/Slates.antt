@@ -1,7 +1,6 @@
 -- Document 01: "A seat's slate is fed the opening page and the seat's calls with their replies, nothing
 -- else." Plain numbers, no modulus.
-use Rattle.std.specs.Prelude.{ℕ, zero, suc, ◌+◌, ◌-◌, Bool, cond, List, [], ◌∷◌, leb, length, get_or}
-use Rattle.std.proofs.Math.Option.{Option, none, some}
+use Rattle.std.specs.Prelude.{ℕ, zero, suc, ◌+◌, ◌-◌, Bool, cond, List, [], ◌∷◌, leb, length, get_or, Option, Some, None}
 use Rattle.laws.specs.Types.{Seat, Account, Transfer, Opening}
 use Rattle.runs.specs.Runs.{Run, start, ◌▹◌, same_seat, accepted}
 use Rattle.model.specs.Basics.{bit}
@@ -23,13 +22,13 @@ covered s t = leb t.value (s.balance t.account)
 
 -- of a slip and perhaps another, the one with the lower account
 abbrev pub lower : Transfer → Option Transfer → Transfer
-lower t none = t
-lower t (some u) = cond (leb t.account.0 u.account.0) t u
+lower t None = t
+lower t (Some u) = cond (leb t.account.0 u.account.0) t u
 
 -- of the slips that pass the test, the one with the lowest account
 abbrev pub lowest : (Transfer → Bool) → List Transfer → Option Transfer
-lowest p [] = none
-lowest p (t ∷ ts) = cond (p t) (some (lower t (lowest p ts))) (lowest p ts)
+lowest p [] = None
+lowest p (t ∷ ts) = cond (p t) (Some (lower t (lowest p ts))) (lowest p ts)
 
 -- the slips without this one
 abbrev pub without : Transfer → List Transfer → List Transfer
@@ -53,7 +52,7 @@ leave s t =
 -- account leaves": at most n of them
 unfoldable pub leave_at_most : ℕ → Slate → Slate
 leave_at_most zero s = s
-leave_at_most (suc n) s = elim (lowest (covered s) s.waiting) [ none ↦ s | some t ↦ leave_at_most n (leave s t) ]
+leave_at_most (suc n) s = elim (lowest (covered s) s.waiting) [ None ↦ s | Some t ↦ leave_at_most n (leave s t) ]
 
 -- no more can leave than wait
 unfoldable pub leave_all : Slate → Slate
@@ -65,8 +64,8 @@ join s t = record { balance = s.balance; count = s.count; waiting = t ∷ s.wait
 -- "At a call answered K, the call's slip joins the waiting ones. Then .." "Any other call, refused or
 -- not, leaves the slate as it is."
 abbrev pub next_slate : Slate → Option Transfer → Slate
-next_slate s none = s
-next_slate s (some t) = leave_all (join s t)
+next_slate s None = s
+next_slate s (Some t) = leave_all (join s t)
 
 -- the slate of seat s after a run
 unfoldable pub slate_at : Opening → Seat → Run → Slate

@@ -1,9 +1,8 @@
 -- Document 02, request 3: "That two honest books cannot part holds across the switch." Demand 3 itself is of runs in
 -- which seats switch; here stands how little the switches of requests 3 and 5 change, and what a seat keeps. The proofs
 -- are in Switching.antt of the crate agreement.
-use Rattle.std.specs.Prelude.{◌≤◌, ◌<◌, ◌≡◌, ◌⊎◌, true, false, List, map}
-use Rattle.std.proofs.Math.Option.{some}
-use Rattle.laws.specs.Types.{Seat, Account, Transfer, Empty, AckSlot, Ledger, Opening, Message, Circulated, Ack, Decision, Inquiry, Reply, Propose, Refuse}
+use Rattle.std.specs.Prelude.{◌≤◌, ◌<◌, ◌≡◌, ◌⊎◌, true, false, List, map, Some, None}
+use Rattle.laws.specs.Types.{Seat, Account, Transfer, AckSlot, Ledger, Opening, Message, Circulated, Ack, Decision, Inquiry, Reply, Propose, Refuse}
 use Rattle.runs.specs.Runs.{Opens, switch, Event, Run, ◌▹◌, Within, rules_at, ledger_at, acks_with, MayReply, Obeys, acked}
 use Rattle.model.specs.declared.Refusal.TheVariants.{AlreadyAcked, SelfPayment}
 use Rattle.model.specs.Records.{with_retained_proposed, with_none_retained, entry_of, with_entries, with_entry}
@@ -70,13 +69,13 @@ pub record MarkStands (o : Opening) (s : Seat) (place : Run) (t : Transfer) : Ty
   -- and any slip of that account and number, in range and to another recipient than the
   -- payer, meets 12, where none waits
   pub other_slip : (v : Rules) → rank since_request3 ≤ rank v → (u : Transfer) → u.account ≡ t.account → u.number ≡ t.number → pays_itself u ≡ false
-      → out_of_range (ledger_at o s place) u ≡ false → (entry_of (ledger_at o s place) t.account).pending ≡ Empty
+      → out_of_range (ledger_at o s place) u ≡ false → (entry_of (ledger_at o s place) t.account).pending ≡ None
       → (step_under v (ledger_at o s place) (Circulated u)).reply ≡ Refuse AlreadyAcked
 
 -- whatever rules the seat had when it acked, and however often it switched since
 abbrev pub MarksStand : Type 0
 MarksStand =
     (o : Opening) (run p q : Run) (e : Event) (t : Transfer)
-    → Opens o → Obeys o run → Within (p ▹ e) q → Within q run → acked e.call ≡ some t
+    → Opens o → Obeys o run → Within (p ▹ e) q → Within q run → acked e.call ≡ Some t
     → (entry_of (ledger_at o e.at q) t.account).current < t.number
     → MarkStands o e.at q t

@@ -1,6 +1,5 @@
 -- The paper's Theorem 1. Its proof is `theorem1` in Theorem1.antt of the crate agreement.
-use Rattle.std.specs.Prelude.{◌≡◌, Bool, true, false, not, ◌&&◌, eqb}
-use Rattle.std.proofs.Math.Option.{some}
+use Rattle.std.specs.Prelude.{◌≡◌, Bool, true, false, not, ◌&&◌, eqb, Some}
 use Rattle.laws.specs.Types.{Seat, Transfer, Opening, Request, Circulated, Ack, Decision, Inquiry, Reply}
 use Rattle.runs.specs.Runs.{Opens, FewBad, honest, Call, message, waiting_list, switch, Event, Run, ◌▹◌, Within, happened, at_honest, same_seat, Obeys, is_refusal, accepted, proposed}
 use Rattle.runs.specs.Premises.{acked_by, Premises}
@@ -39,9 +38,9 @@ AllReached o bad z t run = (s : Seat) → honest o bad s ≡ true → reached z 
 -- accepted; and nowhere is another slip with its account and number put forward or accepted.
 pub record Undisputed (o : Opening) (bad : Seat → Bool) (run : Run) (t : Transfer) : Type 0 where
   pub accepted_there : (p : Run) (z : Seat) → Within p run → honest o bad z ≡ true → AllReached o bad z t p → accepted_by z t p ≡ true
-  pub none_other_proposed : (q : Run) (d : Event) (u : Transfer) → Within (q ▹ d) run → proposed d.call ≡ some u
+  pub none_other_proposed : (q : Run) (d : Event) (u : Transfer) → Within (q ▹ d) run → proposed d.call ≡ Some u
       → t.account ≡ u.account → t.number ≡ u.number → t ≡ u
-  pub none_other_accepted : (q : Run) (d : Event) (u : Transfer) → Within (q ▹ d) run → accepted d.call ≡ some u
+  pub none_other_accepted : (q : Run) (d : Event) (u : Transfer) → Within (q ▹ d) run → accepted d.call ≡ Some u
       → t.account ≡ u.account → t.number ≡ u.number → t ≡ u
 
 abbrev pub Theorem1 : Type 0

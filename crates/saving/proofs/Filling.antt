@@ -1,4 +1,5 @@
 -- A saved book, written into a buffer of its size; and the answer of a load, by its tests.
+use Rattle.std.specs.Prelude.{Ok}
 use Prim.Native.Nat.{ℕ, ◌-◌}
 use native.Mathlib.Omega.{arith}
 use mathlib.Core.Path.{◌≡◌, refl, ap, sym, ◌∙◌}
@@ -13,7 +14,7 @@ use Rattle.basics.specs.Outputs.{Writes}
 use Rattle.basics.proofs.Writing.{then, whole}
 use Rattle.layout.specs.Layout.{book_words}
 use Rattle.saving.specs.declared.LoadReply.{LoadReply}
-use Rattle.saving.specs.declared.LoadReply.TheVariants.{Loaded, WrongMark, UnknownFormat, WrongLength, WrongSum}
+use Rattle.saving.specs.declared.LoadReply.TheVariants.{WrongMark, UnknownFormat, WrongLength, WrongSum}
 use Rattle.saving.specs.Saved.{sum_at, saved_size, summed, saved, wrong_mark, unknown_format, wrong_length, wrong_sum, load_reply, words_saved, words_after, LoadedAs}
 use Rattle.saving.proofs.RoundTrips.{reply_by, summed_length}
 
@@ -49,7 +50,7 @@ unfolding load_reply
 by_tests bytes mark format size sum = rw (mark, format, size, sum)
 
 -- an answer that is not `Loaded` leaves the words
-not_loaded : (r : LoadReply) (bytes before : List ℕ) → r ≢ Loaded → words_after r bytes before ≡ before
+not_loaded : (r : LoadReply) (bytes before : List ℕ) → r ≢ Ok tt → words_after r bytes before ≡ before
 not_loaded Loaded bytes before other = absurd (other refl)
 not_loaded WrongMark bytes before other = refl
 not_loaded UnknownFormat bytes before other = refl
@@ -58,8 +59,8 @@ not_loaded WrongSum bytes before other = refl
 
 -- A load, by the answer that was found.
 module _ (before bytes : List ℕ) (r : LoadReply) (is : r ≡ load_reply bytes) where
-  pub loaded_as : (after : List ℕ) → r ≡ Loaded → after ≡ words_saved bytes → LoadedAs before bytes r after
+  pub loaded_as : (after : List ℕ) → r ≡ Ok tt → after ≡ words_saved bytes → LoadedAs before bytes r after
   loaded_as after found took = record { reply = is; words = rw (← is, found) took }
 
-  pub refused_as : r ≢ Loaded → LoadedAs before bytes r before
+  pub refused_as : r ≢ Ok tt → LoadedAs before bytes r before
   refused_as other = record { reply = is; words = rw (← is) (sym (not_loaded r bytes before other)) }

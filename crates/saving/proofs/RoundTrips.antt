@@ -1,4 +1,5 @@
 -- What is saved is loaded, and what is loaded was saved. The statements are in specs/RoundTrips.antt.
+use Rattle.std.specs.Prelude.{Ok}
 use Prim.Native.Nat.{ℕ, ◌+◌, ◌*◌, ◌<◌}
 use native.Mathlib.Omega.{arith}
 use mathlib.Core.Path.{◌≡◌, refl, ap, sym, ◌∙◌}
@@ -14,7 +15,7 @@ use Rattle.laws.proofs.Sums.{impossible}
 use Rattle.bundle.proofs.Longest.{no_difference}
 use Rattle.layout.specs.Layout.{book_words}
 use Rattle.saving.specs.declared.LoadReply.{LoadReply}
-use Rattle.saving.specs.declared.LoadReply.TheVariants.{Loaded, WrongMark, UnknownFormat, WrongLength, WrongSum}
+use Rattle.saving.specs.declared.LoadReply.TheVariants.{WrongMark, UnknownFormat, WrongLength, WrongSum}
 use Rattle.saving.specs.Saved.{mark, format, words_at, sum_at, saved_size, summed, saved, wrong_mark, unknown_format, wrong_length, wrong_sum, load_reply, words_saved}
 use Rattle.saving.specs.RoundTrips.{SaveThenLoad, SavesBack, LoadThenSave, OtherSum}
 
@@ -82,7 +83,7 @@ unfolding words_saved
 saved_at bytes i h = words_at_lem book_words words_at i bytes h
 
 -- a load that is not refused met no test
-all_passed : (m f l s : Bool) → reply_by m f l s ≡ Loaded → (m ≡ false) × (f ≡ false) × (l ≡ false) × (s ≡ false)
+all_passed : (m f l s : Bool) → reply_by m f l s ≡ Ok tt → (m ≡ false) × (f ≡ false) × (l ≡ false) × (s ≡ false)
 all_passed true f l s e = impossible (cc)
 all_passed false true l s e = impossible (cc)
 all_passed false false true s e = impossible (cc)

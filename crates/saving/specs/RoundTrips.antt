@@ -1,9 +1,9 @@
 -- What is saved is loaded, and nothing else is.
-use Rattle.std.specs.Prelude.{ℕ, ◌<◌, ◌≡◌, ◌≢◌, List, ◌++◌, length, get_or}
+use Rattle.std.specs.Prelude.{ℕ, ◌<◌, ◌≡◌, ◌≢◌, List, ◌++◌, length, get_or, Ok}
 use Rattle.model.specs.Bundles.{body_sum}
 use Rattle.model.specs.Writing.{number_bytes, Bytes}
 use Rattle.layout.specs.Layout.{book_words}
-use Rattle.saving.specs.declared.LoadReply.TheVariants.{Loaded, WrongSum}
+use Rattle.saving.specs.declared.LoadReply.TheVariants.{WrongSum}
 use Rattle.saving.specs.Saved.{saved_size, summed, saved, load_reply, words_saved, words_after}
 
 -- the words of a book: so many numbers of 4 bytes
@@ -15,7 +15,7 @@ pub record BookWords (words : List ℕ) : Type 0 where
 pub record LoadsBack (words : List ℕ) : Type 0 where
   pub size : length (saved words) ≡ saved_size
   pub bytes : Bytes (saved words)
-  pub loads : load_reply (saved words) ≡ Loaded
+  pub loads : load_reply (saved words) ≡ Ok tt
   pub same : (before : List ℕ) → words_after (load_reply (saved words)) (saved words) before ≡ words
 
 abbrev pub SaveThenLoad : Type 0
@@ -28,7 +28,7 @@ pub record SavesBack (bytes words : List ℕ) : Type 0 where
   pub same : saved words ≡ bytes
 
 abbrev pub LoadThenSave : Type 0
-LoadThenSave = (bytes : List ℕ) → Bytes bytes → load_reply bytes ≡ Loaded → SavesBack bytes (words_saved bytes)
+LoadThenSave = (bytes : List ℕ) → Bytes bytes → load_reply bytes ≡ Ok tt → SavesBack bytes (words_saved bytes)
 
 -- a book's words with another sum behind them have a wrong sum
 abbrev pub OtherSum : Type 0

@@ -5,7 +5,7 @@ use Rattle.model.specs.Bundles.{number4, words_from, body_sum}
 use Rattle.model.specs.Writing.{number_bytes, word_bytes}
 use Rattle.layout.specs.Layout.{book_words}
 use Rattle.saving.specs.declared.LoadReply.{LoadReply}
-use Rattle.saving.specs.declared.LoadReply.TheVariants.{Loaded, WrongMark, UnknownFormat, WrongLength, WrongSum}
+use Rattle.saving.specs.declared.LoadReply.TheVariants.{WrongMark, UnknownFormat, WrongLength, WrongSum}
 
 -- the mark: the letters S, A, P, L
 abbrev pub mark : List ℕ

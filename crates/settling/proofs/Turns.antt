@@ -1,6 +1,5 @@
 -- One turn of settling, said of the words before and after it.
-use Rattle.std.proofs.Common.{◌≡◌, ℕ, suc, ◌+◌, ◌<◌, ◌≤◌, List, sym, ap, ◌∙◌, add-one, arith}
-use mathlib.Core.Option.{none, some}
+use Rattle.std.proofs.Common.{◌≡◌, ℕ, suc, ◌+◌, ◌<◌, ◌≤◌, List, sym, ap, ◌∙◌, add-one, arith, Some, None}
 use Rattle.model.specs.declared.Account.{Account}
 use Rattle.model.specs.Types.{Entry, Ledger}
 use Rattle.model.specs.Records.{with_entries}
@@ -25,11 +24,11 @@ few_applied ws after applied s =
     omega (arith, s.count, settle_waiting (entries ws), count_most is_waiting (entries ws), entries_length ws)
 
 -- nothing is affordable: settling leaves the words as they are
-pub ended : (ws : List ℕ) → lowest_affordable (entries ws) ≡ none → Settles ws ws 0
+pub ended : (ws : List ℕ) → lowest_affordable (entries ws) ≡ None → Settles ws ws 0
 ended ws nothing = record { ledger = rw (settle_none (entries ws) nothing); count = rw (settle_none (entries ws) nothing) }
 
 -- the lowest affordable account is found,
-module _ (ws : List ℕ) (a : Account) (found : lowest_affordable (entries ws) ≡ some a) where
+module _ (ws : List ℕ) (a : Account) (found : lowest_affordable (entries ws) ≡ Some a) where
   pub found_inside : a.0 < 32
   found_inside = omega (arith, (lowest_affordable_lem (entries ws) a found).affords_it.inside, entries_length ws)
 

@@ -1,4 +1,5 @@
 -- What stands in a place, told with a number.
+use Rattle.std.specs.Prelude.{Some, None, is_some}
 use Prim.Native.Nat.{ℕ, ◌+◌, ◌%◌, ◌<◌}
 use mathlib.Core.Path.{◌≡◌, refl}
 use mathlib.Core.Bool.{Bool, true, false, cond}
@@ -8,11 +9,10 @@ use borrow.Author.Tests.{eq-eqb}
 use Rattle.model.specs.declared.Seat.{Seat}
 use Rattle.model.specs.declared.Account.{Account}
 use Rattle.model.specs.declared.Transfer.{Transfer}
-use Rattle.model.specs.declared.Slot.{Slot}
-use Rattle.model.specs.declared.Slot.TheVariants.{Empty, Full}
+use Rattle.model.specs.Types.{Slot}
 use Rattle.model.specs.Records.{account_of}
 use Rattle.model.specs.Transfers.{equal}
-use Rattle.model.specs.Acks.{holds, is_full}
+use Rattle.model.specs.Acks.{holds}
 use Rattle.model.specs.Refusals.{ack_from}
 use Rattle.layout.specs.Layout.{slot_by, entry_in}
 use Rattle.layout.proofs.Entries.{ack_of_next}
@@ -25,27 +25,27 @@ numbered_slot a value m n recipient = go (eqb value 0)
     slip : ℕ → Transfer
     slip k = record { account = account_of a; number = k; value = value; recipient = account_of (recipient % 256) }
 
-    go : (b : Bool) → numbered n (cond b Empty (Full (slip m))) ≡ cond b Empty (Full (slip n))
+    go : (b : Bool) → numbered n (cond b None (Some (slip m))) ≡ cond b None (Some (slip n))
     go true = refl
     go false = refl
 
 -- of a slip that has the number
 abbrev Of : ℕ → Slot → Type 0
-Of n p = (u : Transfer) → p ≡ Full u → u.number ≡ n
+Of n p = (u : Transfer) → p ≡ Some u → u.number ≡ n
 
 numbered_same : (n : ℕ) (p : Slot) → Of n p → numbered n p ≡ p
-numbered_same n Empty of = refl
-numbered_same n (Full u) of = rw (← of u refl)
+numbered_same n None of = refl
+numbered_same n (Some u) of = rw (← of u refl)
 
 -- whether a place holds a slip, told with the slip's number, is whether it holds the slip told with the place's
 holds_numbered : (t : Transfer) (n : ℕ) (p : Slot) → Of n p → holds t (numbered t.number p) ≡ holds (with_number t n) p
 unfolding equal
-holds_numbered t n Empty of = refl
-holds_numbered t n (Full u) of = rw (eq-eqb t.number t.number refl, eq-eqb u.number n (of u refl))
+holds_numbered t n None of = refl
+holds_numbered t n (Some u) of = rw (eq-eqb t.number t.number refl, eq-eqb u.number n (of u refl))
 
-pub full_numbered : (n : ℕ) (p : Slot) → is_full (numbered n p) ≡ is_full p
-full_numbered n Empty = refl
-full_numbered n (Full u) = refl
+pub full_numbered : (n : ℕ) (p : Slot) → is_some (numbered n p) ≡ is_some p
+full_numbered n None = refl
+full_numbered n (Some u) = refl
 
 -- the same of an ack in words, whose number is the account's next
 module _ (ws : List ℕ) (a : Account) (s : Seat) (inside : a.0 < 32) where

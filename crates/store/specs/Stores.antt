@@ -1,9 +1,8 @@
 -- What the stores promise, beside the model's definitions.
-use Rattle.std.specs.Prelude.{ℕ, ◌+◌, ◌<◌, ◌≡◌, cond, ◌&&◌, List, leb, ltb}
+use Rattle.std.specs.Prelude.{ℕ, ◌+◌, ◌<◌, ◌≡◌, cond, ◌&&◌, List, leb, ltb, Some, None}
 use Rattle.model.specs.declared.Seat.{Seat}
 use Rattle.model.specs.declared.Transfer.{Transfer}
-use Rattle.model.specs.declared.Slot.{Slot}
-use Rattle.model.specs.declared.Slot.TheVariants.{Empty, Full}
+use Rattle.model.specs.Types.{Slot}
 use Rattle.model.specs.Records.{with_entry, with_ack, with_pending, with_retained}
 use Rattle.layout.specs.Layout.{Block, block, proposed_place, pending_value_place, pending_number_place, pending_recipient_place, ack_values_place, ack_recipients_place, retained_value_place, retained_number_place, retained_recipient_place, retained_proposed_place, up_to, ledger_in, entry_in}
 use Rattle.layout.specs.Blocks.{put, Changes}
@@ -22,8 +21,8 @@ with_number t n = record { account = t.account; number = n; value = t.value; rec
 
 -- what stands in a place, told with a number: the words of an ack hold none
 abbrev pub numbered : ℕ → Slot → Slot
-numbered n Empty = Empty
-numbered n (Full t) = Full (with_number t n)
+numbered n None = None
+numbered n (Some t) = Some (with_number t n)
 
 -- The slip's value and recipient are in the seat's places. A place says that its slip is of its account and the next
 -- number, and that it is there by a value other than 0: so the slip is recorded if its number is the next and it has a

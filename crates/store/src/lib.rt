@@ -1,6 +1,5 @@
 // The ledger's words, read and stored. No other crate computes where a thing stands in them. A public function asks for
-// a book's length, for an account below 32 and a seat below 16 where it has one, and for nothing of the ledger's
-// content. What it promises is said of the ledger that the words are; of a transfer that is stored, also of the words,
+// an account below 32 and a seat below 16 where it has one, and for nothing of the ledger's content. What it promises is said of the ledger that the words are; of a transfer that is stored, also of the words,
 // since a value of 0 is an empty place.
 
 #![tactic(auto)]
@@ -13,25 +12,23 @@ ghost use Rattle.layout.specs.Blocks.{put, Changes};
 ghost use Rattle.store.specs.Stores.{cleared, numbered, AckStored, PendingStored, RetainedStored, GroupStored, copied};
 
 use layout::{
-    ACCOUNTS, ACK_RECIPIENTS, ACK_VALUES, ACKED, BALANCE, BLOCK, CURRENT, FAULTS, HELD_ACCOUNTS,
-    HELD_BLOCK, HELD_FAULTS, HELD_SEATS, HELD_TOTAL, PENDING_NUMBER, PENDING_RECIPIENT,
-    PENDING_VALUE, PROPOSED, RETAINED_NUMBER, RETAINED_PROPOSED, RETAINED_RECIPIENT,
-    RETAINED_VALUE, SEATS, TOTAL,
+    ACCOUNTS, ACK_RECIPIENTS, ACK_VALUES, ACKED, BALANCE, BLOCK, Book, CURRENT, FAULTS,
+    HELD_ACCOUNTS, HELD_BLOCK, HELD_FAULTS, HELD_SEATS, HELD_TOTAL, HeldBook, PENDING_NUMBER,
+    PENDING_RECIPIENT, PENDING_VALUE, PROPOSED, RETAINED_NUMBER, RETAINED_PROPOSED,
+    RETAINED_RECIPIENT, RETAINED_VALUE, SEATS, TOTAL,
 };
-use model::{Account, Seat, Slot, Transfer};
+use model::{Account, Seat, Transfer};
 
 // A word of an account's block.
-fn word(words: &[u32], a: Account, at: usize) -> u32
-    requires words_len { length words.now ≡ book_words }
-    requires a_bound { (a.0 < 32) × (at < block_words) }
+fn word(words: &Book, a: Account, at: usize) -> u32
+    requires { (a.0 < 32) × (at < block_words) }
     ensures { result ≡ block words.now a.0 at }
 {
     words[(a.0 as usize) * BLOCK + at]
 }
 
-fn put_word(words: &mut [u32], a: Account, at: usize, value: u32)
-    requires words_len { length words.old ≡ book_words }
-    requires a_bound { (a.0 < 32) × (at < block_words) }
+fn put_word(words: &mut Book, a: Account, at: usize, value: u32)
+    requires { (a.0 < 32) × (at < block_words) }
     ensures { Changes words.old a.0 (put (block words.old a.0) at value) words.new }
 {
     words[(a.0 as usize) * BLOCK + at] = value;
@@ -49,39 +46,34 @@ fn up_to(limit: u8, value: u32) -> u8
 }
 
 // n
-pub fn seats_of(words: &[u32]) -> u8
-    requires { length words.now ≡ book_words }
+pub fn seats_of(words: &Book) -> u8
     ensures { result ≡ (ledger_in words.now).seats }
 {
     up_to(16, words[SEATS])
 }
 
 // f
-pub fn faults_of(words: &[u32]) -> u8
-    requires { length words.now ≡ book_words }
+pub fn faults_of(words: &Book) -> u8
     ensures { result ≡ (ledger_in words.now).faults }
 {
     up_to(16, words[FAULTS])
 }
 
 // k
-pub fn accounts_of(words: &[u32]) -> u8
-    requires { length words.now ≡ book_words }
+pub fn accounts_of(words: &Book) -> u8
     ensures { result ≡ (ledger_in words.now).accounts }
 {
     up_to(32, words[ACCOUNTS])
 }
 
 // The opening sum.
-pub fn total_of(words: &[u32]) -> u32
-    requires { length words.now ≡ book_words }
+pub fn total_of(words: &Book) -> u32
     ensures { result ≡ (ledger_in words.now).total }
 {
     words[TOTAL]
 }
 
-pub fn put_group(words: &mut [u32], seats: u8, faults: u8, accounts: u8, total: u32)
-    requires { length words.old ≡ book_words }
+pub fn put_group(words: &mut Book, seats: u8, faults: u8, accounts: u8, total: u32)
     ensures { GroupStored words.old seats faults accounts total words.new }
 {
     words[SEATS] = seats as u32;
@@ -90,59 +82,54 @@ pub fn put_group(words: &mut [u32], seats: u8, faults: u8, accounts: u8, total: 
     words[TOTAL] = total;
 }
 
-pub fn balance_of(words: &[u32], a: Account) -> u32
-    requires words_len { length words.now ≡ book_words }
-    requires a_bound { a.0 < 32 }
+pub fn balance_of(words: &Book, a: Account) -> u32
+    requires { a.0 < 32 }
     ensures { result ≡ (entry_in words.now a).balance }
 {
     word(words, a, BALANCE)
 }
 
-pub fn current_of(words: &[u32], a: Account) -> u32
-    requires words_len { length words.now ≡ book_words }
-    requires a_bound { a.0 < 32 }
+pub fn current_of(words: &Book, a: Account) -> u32
+    requires { a.0 < 32 }
     ensures { result ≡ (entry_in words.now a).current }
 {
     word(words, a, CURRENT)
 }
 
 // This seat has acked the account's next number.
-pub fn is_acked(words: &[u32], a: Account) -> bool
-    requires words_len { length words.now ≡ book_words }
-    requires a_bound { a.0 < 32 }
+pub fn is_acked(words: &Book, a: Account) -> bool
+    requires { a.0 < 32 }
     ensures { result ≡ (entry_in words.now a).acked }
 {
     word(words, a, ACKED) != 0
 }
 
 // A transfer was proposed for the account's next number.
-pub fn is_proposed(words: &[u32], a: Account) -> bool
-    requires words_len { length words.now ≡ book_words }
-    requires a_bound { a.0 < 32 }
+pub fn is_proposed(words: &Book, a: Account) -> bool
+    requires { a.0 < 32 }
     ensures { result ≡ (entry_in words.now a).proposed }
 {
     word(words, a, PROPOSED) != 0
 }
 
 // A place with the words of a transfer's value, number and recipient, in the block of the account that pays.
-fn slot_of(a: Account, value: u32, number: u32, recipient: u32) -> Slot
+fn slot_of(a: Account, value: u32, number: u32, recipient: u32) -> Option<Transfer>
     ensures { result ≡ slot_by a.0 value number recipient }
 {
     if value == 0 {
-        return Slot::Empty;
+        return None;
     }
-    Slot::Full(Transfer {
+    Some(Transfer {
         account: a,
-        number: number,
-        value: value,
+        number,
+        value,
         recipient: Account((recipient % 256) as u8),
     })
 }
 
 // The accepted transfer that waits, if any.
-pub fn pending_of(words: &[u32], a: Account) -> Slot
-    requires words_len { length words.now ≡ book_words }
-    requires a_bound { a.0 < 32 }
+pub fn pending_of(words: &Book, a: Account) -> Option<Transfer>
+    requires { a.0 < 32 }
     ensures { result ≡ (entry_in words.now a).pending }
 {
     slot_of(
@@ -154,9 +141,8 @@ pub fn pending_of(words: &[u32], a: Account) -> Slot
 }
 
 // The retained transfer, the latest that was accepted, if any.
-pub fn retained_of(words: &[u32], a: Account) -> Slot
-    requires words_len { length words.now ≡ book_words }
-    requires a_bound { a.0 < 32 }
+pub fn retained_of(words: &Book, a: Account) -> Option<Transfer>
+    requires { a.0 < 32 }
     ensures { result ≡ (entry_in words.now a).retained }
 {
     slot_of(
@@ -168,9 +154,8 @@ pub fn retained_of(words: &[u32], a: Account) -> Slot
 }
 
 // A transfer was proposed for the number of the retained one.
-pub fn is_retained_proposed(words: &[u32], a: Account) -> bool
-    requires words_len { length words.now ≡ book_words }
-    requires a_bound { a.0 < 32 }
+pub fn is_retained_proposed(words: &Book, a: Account) -> bool
+    requires { a.0 < 32 }
     ensures { result ≡ (entry_in words.now a).retained_proposed }
 {
     word(words, a, RETAINED_PROPOSED) != 0
@@ -178,9 +163,8 @@ pub fn is_retained_proposed(words: &[u32], a: Account) -> bool
 
 // A seat's ack for the account's next number, if any is recorded, told with a number: the
 // next, as the caller has found it.
-pub fn ack_from(words: &[u32], a: Account, s: Seat, next: u32) -> Slot
-    requires words_len { length words.now ≡ book_words }
-    requires a_bound { (a.0 < 32) × (s.0 < 16) }
+pub fn ack_from(words: &Book, a: Account, s: Seat, next: u32) -> Option<Transfer>
+    requires { (a.0 < 32) × (s.0 < 16) }
     ensures { result ≡ numbered next (ack_from (entry_in words.now a) s) }
 {
     let seat = s.0 as usize;
@@ -192,34 +176,30 @@ pub fn ack_from(words: &[u32], a: Account, s: Seat, next: u32) -> Slot
     )
 }
 
-pub fn put_balance(words: &mut [u32], a: Account, balance: u32)
-    requires words_len { length words.old ≡ book_words }
-    requires a_bound { a.0 < 32 }
+pub fn put_balance(words: &mut Book, a: Account, balance: u32)
+    requires { a.0 < 32 }
     ensures { ledger_in words.new ≡ with_entry (ledger_in words.old) a (with_balance (entry_in words.old a) balance) }
 {
     put_word(words, a, BALANCE, balance);
 }
 
-pub fn put_acked(words: &mut [u32], a: Account)
-    requires words_len { length words.old ≡ book_words }
-    requires a_bound { a.0 < 32 }
+pub fn put_acked(words: &mut Book, a: Account)
+    requires { a.0 < 32 }
     ensures { ledger_in words.new ≡ with_entry (ledger_in words.old) a (with_acked (entry_in words.old a)) }
 {
     put_word(words, a, ACKED, 1);
 }
 
-pub fn put_proposed(words: &mut [u32], a: Account)
-    requires words_len { length words.old ≡ book_words }
-    requires a_bound { a.0 < 32 }
+pub fn put_proposed(words: &mut Book, a: Account)
+    requires { a.0 < 32 }
     ensures { ledger_in words.new ≡ with_entry (ledger_in words.old) a (with_proposed (entry_in words.old a)) }
 {
     put_word(words, a, PROPOSED, 1);
 }
 
 // A seat's ack of a transfer is recorded: the one place where it is.
-pub fn put_ack(words: &mut [u32], s: Seat, t: Transfer)
-    requires words_len { length words.old ≡ book_words }
-    requires account_bound { (t.account.0 < 32) × (s.0 < 16) }
+pub fn put_ack(words: &mut Book, s: Seat, t: Transfer)
+    requires { (t.account.0 < 32) × (s.0 < 16) }
     ensures { AckStored words.old s t words.new }
 {
     let seat = s.0 as usize;
@@ -229,9 +209,8 @@ pub fn put_ack(words: &mut [u32], s: Seat, t: Transfer)
 }
 
 // An accepted transfer waits.
-pub fn put_pending(words: &mut [u32], t: Transfer)
-    requires words_len { length words.old ≡ book_words }
-    requires account_bound { t.account.0 < 32 }
+pub fn put_pending(words: &mut Book, t: Transfer)
+    requires { t.account.0 < 32 }
     ensures { PendingStored words.old t words.new }
 {
     let recipient = t.recipient;
@@ -241,9 +220,8 @@ pub fn put_pending(words: &mut [u32], t: Transfer)
 }
 
 // A transfer of the account's next number is retained, with the mark that this number has.
-pub fn put_retained(words: &mut [u32], t: Transfer)
-    requires words_len { length words.old ≡ book_words }
-    requires account_bound { t.account.0 < 32 }
+pub fn put_retained(words: &mut Book, t: Transfer)
+    requires { t.account.0 < 32 }
     ensures { RetainedStored words.old t words.new }
 {
     let recipient = t.recipient;
@@ -254,31 +232,26 @@ pub fn put_retained(words: &mut [u32], t: Transfer)
     put_word(words, t.account, RETAINED_PROPOSED, proposed);
 }
 
-pub fn put_retained_proposed(words: &mut [u32], a: Account)
-    requires words_len { length words.old ≡ book_words }
-    requires a_bound { a.0 < 32 }
+pub fn put_retained_proposed(words: &mut Book, a: Account)
+    requires { a.0 < 32 }
     ensures { ledger_in words.new ≡ with_entry (ledger_in words.old) a (with_retained_proposed (entry_in words.old a)) }
 {
     put_word(words, a, RETAINED_PROPOSED, 1);
 }
 
 // The words of an account's block from one place up to another are 0.
-fn clear(words: &mut [u32], a: Account, from: usize, to: usize)
-    requires words_len { length words.old ≡ book_words }
-    requires a_bound { (a.0 < 32) × (from ≤ to) × (to ≤ block_words) }
+fn clear(words: &mut Book, a: Account, from: usize, to: usize)
+    requires { (a.0 < 32) × (from ≤ to) × (to ≤ block_words) }
     ensures { Changes words.old a.0 (cleared (block words.old a.0) from to) words.new }
 {
-    let mut at: usize = from;
-    while at < to {
+    for at in from..to {
         put_word(words, a, at, 0);
-        at += 1;
     }
 }
 
 // Nothing is retained.
-pub fn put_none_retained(words: &mut [u32], a: Account)
-    requires words_len { length words.old ≡ book_words }
-    requires a_bound { a.0 < 32 }
+pub fn put_none_retained(words: &mut Book, a: Account)
+    requires { a.0 < 32 }
     ensures { ledger_in words.new ≡ with_entry (ledger_in words.old) a (with_none_retained (entry_in words.old a)) }
 {
     clear(words, a, RETAINED_VALUE, BLOCK);
@@ -286,9 +259,8 @@ pub fn put_none_retained(words: &mut [u32], a: Account)
 
 // A number was booked: it is the current one, and the account's acks, marks and what waited are
 // cleared. What is retained stays.
-pub fn put_booked(words: &mut [u32], a: Account, number: u32)
-    requires words_len { length words.old ≡ book_words }
-    requires a_bound { a.0 < 32 }
+pub fn put_booked(words: &mut Book, a: Account, number: u32)
+    requires { a.0 < 32 }
     ensures { ledger_in words.new ≡ with_entry (ledger_in words.old) a (with_booked (entry_in words.old a) number) }
 {
     clear(words, a, CURRENT, RETAINED_VALUE);
@@ -297,34 +269,26 @@ pub fn put_booked(words: &mut [u32], a: Account, number: u32)
 
 // The words of an account's block in a book held from before, which ends before what is
 // retained, are those of its block now.
-fn copy_block(held: &[u32], words: &mut [u32], a: Account)
-    requires held_len { length held.now ≡ held_book_words }
-    requires words_len { length words.old ≡ book_words }
-    requires a_bound { a.0 < 32 }
+fn copy_block(held: &HeldBook, words: &mut Book, a: Account)
+    requires { a.0 < 32 }
     ensures { Changes words.old a.0 (copied (held_block held.now a.0) (block words.old a.0) held_block_words) words.new }
 {
     let start = (a.0 as usize) * HELD_BLOCK;
-    let mut at: usize = 0;
-    while at < HELD_BLOCK {
+    for at in 0..HELD_BLOCK {
         put_word(words, a, at, held[start + at]);
-        at += 1;
     }
 }
 
 // An account is as in a book held from before; what is retained stays.
-pub fn take_entry(held: &[u32], words: &mut [u32], a: Account)
-    requires held_len { length held.now ≡ held_book_words }
-    requires words_len { length words.old ≡ book_words }
-    requires a_bound { a.0 < 32 }
+pub fn take_entry(held: &HeldBook, words: &mut Book, a: Account)
+    requires { a.0 < 32 }
     ensures { ledger_in words.new ≡ with_entry (ledger_in words.old) a (with_retained_of (entry_of (held_in held.now) a) (entry_in words.old a)) }
 {
     copy_block(held, words, a);
 }
 
 // n, f, k and the opening sum are as in a book held from before.
-pub fn take_group(held: &[u32], words: &mut [u32])
-    requires held_len { length held.now ≡ held_book_words }
-    requires words_len { length words.old ≡ book_words }
+pub fn take_group(held: &HeldBook, words: &mut Book)
     ensures { ledger_in words.new ≡ with_entries (held_in held.now) (ledger_in words.old).entries }
 {
     put_group(

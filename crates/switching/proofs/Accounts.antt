@@ -1,4 +1,5 @@
 -- Accounts of a held book, taken over one after another where the ledger lies.
+use Rattle.std.specs.Prelude.{Some, None}
 use Prim.Native.Nat.{ℕ, ◌+◌, ◌<◌}
 use native.Mathlib.Omega.{arith}
 use mathlib.Core.Path.{◌≡◌, ap, sym, subst, ◌∙◌}
@@ -6,8 +7,7 @@ use mathlib.Core.List.{List}
 use lib.ListN.{length}
 use Rattle.model.specs.declared.Account.{Account}
 use Rattle.model.specs.declared.Transfer.{Transfer}
-use Rattle.model.specs.declared.Slot.{Slot}
-use Rattle.model.specs.declared.Slot.TheVariants.{Empty, Full}
+use Rattle.model.specs.Types.{Slot}
 use Rattle.model.specs.Types.{Entry, Ledger}
 use Rattle.model.specs.Records.{account_of, entry_of, with_none_retained, with_retained_of, with_retained, with_entries, with_entry}
 use Rattle.model.specs.Switches.{since_request3, retains_from, retains_waiting, switched}
@@ -41,16 +41,16 @@ module _
     changed after change is =
         is ∙ rw took (with_entry_again (ledger_in before) a stored change (omega (arith, entries_length before)))
 
-    pub nothing_waits : (after : List ℕ) → p ≡ Empty → ledger_in after ≡ with_entry (ledger_in mid) a (with_none_retained (entry_in mid a))
+    pub nothing_waits : (after : List ℕ) → p ≡ None → ledger_in after ≡ with_entry (ledger_in mid) a (with_none_retained (entry_in mid a))
         → ledger_in after ≡ with_entry (ledger_in before) a (retains_waiting e)
     nothing_waits after found is =
         changed after with_none_retained is ∙ ap (λ (x : Slot). with_entry (ledger_in before) a (retains_from x e)) (sym found ∙ waits)
 
     -- the slip that waits is of the account
-    pub its_account : (t : Transfer) → p ≡ Full t → t.account ≡ a
+    pub its_account : (t : Transfer) → p ≡ Some t → t.account ≡ a
     its_account t found = (pending_of mid a t inside (sym p_is ∙ found)).0
 
-    pub slip_waits : (after : List ℕ) (t : Transfer) → p ≡ Full t → RetainedStored mid t after
+    pub slip_waits : (after : List ℕ) (t : Transfer) → p ≡ Some t → RetainedStored mid t after
         → ledger_in after ≡ with_entry (ledger_in before) a (retains_waiting e)
     slip_waits after t found kept =
         let own = its_account t found in

@@ -1,4 +1,5 @@
 -- Acks that are all of one account and number: two conflict where fewer are equal to one of them than are recorded.
+use Rattle.std.specs.Prelude.{Some, None, is_some}
 use Prim.Native.Nat.{ℕ, suc, ◌+◌, ◌≤◌, ◌<◌}
 use native.Mathlib.Decide.{dec_lt}
 use native.Mathlib.Omega.{arith}
@@ -9,22 +10,21 @@ use lib.Dec.{ltb}
 use borrow.Author.Tests.{lt-ltb, le-ltb, eq-eqb}
 use Rattle.model.specs.declared.Account.{Account}
 use Rattle.model.specs.declared.Transfer.{Transfer}
-use Rattle.model.specs.declared.Slot.{Slot}
-use Rattle.model.specs.declared.Slot.TheVariants.{Empty, Full}
+use Rattle.model.specs.Types.{Slot}
 use Rattle.model.specs.Types.{AckSlot}
 use Rattle.model.specs.Basics.{bit, count}
 use Rattle.model.specs.Transfers.{equal, conflict}
-use Rattle.model.specs.Acks.{ack_at, holds, conflicts, is_full, acks_for, acks_recorded, two_conflict}
+use Rattle.model.specs.Acks.{ack_at, holds, conflicts, acks_for, acks_recorded, two_conflict}
 use Rattle.laws.proofs.Sums.{impossible, some_counted, sum_at_least}
 use Rattle.laws.proofs.Equality.{equal_sound}
 use Rattle.laws.proofs.Tallies.{inside, TwoConflict, two_conflict_sound, two_conflict_complete}
 
 abbrev none : AckSlot
-none = record { slot = Empty }
+none = record { slot = None }
 
 -- each recorded ack is of the slip's account and number
 abbrev pub AllOf : Transfer → List AckSlot → Type 0
-AllOf t acks = (i : ℕ) (u : Transfer) → ack_at acks i ≡ Full u → (u.account ≡ t.account) × (u.number ≡ t.number)
+AllOf t acks = (i : ℕ) (u : Transfer) → ack_at acks i ≡ Some u → (u.account ≡ t.account) × (u.number ≡ t.number)
 
 module _ (t : Transfer) where
   -- how many acks conflict with the slip
@@ -46,13 +46,13 @@ module _ (t : Transfer) where
       either true = refl
       either false = refl
 
-      one : (s : Slot) → a.slot ≡ s → bit (is_full s) ≡ bit (holds t s) + bit (conflicts t s)
-      one Empty e = refl
-      one (Full u) e = rw (conflict_unequal u (all 0 u e)) (either (equal u t))
+      one : (s : Slot) → a.slot ≡ s → bit (is_some s) ≡ bit (holds t s) + bit (conflicts t s)
+      one None e = refl
+      one (Some u) e = rw (conflict_unequal u (all 0 u e)) (either (equal u t))
 
   module _ (acks : List AckSlot) (all : AllOf t acks) where
     -- an ack that conflicts is counted
-    counted_against : (i : ℕ) (u : Transfer) → ack_at acks i ≡ Full u → conflict u t ≡ true → 1 ≤ against acks
+    counted_against : (i : ℕ) (u : Transfer) → ack_at acks i ≡ Some u → conflict u t ≡ true → 1 ≤ against acks
     counted_against i u at c =
         let here : bit (conflicts t (ack_at acks i)) ≡ 1 = rw (at, c) in
         omega (arith, here, sum_at_least (λ a. bit (conflicts t a.slot)) acks i none (inside acks i u at))
@@ -77,9 +77,9 @@ module _ (t : Transfer) where
         unequal_one = some_counted (λ a. conflicts t a.slot) acks none other
 
         go : (s : Slot) → ack_at acks equal_one.0 ≡ s → (r : Slot) → ack_at acks unequal_one.0 ≡ r → TwoConflict acks
-        go Empty e r f = impossible (let z : false ≡ true = rw e at equal_one.1 in cc)
-        go (Full v) e Empty f = impossible (let z : false ≡ true = rw f at unequal_one.1 in cc)
-        go (Full v) e (Full u) f =
+        go None e r f = impossible (let z : false ≡ true = rw e at equal_one.1 in cc)
+        go (Some v) e None f = impossible (let z : false ≡ true = rw f at unequal_one.1 in cc)
+        go (Some v) e (Some u) f =
             let same : equal v t ≡ true = rw e at equal_one.1 in
             let apart : conflict u t ≡ true = rw f at unequal_one.1 in
             record {

@@ -1,4 +1,5 @@
 -- What the loop over the seats knows of its tally: it is that of the places before `i`, and at the end the whole one.
+use Rattle.std.specs.Prelude.{Some, None, is_some}
 use Prim.Native.Nat.{ℕ, suc, ◌+◌, ◌-◌, ◌≤◌, ◌<◌}
 use native.Mathlib.Nat.{add-zero, zero-add}
 use native.Mathlib.Numerals.{add-one}
@@ -10,12 +11,11 @@ use lib.ListN.{length, take, set, replicate, length-map, length-append}
 use lib.Seq.{set_at, take_at, append_snoc}
 use Rattle.model.specs.declared.Seat.{Seat}
 use Rattle.model.specs.declared.Transfer.{Transfer}
-use Rattle.model.specs.declared.Slot.{Slot}
-use Rattle.model.specs.declared.Slot.TheVariants.{Empty, Full}
+use Rattle.model.specs.Types.{Slot}
 use Rattle.model.specs.Types.{AckSlot}
 use Rattle.model.specs.Basics.{bit, all_where}
 use Rattle.model.specs.Records.{seat_of}
-use Rattle.model.specs.Acks.{ack_at, holds, is_full, acks_for}
+use Rattle.model.specs.Acks.{ack_at, holds, acks_for}
 use Rattle.model.specs.Gathering.{has_acked, gathered, ExactlyGathered}
 use Rattle.laws.proofs.Sums.{impossible}
 use Rattle.laws.proofs.Searches.{alone, all_more, all_few}
@@ -55,9 +55,9 @@ pub tally_exactly : (t : Transfer) (acks : List AckSlot) (y : Tally) → y ≡ t
 tally_exactly t acks y is = rw (is, tally_gathered t acks) (gathered_exactly t acks)
 
 -- a place with no ack leaves the tally as it is
-pub counted_none : (y : Tally) (u : Transfer) (p : Seat) (s : Slot) → is_full s ≡ false → y ≡ counted y u p s
-counted_none y u p Empty e = rw (add-zero y.equal, add-zero y.recorded)
-counted_none y u p (Full v) e = impossible (cc)
+pub counted_none : (y : Tally) (u : Transfer) (p : Seat) (s : Slot) → is_some s ≡ false → y ≡ counted y u p s
+counted_none y u p None e = rw (add-zero y.equal, add-zero y.recorded)
+counted_none y u p (Some v) e = impossible (cc)
 
 module _ (t : Transfer) (acks : List AckSlot) where
   -- the seats before i whose ack equals the slip
@@ -68,7 +68,7 @@ module _ (t : Transfer) (acks : List AckSlot) where
   pub record SoFar (i : ℕ) (y : Tally) : Type 0 where
     pub seats : y.gathered ≡ in_array (before i)
     pub number : y.equal ≡ length (before i)
-    pub recorded : Counts (λ a. is_full a.slot) acks i y.recorded
+    pub recorded : Counts (λ a. is_some a.slot) acks i y.recorded
 
   pub gathers_none : SoFar 0 (record { gathered = replicate 16 (seat_of 0); equal = 0; recorded = 0 })
   gathers_none = record { seats = refl; number = refl; recorded = counts_none }
@@ -81,7 +81,7 @@ module _ (t : Transfer) (acks : List AckSlot) where
     gathers_few = (omega (arith, so_far.number, all_few (has_acked t acks) i 0), so_far.recorded.few)
 
     pub gathers_more : (u : Transfer) (s : Slot) (next : Tally) → i < 16 → i < length acks → holds u s ≡ holds t (ack_at acks i)
-        → is_full s ≡ is_full (ack_at acks i) → next ≡ counted y u (seat_of i) s → SoFar (i + 1) next
+        → is_some s ≡ is_some (ack_at acks i) → next ≡ counted y u (seat_of i) s → SoFar (i + 1) next
     gathers_more u s next below inside held full is =
         rw (is, held, full)
         (record {
@@ -89,7 +89,7 @@ module _ (t : Transfer) (acks : List AckSlot) where
               rw (so_far.seats, so_far.number, before_more i)
               (array_more (before i) i (has_acked t acks i) (omega (arith, all_few (has_acked t acks) i 0)));
           number = rw (so_far.number, before_more i) (number_more (before i) i (has_acked t acks i));
-          recorded = counts_more (record { slot = Empty }) inside so_far.recorded;
+          recorded = counts_more (record { slot = None }) inside so_far.recorded;
         })
 
     pub gathers_all : i ≡ length acks → y ≡ tally_of t acks

@@ -1,11 +1,11 @@
 -- A slip that is of its account's next number is compared as it is.
+use Rattle.std.specs.Prelude.{Some, None}
 use Prim.Native.Nat.{ℕ, ◌+◌, ◌<◌}
 use mathlib.Core.Path.{◌≡◌, refl, ap, ◌∙◌}
 use mathlib.Core.Bool.{true}
 use mathlib.Core.List.{List}
 use Rattle.model.specs.declared.Transfer.{Transfer}
-use Rattle.model.specs.declared.Slot.{Slot}
-use Rattle.model.specs.declared.Slot.TheVariants.{Empty, Full}
+use Rattle.model.specs.Types.{Slot}
 use Rattle.model.specs.Types.{AckSlot, Entry}
 use Rattle.model.specs.Acks.{ack_at, holds, acks_for, most_acked}
 use Rattle.laws.proofs.Sums.{impossible, some_counted}
@@ -32,11 +32,11 @@ most_next ws t r inside next some is = is ∙ own (ack_at acks found.0) refl fou
     acks = (entry_in ws t.account).acks
 
     found : (i : ℕ) × (holds t (ack_at acks i) ≡ true)
-    found = some_counted (λ a. holds t a.slot) acks (record { slot = Empty }) some
+    found = some_counted (λ a. holds t a.slot) acks (record { slot = None }) some
 
     own : (p : Slot) → ack_at acks found.0 ≡ p → holds t p ≡ true → with_number (most_acked acks) t.number ≡ most_acked acks
-    own Empty at h = impossible (cc)
-    own (Full u) at h =
+    own None at h = impossible (cc)
+    own (Some u) at h =
         let first = first_of_most acks found.0 u at in
         let of = ack_of_next ws t.account (record { 0 = first.seat }) (most_acked acks) inside first.acked in
         rw (next, ← of.1)

@@ -13,7 +13,7 @@ use denote.Enum.Laws as EL
 use denote.Struct.Laws as LL
 use Rattle.model.specs.declared.Seat.{Seat}
 use Rattle.model.specs.declared.Transfer.{Transfer}
-use Rattle.model.specs.declared.Slot.{Slot}
+use Rattle.model.specs.Types.{Slot}
 use Rattle.model.specs.contracts.Seat as P
 use Rattle.model.proofs.Seat.TheLaws as P'
 use Rattle.model.specs.contracts.Transfer as X

@@ -1,14 +1,13 @@
 -- The running tally of one number, given by the model's definitions.
-use Rattle.std.specs.Prelude.{ℕ, ◌+◌, ◌-◌, ◌<◌, ◌≡◌, Bool, cond, not, ◌&&◌, List, ◌++◌, map, leb, ltb, length, take, set, replicate}
+use Rattle.std.specs.Prelude.{ℕ, ◌+◌, ◌-◌, ◌<◌, ◌≡◌, Bool, cond, not, ◌&&◌, List, ◌++◌, map, leb, ltb, length, take, set, replicate, Some, None, is_some}
 use Rattle.model.specs.declared.Seat.{Seat}
 use Rattle.model.specs.declared.Account.{Account}
 use Rattle.model.specs.declared.Transfer.{Transfer}
-use Rattle.model.specs.declared.Slot.{Slot}
-use Rattle.model.specs.declared.Slot.TheVariants.{Empty, Full}
+use Rattle.model.specs.Types.{Slot}
 use Rattle.model.specs.Types.{AckSlot, Entry}
 use Rattle.model.specs.Basics.{bit}
 use Rattle.model.specs.Records.{seat_of}
-use Rattle.model.specs.Acks.{holds, is_full, acks_for, acks_recorded, must_propose}
+use Rattle.model.specs.Acks.{holds, acks_for, acks_recorded, must_propose}
 use Rattle.model.specs.Gathering.{gathered, ExactlyGathered}
 use Rattle.layout.specs.Layout.{ledger_in, entry_in}
 use Rattle.store.specs.Stores.{with_number}
@@ -29,7 +28,7 @@ counted y t p s =
     record {
       gathered = cond (holds t s) (set y.gathered y.equal p) y.gathered;
       equal = y.equal + bit (holds t s);
-      recorded = y.recorded + bit (is_full s);
+      recorded = y.recorded + bit (is_some s);
     }
 
 -- a slip as if it were of its account's next number: the places of acks tell no other
@@ -57,6 +56,6 @@ pub record Decides (ws : List ℕ) (a : Account) (y : Tally) (r : Bool) : Type 0
 -- Of the leader so far and the slip in a place, if any, the one with more of the acks; on a tie the leader.
 -- Slips are told with this number.
 abbrev pub leader_of : List AckSlot → ℕ → Leader → Slot → Leader
-leader_of acks number best Empty = best
-leader_of acks number best (Full u) =
+leader_of acks number best None = best
+leader_of acks number best (Some u) =
     cond (ltb best.acks (acks_for u acks)) (record { transfer = with_number u number; acks = acks_for u acks }) best

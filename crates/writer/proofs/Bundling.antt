@@ -1,4 +1,5 @@
 -- The parts of a bundle put together, and what the writer promises for each outcome.
+use Rattle.std.specs.Prelude.{Ok}
 use Prim.Native.Nat.{ℕ, suc, ◌+◌, ◌*◌, ◌≤◌, ◌<◌}
 use native.Mathlib.Omega.{arith}
 use borrow.Author.Tests.{lt-ltb, le-ltb}
@@ -10,9 +11,8 @@ use Rattle.model.specs.declared.Opening.{Opening}
 use Rattle.model.specs.declared.Message.{Message}
 use Rattle.model.specs.declared.Refusal.{Refusal}
 use Rattle.model.specs.declared.Refusal.TheVariants.{TooManyMessages, NoRoom}
-use Rattle.model.specs.declared.WriteReply.{WriteReply}
-use Rattle.model.specs.declared.WriteReply.TheVariants.{Written, WriteRefused}
-use Rattle.model.specs.Replies.{values_of_write}
+use Rattle.model.specs.Types.{BundleReply, refused_at}
+use Rattle.model.specs.Replies.{values_of_bundle}
 use Rattle.model.specs.Bundles.{Page, Fault}
 use Rattle.model.specs.Writing.{number_bytes, page_zero, message_page, pages_of, entry_bytes, entry_for, contents_of, bodies_of, written, write_faults, write_reply, buffer_after}
 use Rattle.laws.proofs.Faults.{fault_told}
@@ -75,31 +75,31 @@ module _ (page : Opening) (messages : List Message) (count : ℕ) (balances : le
 
 -- an answer that is the first fault's, or the length
 module _ {faults : List Fault} {bundle before : List ℕ} where
-  pub wrote : {r : WriteReply} {after : List ℕ} → r ≡ write_reply faults bundle → after ≡ buffer_after r bundle before
-      → ((size : ℕ) → r ≡ Written size → size ≤ longest) → WroteBundle faults bundle before r after
+  pub wrote : {r : BundleReply} {after : List ℕ} → r ≡ write_reply faults bundle → after ≡ buffer_after r bundle before
+      → ((size : ℕ) → r ≡ Ok size → size ≤ longest) → WroteBundle faults bundle before r after
   wrote meets buffer short =
       record {
         meets = meets;
-        told = ap values_of_write meets ∙ fault_told values_of_write WriteRefused (Written (length bundle)) faults;
+        told = ap values_of_bundle meets ∙ fault_told values_of_bundle refused_at (Ok (length bundle)) faults;
         buffer = buffer;
         short = short;
       }
 
   -- a refusal leaves the buffer
-  pub refused : {q : Refusal} {i : ℕ} → WriteRefused q i ≡ write_reply faults bundle → WroteBundle faults bundle before (WriteRefused q i) before
+  pub refused : {q : Refusal} {i : ℕ} → refused_at q i ≡ write_reply faults bundle → WroteBundle faults bundle before (refused_at q i) before
   refused meets = wrote meets refl (λ size e. impossible (cc))
 
 -- the three outcomes, in the order in which the codes are tried
 module _ (count : ℕ) (bundle before : List ℕ) where
-  pub too_many_lem : 999 < count → WroteBundle (write_faults count bundle (length before)) bundle before (WriteRefused TooManyMessages 0) before
+  pub too_many_lem : 999 < count → WroteBundle (write_faults count bundle (length before)) bundle before (refused_at TooManyMessages 0) before
   too_many_lem over = refused (rw (lt-ltb 999 count over))
 
   module _ (few : count ≤ 999) where
-    pub no_room_lem : length before < length bundle → WroteBundle (write_faults count bundle (length before)) bundle before (WriteRefused NoRoom 0) before
+    pub no_room_lem : length before < length bundle → WroteBundle (write_faults count bundle (length before)) bundle before (refused_at NoRoom 0) before
     no_room_lem short = refused (rw (le-ltb 999 count few, lt-ltb (length before) (length bundle) short))
 
     pub all_written : {after : List ℕ} {end : ℕ} → length bundle ≤ length before → Writes before 0 bundle longest after end
-        → WroteBundle (write_faults count bundle (length before)) bundle before (Written end) after
+        → WroteBundle (write_faults count bundle (length before)) bundle before (Ok end) after
     all_written {end = end} room w =
         let filled = whole w room in
         wrote

@@ -1,11 +1,11 @@
 -- One page: what is written of it is read, how long its body is, that its entry is right wherever it
 -- stands, and that all of it is bytes.
+use Rattle.std.specs.Prelude.{Some}
 use Prim.Native.Nat.{ℕ, suc, ◌≤◌, ◌<◌}
 use native.Mathlib.Omega.{arith}
 use mathlib.Core.Path.{◌≡◌, refl, ap, sym, ◌∙◌}
 use mathlib.Core.Bool.{false}
 use mathlib.Core.List.{[], ◌∷◌, ◌++◌, append-nil}
-use mathlib.Core.Option.{some}
 use lib.Dec.{eqb-suc-zero}
 use lib.ListN.{length}
 use borrow.Author.Tests.{eq-eqb}
@@ -28,7 +28,7 @@ transfer_read t fits =
     )
 
 -- a message is read as it was written
-pub message_read : (m : Message) → MessageFits m → message_of (message_page m) ≡ some m
+pub message_read : (m : Message) → MessageFits m → message_of (message_page m) ≡ Some m
 message_read (Request t) fits = rw (transfer_read t fits)
 message_read (Circulated t) fits = rw (transfer_read t fits)
 message_read (Ack s t) fits = rw (transfer_read t fits.1)

@@ -1,10 +1,10 @@
 -- A page of a bundle that is read and written out again is the same page, and what is read fits its types.
+use Rattle.std.specs.Prelude.{Some}
 use Prim.Native.Nat.{ℕ, zero, suc, ◌≤◌, ◌<◌}
 use native.Mathlib.Omega.{arith}
 use mathlib.Core.Path.{◌≡◌, refl, ap, sym, ◌∙◌}
 use mathlib.Core.Bool.{false, not, ◌&&◌}
 use mathlib.Core.List.{List, [], ◌∷◌}
-use mathlib.Core.Option.{some}
 use lib.Dec.{eqb}
 use lib.ListN.{length, get_or, take, drop, length-drop}
 use lib.Seq.{take_all, drop-cons, take-add}
@@ -70,7 +70,7 @@ first_back p k s small size = page_of_parts p k s (opening_back p.body small siz
 
 -- What a page is read as, written, is the page; and it fits.
 pub record PageBack (p : Page) (m : Message) : Type 0 where
-  pub asked : message_of p ≡ some m
+  pub asked : message_of p ≡ Some m
   pub same : message_page m ≡ p
   pub fits : MessageFits m
 

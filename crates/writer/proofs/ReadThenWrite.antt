@@ -1,5 +1,6 @@
 -- A sound bundle is the bundle of its own pages, and each page behind page 0 is that of a message: so written
 -- out again it is the same bytes.
+use Rattle.std.specs.Prelude.{Some, Ok}
 use Prim.Native.Nat.{ℕ, zero, suc, ◌+◌, ◌*◌, ◌-◌, ◌≤◌, ◌<◌}
 use native.Mathlib.Numerals.{add-one}
 use native.Mathlib.Omega.{arith}
@@ -8,12 +9,10 @@ use mathlib.Core.Path.{◌≡◌, refl, ap, sym, ◌∙◌}
 use mathlib.Core.Bool.{true, false, not, ◌&&◌}
 use mathlib.Core.List.{List, [], ◌∷◌, ◌++◌, map}
 use lib.Dec.{eqb, eqb-suc-zero}
-use mathlib.Core.Option.{some}
 use lib.ListN.{length, get_or, take, drop, length-drop, length-map, take-append-drop, drop_of_length-le}
 use lib.Seq.{length-take-le, drop-cons, drop-drop, take-add}
 use Rattle.model.specs.declared.Opening.{Opening}
 use Rattle.model.specs.declared.Message.{Message}
-use Rattle.model.specs.declared.BundleReply.TheVariants.{Sound}
 use Rattle.model.specs.Bundles.{Page, number_at, entry_count, contents_at, body_length, start_at, misplaced, page_at, check_bundle, body_sum, taken, read_next, opening_of, message_of}
 use Rattle.model.specs.Writing.{number_bytes, Bytes, page_zero, message_page, entry_bytes, entry_for, contents_of, bodies_of, bundle_of, written}
 use Rattle.laws.proofs.Numbers.{number_written, dropped_bytes, taken_bytes, joined}
@@ -56,7 +55,7 @@ page_taken : (bytes : List ℕ) (i : ℕ) → i < entry_count bytes → read_nex
 page_taken bytes i inside = rw (lt-ltb i (entry_count bytes) inside)
 
 -- one page has one message
-one_message : {p q : Page} {m n : Message} → p ≡ q → message_of p ≡ some m → message_of q ≡ some n → m ≡ n
+one_message : {p q : Page} {m n : Message} → p ≡ q → message_of p ≡ Some m → message_of q ≡ Some n → m ≡ n
 one_message e r s = let both = sym r ∙ ap message_of e ∙ s in cc
 
 -- read_next is a function: what a reading finds is one list
@@ -76,7 +75,7 @@ read_once bytes o q ms ns r s =
     let page : r.page.0 ≡ s.page.0 = cc (r.page.1, s.page.1) in
     (cc (page, r.page.2, s.page.2), one_from bytes 1 ms ns r.messages s.messages)
 
-module _ (bytes : List ℕ) (m : ℕ) (small : Bytes bytes) (sound : check_bundle bytes ≡ Sound m) where
+module _ (bytes : List ℕ) (m : ℕ) (small : Bytes bytes) (sound : check_bundle bytes ≡ Ok m) where
   -- an entry of a sound bundle is right, and in the bundle,
   module _ (i : ℕ) (inside : i < entry_count bytes) where
     entry_right : wrong_at bytes i ≡ false

@@ -6,7 +6,7 @@ use mathlib.Core.List.{List, [], ◌∷◌, ◌++◌}
 use lib.ListN.{take, replicate}
 use Rattle.model.specs.declared.Message.TheVariants.{Request, Inquiry}
 use Rattle.model.specs.Records.{account_of}
-use Rattle.model.specs.Replies.{values_of_write}
+use Rattle.model.specs.Replies.{values_of_bundle}
 use Rattle.model.specs.Writing.{write_reply}
 use Rattle.model.proofs.Rows.{slip, ack_by}
 use Rattle.writer.specs.RecordLists.{messages_of, record_faults}
@@ -18,7 +18,7 @@ item kind seat = kind ∷ seat ∷ 2 ∷ 1 ∷ 0 ∷ 0 ∷ 0 ∷ 4 ∷ 0 ∷ 0 �
 
 -- the values of the reply, for a bundle of 141 bytes and so much room
 abbrev told : List ℕ → ℕ → List ℕ
-told records room = let bundle : List ℕ = replicate 141 0 in values_of_write (write_reply (record_faults records bundle room) bundle)
+told records room = let bundle : List ℕ = replicate 141 0 in values_of_bundle (write_reply (record_faults records bundle room) bundle)
 
 -- the entry of the lowest wrong record: a kind that is no message's, or a seat where the kind has none
 pub entries_told : (told (item 0 0) 141 ≡ 14 ∷ 1 ∷ [])

@@ -1,4 +1,5 @@
 -- Records: what the loop that reads them knows at each turn, and what the writer promises for each outcome.
+use Rattle.std.specs.Prelude.{Some, None}
 use Prim.Native.Nat.{ℕ, suc, ◌+◌, ◌-◌, ◌%◌, ◌≤◌, ◌<◌}
 use native.Mathlib.Nat.{sub-zero}
 use native.Mathlib.Numerals.{add-one}
@@ -7,13 +8,11 @@ use borrow.Author.Tests.{lt-ltb, le-ltb, eq-eqb, ne_eqb}
 use mathlib.Core.Path.{◌≡◌, ap, sym, ◌∙◌}
 use mathlib.Core.Logic.{◌≢◌}
 use mathlib.Core.List.{List, ◌++◌, append-nil}
-use mathlib.Core.Option.{none, some}
 use lib.ListN.{length, take, set, length-set}
 use lib.Seq.{take-suc-set, append_snoc}
 use Rattle.model.specs.declared.Opening.{Opening}
 use Rattle.model.specs.declared.Message.{Message}
-use Rattle.model.specs.declared.WriteReply.{WriteReply}
-use Rattle.model.specs.declared.WriteReply.TheVariants.{WriteRefused}
+use Rattle.model.specs.Types.{BundleReply, refused_at}
 use Rattle.model.specs.declared.Refusal.TheVariants.{BadContents, BadEnd, TooManyMessages}
 use Rattle.model.specs.Writing.{written, write_faults}
 use Rattle.writer.specs.Promises.{WroteBundle, WroteList, WroteRecords}
@@ -51,22 +50,22 @@ module _ {records : List ℕ} {count : ℕ} {messages : List Message} {i : ℕ} 
 -- the outcomes before the writer itself is asked, in their order
 module _ (records bundle before : List ℕ) where
   pub records_too_many : 999 < record_count records
-      → WroteBundle (record_faults records bundle (length before)) bundle before (WriteRefused TooManyMessages 0) before
+      → WroteBundle (record_faults records bundle (length before)) bundle before (refused_at TooManyMessages 0) before
   records_too_many over = refused (rw (lt-ltb 999 (record_count records) over))
 
   module _ (few : record_count records ≤ 999) where
-    pub record_wrong : {i : ℕ} → first_wrong records ≡ some i
-        → WroteBundle (record_faults records bundle (length before)) bundle before (WriteRefused BadContents (i + 1)) before
+    pub record_wrong : {i : ℕ} → first_wrong records ≡ Some i
+        → WroteBundle (record_faults records bundle (length before)) bundle before (refused_at BadContents (i + 1)) before
     record_wrong {i} wrong = refused (rw (le-ltb 999 (record_count records) few, wrong, add-one i))
 
-    module _ (right : first_wrong records ≡ none) where
+    module _ (right : first_wrong records ≡ None) where
       pub last_wrong : length records % 12 ≢ 0
-          → WroteBundle (record_faults records bundle (length before)) bundle before (WriteRefused BadEnd 0) before
+          → WroteBundle (record_faults records bundle (length before)) bundle before (refused_at BadEnd 0) before
       last_wrong piece =
           refused (rw (le-ltb 999 (record_count records) few, right, ne_eqb (length records % 12) 0 piece))
 
       -- then only 19 is left, as it is for the writer
-      only_room : {r : WriteReply} {after : List ℕ} → length records % 12 ≡ 0
+      only_room : {r : BundleReply} {after : List ℕ} → length records % 12 ≡ 0
           → WroteBundle (write_faults (record_count records) bundle (length before)) bundle before r after
           → WroteBundle (record_faults records bundle (length before)) bundle before r after
       only_room whole w =
@@ -74,8 +73,8 @@ module _ (records bundle before : List ℕ) where
           wrote (w.meets ∙ rw (test, right, eq-eqb (length records % 12) 0 whole)) w.buffer w.short
 
 -- where no record is at fault, the writer is asked for a list that begins with their messages
-pub records_written : (page : Opening) (records before : List ℕ) (messages : List Message) {r : WriteReply} {after : List ℕ}
-    → record_count records ≤ 999 → first_wrong records ≡ none → length records % 12 ≡ 0
+pub records_written : (page : Opening) (records before : List ℕ) (messages : List Message) {r : BundleReply} {after : List ℕ}
+    → record_count records ≤ 999 → first_wrong records ≡ None → length records % 12 ≡ 0
     → take (record_count records) messages ≡ messages_of records
     → WroteList page messages (record_count records) before r after → WroteRecords page records before r after
 records_written page records before messages few right whole same w =

@@ -1,5 +1,6 @@
 -- The first round trip: what is written is sound, and read, it is the page and the list. The statement is
 -- `WriteThenRead` in specs/RoundTrips.antt.
+use Rattle.std.specs.Prelude.{None, Ok}
 use Prim.Native.Nat.{ℕ, suc, ◌+◌, ◌*◌, ◌≤◌, ◌<◌}
 use native.Mathlib.Nat.{zero-add}
 use native.Mathlib.Numerals.{add-one}
@@ -7,14 +8,12 @@ use native.Mathlib.Omega.{arith}
 use mathlib.Core.Path.{◌≡◌, refl, ap, sym, ◌∙◌}
 use mathlib.Core.Bool.{false}
 use mathlib.Core.List.{List, [], ◌∷◌, ◌++◌, map}
-use mathlib.Core.Option.{none}
 use lib.ListN.{length, get_or, drop, length-append, length-map}
 use lib.Seq.{drop-drop, drop_at, drop-append_seam, take-append_seam, get_or-drop}
 use borrow.Author.Tests.{lt-ltb, le-ltb, eq-eqb}
 use Rattle.model.specs.declared.Opening.{Opening}
 use Rattle.model.specs.declared.Message.{Message}
 use Rattle.model.specs.declared.ContentsEntry.{ContentsEntry}
-use Rattle.model.specs.declared.BundleReply.TheVariants.{Sound}
 use Rattle.model.specs.Basics.{first_where}
 use Rattle.model.specs.Bundles.{number_at, entry_count, contents_at, start_at, body_length, body_sum, Page, page_of, page_at, wrong_entry, bad_header, first_bad_entry, bad_end, wrong_sum_at, first_bad_sum, check_bundle, opening_of, message_of}
 use Rattle.model.specs.Writing.{number_bytes, Bytes, page_zero, message_page, pages_of, entry_bytes, entry_for, contents_of, bodies_of, bundle_of, written}
@@ -97,8 +96,8 @@ messages_right (m ∷ ms) i = (message_right m i, messages_right ms (suc i))
 
 -- What the check finds from a place on: no wrong entry, no wrong sum, and where the last body ends.
 record Checks (bytes : List ℕ) (i s : ℕ) (ps : List Page) : Type 0 where
-  pub entries : first_where (wrong_at bytes) (length ps) i ≡ none
-  pub sums : first_where (wrong_sum_at bytes) (length ps) i ≡ none
+  pub entries : first_where (wrong_at bytes) (length ps) i ≡ None
+  pub sums : first_where (wrong_sum_at bytes) (length ps) i ≡ None
   pub end : start_at bytes (i + length ps) ≡ s + length (bodies_of ps)
 
 checks : {bytes after : List ℕ} {i s : ℕ} (ps : List Page) → Here bytes after i s ps → AllRight i ps → s + length (bodies_of ps) < 65_536
@@ -149,11 +148,11 @@ module _ (bytes : List ℕ) (ps : List Page) (count : entry_count bytes ≡ leng
   end_right : bad_end bytes ≡ false
   end_right = rw (count, eq-eqb (length bytes) (start_at bytes (length ps)) (size ∙ sym (rw zero-add at found.end)))
 
-  pages_sound : check_bundle bytes ≡ Sound (length ps)
+  pages_sound : check_bundle bytes ≡ Ok (length ps)
   unfolding check_bundle
   pages_sound =
-      let entries : first_bad_entry bytes ≡ none = rw count found.entries in
-      let sums : first_bad_sum bytes ≡ none = rw count found.sums in
+      let entries : first_bad_entry bytes ≡ None = rw count found.entries in
+      let sums : first_bad_sum bytes ≡ None = rw count found.sums in
       rw (header_right, entries, end_right, sums, count)
 
 -- The bundle of pages.

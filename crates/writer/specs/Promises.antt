@@ -1,10 +1,9 @@
 -- What the writer promises.
-use Rattle.std.specs.Prelude.{ℕ, suc, ◌+◌, ◌*◌, ◌≤◌, ◌≡◌, List, length, take}
+use Rattle.std.specs.Prelude.{ℕ, suc, ◌+◌, ◌*◌, ◌≤◌, ◌≡◌, List, length, take, Ok}
 use Rattle.model.specs.declared.Opening.{Opening}
 use Rattle.model.specs.declared.Message.{Message}
-use Rattle.model.specs.declared.WriteReply.{WriteReply}
-use Rattle.model.specs.declared.WriteReply.TheVariants.{Written}
-use Rattle.model.specs.Replies.{values_of_write}
+use Rattle.model.specs.Types.{BundleReply}
+use Rattle.model.specs.Replies.{values_of_bundle}
 use Rattle.model.specs.Bundles.{body_length, Fault, fault_values}
 use Rattle.model.specs.Writing.{written, write_faults, write_reply, buffer_after}
 use Rattle.bundle.specs.Promises.{longest}
@@ -12,20 +11,20 @@ use Rattle.writer.specs.RecordLists.{messages_of, record_faults}
 
 -- A bundle that is to be written, and what may be at fault: the answer, the document's number and values of it, and the
 -- buffer after it. A length that is replied is no longer than the longest bundle.
-pub record WroteBundle (faults : List Fault) (bundle before : List ℕ) (r : WriteReply) (after : List ℕ) : Type 0 where
+pub record WroteBundle (faults : List Fault) (bundle before : List ℕ) (r : BundleReply) (after : List ℕ) : Type 0 where
   pub meets : r ≡ write_reply faults bundle
-  pub told : values_of_write r ≡ fault_values (length bundle) faults
+  pub told : values_of_bundle r ≡ fault_values (length bundle) faults
   pub buffer : after ≡ buffer_after r bundle before
-  pub short : (size : ℕ) → r ≡ Written size → size ≤ longest
+  pub short : (size : ℕ) → r ≡ Ok size → size ≤ longest
 
 -- The first `count` messages of a list that has 999.
-abbrev pub WroteList : Opening → List Message → ℕ → List ℕ → WriteReply → List ℕ → Type 0
+abbrev pub WroteList : Opening → List Message → ℕ → List ℕ → BundleReply → List ℕ → Type 0
 WroteList page messages count before r after =
     let bundle = written page (take count messages) in
     WroteBundle (write_faults count bundle (length before)) bundle before r after
 
 -- The messages of records.
-abbrev pub WroteRecords : Opening → List ℕ → List ℕ → WriteReply → List ℕ → Type 0
+abbrev pub WroteRecords : Opening → List ℕ → List ℕ → BundleReply → List ℕ → Type 0
 WroteRecords page records before r after =
     let bundle = written page (messages_of records) in
     WroteBundle (record_faults records bundle (length before)) bundle before r after

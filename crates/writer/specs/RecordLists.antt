@@ -1,7 +1,6 @@
 -- Messages as a host gives them: fixed records of 12 bytes, kind (1), seat (1), body (10). Of a question's body the
 -- account is read and the rest is not.
-use Rattle.std.specs.Prelude.{ℕ, zero, suc, ◌+◌, ◌*◌, ◌/◌, ◌%◌, Bool, not, List, [], ◌∷◌, eqb, length, get_or, take, drop}
-use Rattle.std.proofs.Math.Option.{Option, none, some}
+use Rattle.std.specs.Prelude.{ℕ, zero, suc, ◌+◌, ◌*◌, ◌/◌, ◌%◌, Bool, not, List, [], ◌∷◌, eqb, length, get_or, take, drop, Option, Some, None}
 use Rattle.model.specs.declared.Message.{Message}
 use Rattle.model.specs.declared.Refusal.TheVariants.{BadContents, BadEnd}
 use Rattle.model.specs.Basics.{first_where}
@@ -26,8 +25,8 @@ wrong_record records i = wrong_page 1 (record_page records i)
 
 -- record i has entry i + 1, behind the opening page's
 abbrev pub behind_page : Option ℕ → Option ℕ
-behind_page none = none
-behind_page (some i) = some (suc i)
+behind_page None = None
+behind_page (Some i) = Some (suc i)
 
 -- the lowest record that is wrong
 abbrev pub first_wrong : List ℕ → Option ℕ

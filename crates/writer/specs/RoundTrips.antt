@@ -1,12 +1,10 @@
 -- Document 02, request 1: "Reading the result yields that page and that list. Writing out a bundle that was read
 -- without refusal yields its bytes."
-use Rattle.std.specs.Prelude.{ℕ, suc, ◌+◌, ◌≤◌, ◌<◌, ◌≡◌, List, [], ◌∷◌, length, get_or}
-use Rattle.std.proofs.Math.Option.{some}
+use Rattle.std.specs.Prelude.{ℕ, suc, ◌+◌, ◌≤◌, ◌<◌, ◌≡◌, List, [], ◌∷◌, length, get_or, Some, Ok}
 use Rattle.model.specs.declared.Transfer.{Transfer}
 use Rattle.model.specs.declared.Opening.{Opening}
 use Rattle.model.specs.declared.Message.{Message}
 use Rattle.model.specs.declared.Message.TheVariants.{Request, Circulated, Ack, Decision, Inquiry}
-use Rattle.model.specs.declared.BundleReply.TheVariants.{Sound}
 use Rattle.model.specs.Bundles.{Page, check_bundle, taken, no_more, read_next, opening_of, message_of}
 use Rattle.model.specs.Writing.{Bytes, written}
 use Rattle.bundle.specs.Promises.{longest}
@@ -41,7 +39,7 @@ pub record OpeningFits (o : Opening) : Type 0 where
 abbrev pub ReadsFrom : List ℕ → ℕ → List Message → Type 0
 ReadsFrom bytes i [] = read_next bytes i ≡ no_more i
 ReadsFrom bytes i (m ∷ ms) =
-    (p : Page) × (read_next bytes i ≡ taken p (i + 1)) × (message_of p ≡ some m) × ReadsFrom bytes (i + 1) ms
+    (p : Page) × (read_next bytes i ≡ taken p (i + 1)) × (message_of p ≡ Some m) × ReadsFrom bytes (i + 1) ms
 
 -- A reading of the bundle from its start finds this page, then these messages.
 pub record Reads (bytes : List ℕ) (o : Opening) (ms : List Message) : Type 0 where
@@ -53,7 +51,7 @@ pub record Reads (bytes : List ℕ) (o : Opening) (ms : List Message) : Type 0 w
 pub record ReadsBack (o : Opening) (ms : List Message) : Type 0 where
   pub bytes : Bytes (written o ms)
   pub short : length (written o ms) ≤ longest
-  pub sound : check_bundle (written o ms) ≡ Sound (suc (length ms))
+  pub sound : check_bundle (written o ms) ≡ Ok (suc (length ms))
   pub reads : Reads (written o ms) o ms
 
 -- "Reading the result yields that page and that list."
@@ -72,4 +70,4 @@ pub record WritesBack (bytes : List ℕ) (o : Opening) (ms : List Message) : Typ
 -- "Writing out a bundle that was read without refusal yields its bytes."
 abbrev pub ReadThenWrite : Type 0
 ReadThenWrite =
-    (bytes : List ℕ) (m : ℕ) → Bytes bytes → check_bundle bytes ≡ Sound m → (o : Opening) × (ms : List Message) × WritesBack bytes o ms
+    (bytes : List ℕ) (m : ℕ) → Bytes bytes → check_bundle bytes ≡ Ok m → (o : Opening) × (ms : List Message) × WritesBack bytes o ms

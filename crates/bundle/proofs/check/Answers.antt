@@ -7,26 +7,26 @@ use Rattle.bundle.proofs.check.Goals as goal
 pub returns-then-is_bad_header : goal.returns-then-is_bad_header
 returns-then-is_bad_header c = bad_header_lem _ (sym c.is_bad_header.ensures ∙ c.if-is_bad_header.true)
 
-pub returns-in-Wrong : goal.returns-in-Wrong
-returns-in-Wrong c =
-    bad_contents _ (sym c.is_bad_header.ensures ∙ c.if-is_bad_header.false) (walk_wrong _ _ (sym c.in-Wrong.ensures))
+pub returns-in-Err : goal.returns-in-Err
+returns-in-Err c =
+    bad_contents _ (sym c.is_bad_header.ensures ∙ c.if-is_bad_header.false) (walk_wrong _ _ (sym c.in-Err.ensures))
 
 pub returns-then-bytes-end : goal.returns-then-bytes-end
 returns-then-bytes-end c =
-    let ended = walk_ends _ _ (sym c.in-EndsAt.ensures) in
+    let ended = walk_ends _ _ (sym c.in-Ok.ensures) in
     bad_end_lem _ (sym c.is_bad_header.ensures ∙ c.if-is_bad_header.false) ended.0 (rw (← ended.1, ne_eqb _ _ c.if-bytes-end.true))
 
-pub returns-in-At : goal.returns-in-At
-returns-in-At c =
-    let ended = walk_ends _ _ (sym c.in-EndsAt.ensures) in
+pub returns-in-Some : goal.returns-in-Some
+returns-in-Some c =
+    let ended = walk_ends _ _ (sym c.in-Ok.ensures) in
     bad_sum _ (sym c.is_bad_header.ensures ∙ c.if-is_bad_header.false) ended.0
     (rw (← ended.1, eq-eqb _ _ c.if-bytes-end.false))
-    (search_at _ (sym c.in-At.ensures))
+    (search_at _ (sym c.in-Some.ensures))
 
-pub returns-in-Nowhere : goal.returns-in-Nowhere
-returns-in-Nowhere c =
-    let ended = walk_ends _ _ (sym c.in-EndsAt.ensures) in
+pub returns-in-None : goal.returns-in-None
+returns-in-None c =
+    let ended = walk_ends _ _ (sym c.in-Ok.ensures) in
     rw c.entry_count.ensures
     (sound _ (sym c.is_bad_header.ensures ∙ c.if-is_bad_header.false) ended.0
     (rw (← ended.1, eq-eqb _ _ c.if-bytes-end.false))
-    (search_nowhere _ (sym c.in-Nowhere.ensures)))
+    (search_nowhere _ (sym c.in-None.ensures)))

@@ -21,7 +21,7 @@ after e s t = (holds t (ack_from e s), AckRepeated) ∷ (conflicts t (ack_from e
 
 pub ack_from-a-requires-clause-a_bound : goal.ack_from-a-requires-clause-a_bound
 ack_from-a-requires-clause-a_bound c = (
-  (fits c.args.words.now c.args.t (passed _ (sym c.transfer_check.ensures ∙ c.in-Passed.is))).range.account,
+  (fits c.args.words.now c.args.t (passed _ (sym c.transfer_check.ensures ∙ c.in-Ok.is))).range.account,
   seat_place c.args.words.now c.args.s (rw (← c.seats_of.ensures, lt-leb _ _ c.if-seats_of-s.false)),
 )
 
@@ -31,10 +31,10 @@ returns-then-is_held c =
     let s = c.args.s in
     let t = c.args.t in
     let e = entry_in ws t.account in
-    let fit = fits ws t (passed _ (sym c.transfer_check.ensures ∙ c.in-Passed.is)) in
+    let fit = fits ws t (passed _ (sym c.transfer_check.ensures ∙ c.in-Ok.is)) in
     let recorded = c.ack_from-a.ensures ∙ ack_next ws t.account s fit.range.account t.number fit.next in
     rw (← c.seats_of.ensures, lt-leb _ _ c.if-seats_of-s.false)
-    (passes (transfer_rules (ledger_in ws) e t) (after e s t) _ (sym c.in-Passed.is ∙ c.transfer_check.ensures)
+    (passes (transfer_rules (ledger_in ws) e t) (after e s t) _ (sym c.in-Ok.is ∙ c.transfer_check.ensures)
     (rw (← recorded, ← c.is_held.ensures, c.if-is_held.true)))
 
 pub returns-then-is_against : goal.returns-then-is_against
@@ -43,10 +43,10 @@ returns-then-is_against c =
     let s = c.args.s in
     let t = c.args.t in
     let e = entry_in ws t.account in
-    let fit = fits ws t (passed _ (sym c.transfer_check.ensures ∙ c.in-Passed.is)) in
+    let fit = fits ws t (passed _ (sym c.transfer_check.ensures ∙ c.in-Ok.is)) in
     let recorded = c.ack_from-a.ensures ∙ ack_next ws t.account s fit.range.account t.number fit.next in
     rw (← c.seats_of.ensures, lt-leb _ _ c.if-seats_of-s.false)
-    (passes (transfer_rules (ledger_in ws) e t) (after e s t) _ (sym c.in-Passed.is ∙ c.transfer_check.ensures)
+    (passes (transfer_rules (ledger_in ws) e t) (after e s t) _ (sym c.in-Ok.is ∙ c.transfer_check.ensures)
     (rw (← recorded, ← c.is_held.ensures, c.if-is_held.false, ← c.is_against.ensures, c.if-is_against.true)))
 
 pub returns-else-is_against : goal.returns-else-is_against
@@ -55,8 +55,8 @@ returns-else-is_against c =
     let s = c.args.s in
     let t = c.args.t in
     let e = entry_in ws t.account in
-    let fit = fits ws t (passed _ (sym c.transfer_check.ensures ∙ c.in-Passed.is)) in
+    let fit = fits ws t (passed _ (sym c.transfer_check.ensures ∙ c.in-Ok.is)) in
     let recorded = c.ack_from-a.ensures ∙ ack_next ws t.account s fit.range.account t.number fit.next in
     rw (← c.seats_of.ensures, lt-leb _ _ c.if-seats_of-s.false)
-    (passes (transfer_rules (ledger_in ws) e t) (after e s t) _ (sym c.in-Passed.is ∙ c.transfer_check.ensures)
+    (passes (transfer_rules (ledger_in ws) e t) (after e s t) _ (sym c.in-Ok.is ∙ c.transfer_check.ensures)
     (rw (← recorded, ← c.is_held.ensures, c.if-is_held.false, ← c.is_against.ensures, c.if-is_against.false)))

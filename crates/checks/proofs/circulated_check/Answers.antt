@@ -6,8 +6,8 @@ use Rattle.checks.proofs.circulated_check.Goals as goal
 
 pub is_acked-requires-clause-a_bound : goal.is_acked-requires-clause-a_bound
 is_acked-requires-clause-a_bound c =
-    (offer_fits c.args.words.now c.args.t (passed _ (sym c.offer_check.ensures ∙ c.in-Passed.is))).range.account
+    (offer_fits c.args.words.now c.args.t (passed _ (sym c.offer_check.ensures ∙ c.in-Ok.is))).range.account
 
 pub balance_of-requires-clause-a_bound : goal.balance_of-requires-clause-a_bound
 balance_of-requires-clause-a_bound c =
-    (offer_fits c.args.words.now c.args.t (passed _ (sym c.offer_check.ensures ∙ c.in-Passed.is))).range.account
+    (offer_fits c.args.words.now c.args.t (passed _ (sym c.offer_check.ensures ∙ c.in-Ok.is))).range.account

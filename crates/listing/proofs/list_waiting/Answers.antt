@@ -1,9 +1,9 @@
 -- The loop keeps at the front of the buffer the accounts before `i` at which a slip waits, and behind
 -- them what the buffer held before.
+use Rattle.std.specs.Prelude.{is_some}
 use native.Mathlib.Omega.{arith}
 use mathlib.Core.Path.{◌≡◌, ap, sym, ◌∙◌}
 use lib.ListN.{length}
-use Rattle.model.specs.Acks.{is_full}
 use Rattle.layout.specs.Layout.{ledger_in}
 use Rattle.layout.proofs.Blocks.{entries_length}
 use Rattle.listing.proofs.Waiters.{listed_none, not_listed, listed_same, listed_more, listed_all}
@@ -20,7 +20,7 @@ pub loop-i-preserved : goal.loop-i-preserved
 loop-i-preserved c =
     let at = c.loop-i in
     let l = ledger_in c.args.words.now in
-    let found = c.is_full.ensures ∙ ap is_full c.pending_of-pending.ensures in (
+    let found = c.is_full.ensures ∙ ap is_some c.pending_of-pending.ensures in (
       omega arith,
       elim c.if-is_full.branch [
         | then-is_full w ↦ rw (w.n-is, w.buffer-is) (listed_more l _ _ _ _ at.invariant.1 (sym found ∙ w.if-is_full.true) (omega arith))

@@ -5,14 +5,14 @@ use Rattle.basics.proofs.ReadBack.{passed, failed}
 use Rattle.opening.proofs.Opening.{unrefused, refuses, opens}
 use Rattle.opening.proofs.open_page.Goals as goal
 
-pub returns-in-Failed : goal.returns-in-Failed
-returns-in-Failed c =
-    refuses c.args.words.now c.args.page c.in-Failed.r (failed _ _ (sym (c.open_check.ensures c.sum-total.ensures) ∙ c.in-Failed.is))
+pub returns-in-Err : goal.returns-in-Err
+returns-in-Err c =
+    refuses c.args.words.now c.args.page c.in-Err.r (failed _ _ (sym (c.open_check.ensures c.sum-total.ensures) ∙ c.in-Err.is))
 
-pub returns-in-Passed : goal.returns-in-Passed
-returns-in-Passed c =
+pub returns-in-Ok : goal.returns-in-Ok
+returns-in-Ok c =
     let page = c.args.page in
-    let opened = unrefused page (passed _ (sym (c.open_check.ensures c.sum-total.ensures) ∙ c.in-Passed.is)) in
+    let opened = unrefused page (passed _ (sym (c.open_check.ensures c.sum-total.ensures) ∙ c.in-Ok.is)) in
     let group = opened_group page opened in
     let faults : page.faults ≤ 16 = omega (arith, group.seats_fit, group.few_faults) in
     opens

@@ -1,7 +1,6 @@
 -- The loop's invariant: no entry of the first before `i` has a partner.
-use Rattle.std.proofs.Common.{◌-◌}
+use Rattle.std.proofs.Common.{◌-◌, is_some}
 use Rattle.model.specs.Bundles.{entry_count}
-use Rattle.model.specs.Basics.{is_some}
 use Rattle.model.specs.Joins.{partner_of}
 use Rattle.basics.proofs.Counting.{Searched}
 use Rattle.pairs.proofs.earliest_pair.Given as goal

@@ -1,7 +1,6 @@
 -- The walk begins in the head's bucket, and goes on where the entry at hand makes no pair.
 use Rattle.std.proofs.Common.{◌≡◌, false, refl, ap, sym, arith, eq-eqb, ne_eqb}
 use Rattle.basics.proofs.Counting.{searched_none, searched_found}
-use Rattle.basics.specs.Results.{search_of}
 use Rattle.pairs.specs.Keys.{meets}
 use Rattle.pairs.proofs.Linking.{walk_starts, walk_goes}
 use Rattle.pairs.proofs.first_meeting.Goals.{then-keys-at+else-keys-at-2, else-keys-at}

@@ -1,6 +1,5 @@
 -- An entry that is no ack, or of no seat, has no partner; an ack's is found by the keys.
 use Rattle.std.proofs.Common.{sym, ap, ◌∙◌, arith}
-use Rattle.basics.specs.Results.{search_of}
 use Rattle.pairs.proofs.Keying.{slip_read}
 use Rattle.pairs.proofs.Partners.{is_ack_lem, not_ack, is_seat, not_seat, partner_found}
 use Rattle.pairs.proofs.partner.Goals as goal

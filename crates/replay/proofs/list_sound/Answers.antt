@@ -2,5 +2,5 @@
 use Rattle.replay.proofs.Listing.{list_opened}
 use Rattle.replay.proofs.list_sound.Goals as goal
 
-pub returns-in-Opened : goal.returns-in-Opened
-returns-in-Opened c = list_opened c.args.bytes.now _ _ _ c.open_bundle-reply.ensures c.in-Opened.is c.list_opened.ensures
+pub returns-in-Ok : goal.returns-in-Ok
+returns-in-Ok c = list_opened c.args.bytes.now _ _ _ c.open_bundle-reply.ensures c.in-Ok.is c.list_opened.ensures

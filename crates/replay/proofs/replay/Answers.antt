@@ -6,12 +6,12 @@ use mathlib.Core.Path.{sym, ◌∙◌}
 use borrow.Author.Rules.{rules}
 use Rattle.replay.proofs.replay.Goals as goal
 
-pub returns-in-Sound : goal.returns-in-Sound
-returns-in-Sound c =
-    let sound = sym c.check.ensures.meets ∙ c.in-Sound.is in
+pub returns-in-Ok : goal.returns-in-Ok
+returns-in-Ok c =
+    let sound = sym c.check.ensures.meets ∙ c.in-Ok.is in
     replayed (search rules) (wrote_sound _ sound (sound_count _ _ sound).0 c.replay_sound.ensures)
 
-pub returns-in-BundleRefused : goal.returns-in-BundleRefused
-returns-in-BundleRefused c =
+pub returns-in-Err : goal.returns-in-Err
+returns-in-Err c =
     replayed (search rules)
-    (wrote_refused _ _ _ (sym c.check.ensures.meets ∙ c.in-BundleRefused.is) (rw c.code_of.ensures at c.put_refusal.ensures))
+    (wrote_refused _ _ _ (sym c.check.ensures.meets ∙ c.in-Err.is) (rw c.code_of.ensures at c.put_refusal.ensures))

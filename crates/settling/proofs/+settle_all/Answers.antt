@@ -5,19 +5,19 @@ use Rattle.settling.proofs.Turns.{few_applied, ended, found_inside, one_fewer, w
 use Rattle.settling.proofs.+settle_all.Goals as goal
 
 pub apply_at-requires-clause-a_bound : goal.apply_at-requires-clause-a_bound
-apply_at-requires-clause-a_bound t c = found_inside c.args.words.now c.in-At.a (found _ _ (sym c.lowest_affordable.ensures ∙ c.in-At.is))
+apply_at-requires-clause-a_bound t c = found_inside c.args.words.now c.in-Some.a (found _ _ (sym c.lowest_affordable.ensures ∙ c.in-Some.is))
 
 pub settle_all-rest-requires : goal.settle_all-rest-requires
 settle_all-rest-requires t c =
-    let next = one_fewer c.args.words.now c.in-At.a (found _ _ (sym c.lowest_affordable.ensures ∙ c.in-At.is)) _ c.apply_at.ensures in
+    let next = one_fewer c.args.words.now c.in-Some.a (found _ _ (sym c.lowest_affordable.ensures ∙ c.in-Some.is)) _ c.apply_at.ensures in
     (omega arith, search rules)
 
 pub overflow_add-result : goal.overflow_add-result
 overflow_add-result t c = omega (arith, few_applied _ _ _ c.settle_all-rest.ensures)
 
-pub returns-in-Nothing : goal.returns-in-Nothing
-returns-in-Nothing t c = ended _ (missing _ (sym c.lowest_affordable.ensures ∙ c.in-Nothing.is))
+pub returns-in-None : goal.returns-in-None
+returns-in-None t c = ended _ (missing _ (sym c.lowest_affordable.ensures ∙ c.in-None.is))
 
-pub returns-in-At : goal.returns-in-At
-returns-in-At t c =
-    whole c.args.words.now c.in-At.a (found _ _ (sym c.lowest_affordable.ensures ∙ c.in-At.is)) _ c.apply_at.ensures _ _ c.settle_all-rest.ensures
+pub returns-in-Some : goal.returns-in-Some
+returns-in-Some t c =
+    whole c.args.words.now c.in-Some.a (found _ _ (sym c.lowest_affordable.ensures ∙ c.in-Some.is)) _ c.apply_at.ensures _ _ c.settle_all-rest.ensures

@@ -1,12 +1,10 @@
 -- The invariant: the search has found nothing before `i`, and goes on from there.
-use Rattle.std.proofs.Common.{◌≡◌, ℕ, List, arith}
-use mathlib.Core.Option.{Option, map}
+use Rattle.std.proofs.Common.{◌≡◌, ℕ, List, arith, Option}
 use Rattle.model.specs.Basics.{first_where}
 use Rattle.model.specs.Records.{account_of}
 use Rattle.model.specs.Settling.{lowest_affordable}
 use Rattle.layout.specs.Layout.{ledger_in}
 use Rattle.layout.proofs.Blocks.{entries_length}
-use Rattle.settling.specs.Results.{found_of}
 use Rattle.basics.proofs.Counting.{searched_more, searched_found, searched_all}
 use Rattle.settling.proofs.lowest_affordable.Invariants.{test}
 use Rattle.settling.proofs.lowest_affordable.Goals as goal

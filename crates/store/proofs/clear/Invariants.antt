@@ -6,7 +6,4 @@ use Rattle.store.specs.Stores.{cleared}
 use Rattle.store.proofs.clear.Given as goal
 
 abbrev pub invariant-loop-at : goal.invariant-loop-at
-invariant-loop-at l = (l.from ≤ l.at) × (l.at ≤ l.to) × Changes l.initial.words l.a.0 (cleared (block l.initial.words l.a.0) l.from l.at) l.words
-
-abbrev pub decreases-loop-at : goal.decreases-loop-at
-decreases-loop-at l = l.to - l.at
+invariant-loop-at l = Changes l.initial.words l.a.0 (cleared (block l.initial.words l.a.0) l.from l.at) l.words

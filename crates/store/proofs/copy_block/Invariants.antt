@@ -6,7 +6,4 @@ use Rattle.store.specs.Stores.{copied}
 use Rattle.store.proofs.copy_block.Given as goal
 
 abbrev pub invariant-loop-at : goal.invariant-loop-at
-invariant-loop-at l = (l.at ≤ held_block_words) × Changes l.initial.words l.a.0 (copied (held_block l.held l.a.0) (block l.initial.words l.a.0) l.at) l.words
-
-abbrev pub decreases-loop-at : goal.decreases-loop-at
-decreases-loop-at l = held_block_words - l.at
+invariant-loop-at l = Changes l.initial.words l.a.0 (copied (held_block l.held l.a.0) (block l.initial.words l.a.0) l.at) l.words

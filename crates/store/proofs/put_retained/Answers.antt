@@ -1,9 +1,9 @@
 -- Four words, one after another, are the retained slip, with the mark of its number.
+use Rattle.std.specs.Prelude.{Some}
 use native.Mathlib.Omega.{arith}
 use mathlib.Core.Path.{◌≡◌, subst}
 use mathlib.Core.List.{List}
 use Rattle.model.specs.declared.Transfer.{Transfer}
-use Rattle.model.specs.declared.Slot.TheVariants.{Full}
 use Rattle.model.specs.Types.{Entry}
 use Rattle.model.specs.Records.{with_retained, with_retained_as}
 use Prim.Native.Nat.{ℕ}
@@ -19,7 +19,7 @@ last_word : (ws : List ℕ) (a : ℕ) (w : Block) (at word : ℕ) (after : List 
 last_word ws a w at word after is = subst (λ n. Changes ws a (put w at n) after) is
 
 -- the word of the next number's mark is the entry's
-marked : (w : Block) (t : Transfer) {x : Entry} → x ≡ with_retained_as (entry_by t.account.0 w) (Full t) (mark (w 3))
+marked : (w : Block) (t : Transfer) {x : Entry} → x ≡ with_retained_as (entry_by t.account.0 w) (Some t) (mark (w 3))
     → x ≡ with_retained (entry_by t.account.0 w) t
 unfolding entry_by
 marked w t same = same

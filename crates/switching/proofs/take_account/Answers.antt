@@ -9,15 +9,15 @@ use Rattle.switching.proofs.take_account.Goals as goal
 
 pub put_retained-requires-clause-account_bound : goal.put_retained-requires-clause-account_bound
 put_retained-requires-clause-account_bound c =
-    let own = its_account c.args.words.now _ c.args.a (entry_of (held_in c.args.held.now) c.args.a) (omega arith) c.take_entry.ensures _ c.pending_of-pending.ensures _ c.in-Full.is in
+    let own = its_account c.args.words.now _ c.args.a (entry_of (held_in c.args.held.now) c.args.a) (omega arith) c.take_entry.ensures _ c.pending_of-pending.ensures _ c.in-Some.is in
     omega (arith, ap (λ (b : Account). b.0) own)
 
-pub returns-in-Full : goal.returns-in-Full
-returns-in-Full c =
+pub returns-in-Some : goal.returns-in-Some
+returns-in-Some c =
     slip_waits c.args.words.now _ c.args.a (entry_of (held_in c.args.held.now) c.args.a) (omega arith) c.take_entry.ensures _ c.pending_of-pending.ensures _ _
-    c.in-Full.is c.put_retained.ensures
+    c.in-Some.is c.put_retained.ensures
 
-pub returns-in-Empty : goal.returns-in-Empty
-returns-in-Empty c =
+pub returns-in-None : goal.returns-in-None
+returns-in-None c =
     nothing_waits c.args.words.now _ c.args.a (entry_of (held_in c.args.held.now) c.args.a) (omega arith) c.take_entry.ensures _ c.pending_of-pending.ensures _
-    c.in-Empty.is c.put_none_retained.ensures
+    c.in-None.is c.put_none_retained.ensures

@@ -1,7 +1,7 @@
 -- The invariant: `n` is the count over the places before `i`, and at the end the whole count.
+use Rattle.std.specs.Prelude.{None}
 use native.Mathlib.Omega.{arith}
 use mathlib.Core.Path.{ap, ◌∙◌}
-use Rattle.model.specs.declared.Slot.TheVariants.{Empty}
 use Rattle.model.specs.Records.{seat_of}
 use Rattle.model.specs.Acks.{holds}
 use Rattle.layout.proofs.Entries.{acks_length}
@@ -16,7 +16,7 @@ loop-i-preserved c =
     let ws = c.args.words.now in
     let held = c.is_held.ensures ∙ ap (holds t) c.ack_from-s.ensures ∙ ack_holds ws t.account (seat_of loop.i) (omega arith) t in (
       omega arith,
-      rw (c.plus-n.ensures, held) (counts_more (record { slot = Empty }) (omega (arith, acks_length ws t.account (omega arith))) loop.invariant.1),
+      rw (c.plus-n.ensures, held) (counts_more (record { slot = None }) (omega (arith, acks_length ws t.account (omega arith))) loop.invariant.1),
     )
 
 pub returns : goal.returns

@@ -1,5 +1,6 @@
 -- The ack that was read, told with the number, is the seat's ack, and how many are equal to it is that ack's
 -- count: so the test compares the two.
+use Rattle.std.specs.Prelude.{Some, None}
 use Prim.Native.Nat.{ℕ, ◌+◌, ◌≤◌, ◌<◌}
 use native.Mathlib.Omega.{arith}
 use mathlib.Core.Path.{◌≡◌, refl, ap, ◌∙◌}
@@ -8,8 +9,7 @@ use borrow.Author.Tests.{lt-ltb, le-ltb}
 use Rattle.model.specs.declared.Seat.{Seat}
 use Rattle.model.specs.declared.Account.{Account}
 use Rattle.model.specs.declared.Transfer.{Transfer}
-use Rattle.model.specs.declared.Slot.{Slot}
-use Rattle.model.specs.declared.Slot.TheVariants.{Empty, Full}
+use Rattle.model.specs.Types.{Slot}
 use Rattle.model.specs.Types.{Entry}
 use Rattle.model.specs.Acks.{acks_for}
 use Rattle.model.specs.Refusals.{ack_from}
@@ -31,32 +31,32 @@ module _ (ws : List ℕ) (best : Leader) (a : Account) (number : ℕ) (s : Seat)
   e = entry_in ws a
 
   -- no ack was read, so the seat has none
-  empty : slot ≡ Empty → best ≡ leader_of e.acks number best (ack_from e s)
+  empty : slot ≡ None → best ≡ leader_of e.acks number best (ack_from e s)
   empty none = go (ack_from e s) refl
     where
       go : (p : Slot) → ack_from e s ≡ p → best ≡ leader_of e.acks number best p
-      go Empty is = refl
-      go (Full v) is = impossible (let z : Empty ≡ Full (with_number v number) = rw (none, is) at read in cc)
+      go None is = refl
+      go (Some v) is = impossible (let z : None ≡ Some (with_number v number) = rw (none, is) at read in cc)
 
   -- the seat's ack, of which u is told
   record Told (u : Transfer) : Type 0 where
     pub ack : Transfer
-    pub is : ack_from e s ≡ Full ack
+    pub is : ack_from e s ≡ Some ack
     pub tells : u ≡ with_number ack number
     pub account : ack.account ≡ a
     pub next : ack.number ≡ e.current + 1
 
-  told : (u : Transfer) → slot ≡ Full u → Told u
+  told : (u : Transfer) → slot ≡ Some u → Told u
   told u full = go (ack_from e s) refl
     where
       go : (p : Slot) → ack_from e s ≡ p → Told u
-      go Empty is = impossible (let z : Full u ≡ Empty = rw (full, is) at read in cc)
-      go (Full v) is =
-          let same : Full u ≡ Full (with_number v number) = rw (full, is) at read in
+      go None is = impossible (let z : Some u ≡ None = rw (full, is) at read in cc)
+      go (Some v) is =
+          let same : Some u ≡ Some (with_number v number) = rw (full, is) at read in
           let of = ack_of_next ws a s v inside is in
           record { ack = v; is = is; tells = cc; account = of.0; next = of.1 }
 
-  module _ (u : Transfer) (full : slot ≡ Full u) where
+  module _ (u : Transfer) (full : slot ≡ Some u) where
     account : u.account ≡ a
     account = let x = told u full in ap (λ (t : Transfer). t.account) x.tells ∙ x.account
 
@@ -82,16 +82,16 @@ module _ (ws : List ℕ) (best : Leader) (a : Account) (number : ℕ) (s : Seat)
 
 pub acks_for-acks-requires-clause-account_bound : goal.acks_for-acks-requires-clause-account_bound
 acks_for-acks-requires-clause-account_bound c =
-    rw (account c.args.words.now c.args.best c.args.t.account c.args.t.number c.args.s _ c.requires.account_bound.0 c.ack_from-slot.ensures _ c.in-Full.is) c.requires.account_bound.0
+    rw (account c.args.words.now c.args.best c.args.t.account c.args.t.number c.args.s _ c.requires.account_bound.0 c.ack_from-slot.ensures _ c.in-Some.is) c.requires.account_bound.0
 
-pub returns-in-Empty : goal.returns-in-Empty
-returns-in-Empty c =
-    empty c.args.words.now c.args.best c.args.t.account c.args.t.number c.args.s _ c.requires.account_bound.0 c.ack_from-slot.ensures c.in-Empty.is
+pub returns-in-None : goal.returns-in-None
+returns-in-None c =
+    empty c.args.words.now c.args.best c.args.t.account c.args.t.number c.args.s _ c.requires.account_bound.0 c.ack_from-slot.ensures c.in-None.is
 
 pub returns-then-best-acks : goal.returns-then-best-acks
 returns-then-best-acks c =
-    taken c.args.words.now c.args.best c.args.t.account c.args.t.number c.args.s _ c.requires.account_bound.0 c.ack_from-slot.ensures _ c.in-Full.is _ c.acks_for-acks.ensures (omega (arith, c.if-best-acks.true))
+    taken c.args.words.now c.args.best c.args.t.account c.args.t.number c.args.s _ c.requires.account_bound.0 c.ack_from-slot.ensures _ c.in-Some.is _ c.acks_for-acks.ensures (omega (arith, c.if-best-acks.true))
 
 pub returns-else-best-acks : goal.returns-else-best-acks
 returns-else-best-acks c =
-    kept c.args.words.now c.args.best c.args.t.account c.args.t.number c.args.s _ c.requires.account_bound.0 c.ack_from-slot.ensures _ c.in-Full.is _ c.acks_for-acks.ensures (omega (arith, c.if-best-acks.false))
+    kept c.args.words.now c.args.best c.args.t.account c.args.t.number c.args.s _ c.requires.account_bound.0 c.ack_from-slot.ensures _ c.in-Some.is _ c.acks_for-acks.ensures (omega (arith, c.if-best-acks.false))

@@ -1,8 +1,9 @@
 -- The invariant: `y` is the tally of the seats before `p`, and at the end the whole one.
+use Rattle.std.specs.Prelude.{is_some}
 use native.Mathlib.Omega.{arith}
 use mathlib.Core.Path.{◌≡◌, ap, sym, ◌∙◌}
 use Rattle.model.specs.Records.{seat_of}
-use Rattle.model.specs.Acks.{ack_at, holds, is_full}
+use Rattle.model.specs.Acks.{ack_at, holds}
 use Rattle.layout.specs.Layout.{entry_in}
 use Rattle.layout.proofs.Entries.{acks_length}
 use Rattle.store.proofs.Reading.{full_numbered, ack_holds}
@@ -34,7 +35,7 @@ loop-p-preserved c =
       gathers_more (at_next e t) e.acks loop.p loop.y loop.invariant.1 t s c.if-is_full.y (omega arith)
           (omega (arith, acks_length ws t.account (omega arith)))
           (ap (holds t) c.ack_from-s.ensures ∙ ack_holds ws t.account seat (omega arith) t)
-          (ap is_full c.ack_from-s.ensures ∙ full_numbered t.number (ack_at e.acks loop.p))
+          (ap is_some c.ack_from-s.ensures ∙ full_numbered t.number (ack_at e.acks loop.p))
           next,
     )
 

@@ -1,7 +1,6 @@
 -- The search goes on behind an entry whose sum is right.
 use Rattle.std.proofs.Common.{sym, ap, arith}
 use Rattle.basics.proofs.Counting.{searched_more, searched_found}
-use Rattle.basics.specs.Results.{search_of}
 use Rattle.bundle.proofs.checks.first_wrong_sum.Goals as goal
 
 pub returns-then-is_wrong_sum : goal.returns-then-is_wrong_sum

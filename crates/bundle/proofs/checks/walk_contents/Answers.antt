@@ -1,10 +1,9 @@
 -- What a turn of the walk finds, and what the walk has found behind the last entry.
-use Rattle.std.proofs.Common.{◌≡◌, ℕ, ◌+◌, ◌*◌, ◌<◌, ◌≤◌, Bool, true, false, List, sym, ap, ◌∙◌, add-one, arith}
+use Rattle.std.proofs.Common.{◌≡◌, ℕ, ◌+◌, ◌*◌, ◌<◌, ◌≤◌, Bool, true, false, List, sym, ap, ◌∙◌, add-one, arith, Ok}
 use Rattle.model.specs.declared.ContentsEntry.{ContentsEntry}
 use Rattle.model.specs.Bundles.{entry_count, contents_at, body_length, start_at, wrong_entry}
 use Rattle.basics.proofs.Counting.{searched_none, searched_more, searched_found, searched_all}
 use Rattle.bundle.proofs.Longest.{body_any, wrong_at}
-use Rattle.bundle.specs.declared.checks.Walk.TheVariants.{Wrong, EndsAt}
 use Rattle.bundle.specs.Promises.{walked, walk_of}
 use Rattle.bundle.proofs.checks.walk_contents.Invariants.{Walked}
 use Rattle.bundle.proofs.checks.walk_contents.Goals as goal
@@ -13,10 +12,10 @@ walked_none : (bytes : List ℕ) {m : ℕ} → m ≡ entry_count bytes → Walke
 walked_none bytes e = record { within = omega arith; low = omega arith; starts = omega arith; searched = searched_none _ _ }
 
 module _ (bytes : List ℕ) {start i : ℕ} (w : Walked bytes start i) where
-  walked_all : entry_count bytes ≤ i → EndsAt start ≡ walk_of bytes
+  walked_all : entry_count bytes ≤ i → Ok start ≡ walk_of bytes
   walked_all h =
       let last : i ≡ entry_count bytes = omega arith in
-      ap EndsAt (w.starts ∙ ap (start_at bytes) last) ∙ sym (ap (λ o. walked o (start_at bytes (entry_count bytes))) (searched_all w.searched h))
+      ap Ok (w.starts ∙ ap (start_at bytes) last) ∙ sym (ap (λ o. walked o (start_at bytes (entry_count bytes))) (searched_all w.searched h))
 
   module _ (h : i < entry_count bytes) {c : ContentsEntry} (read : c ≡ contents_at bytes i) {r : Bool} (tested : r ≡ wrong_entry i start c) where
     test_is : r ≡ wrong_at bytes i

@@ -9,13 +9,13 @@ use Rattle.calls.proofs.messages.acknowledge.Goals as goal
 
 pub put_acked-requires-clause-a_bound : goal.put_acked-requires-clause-a_bound
 put_acked-requires-clause-a_bound c =
-    ((circulated_fits c.args.words.now c.args.t (passed _ (sym c.circulated_check.ensures ∙ c.in-Passed.is))).range.account)
+    ((circulated_fits c.args.words.now c.args.t (passed _ (sym c.circulated_check.ensures ∙ c.in-Ok.is))).range.account)
 
-pub returns-in-Failed : goal.returns-in-Failed
-returns-in-Failed c =
-    refused c.args.words.now (Circulated c.args.t) refl _ c.circulated_check.ensures _ c.in-Failed.is
+pub returns-in-Err : goal.returns-in-Err
+returns-in-Err c =
+    refused c.args.words.now (Circulated c.args.t) refl _ c.circulated_check.ensures _ c.in-Err.is
 
-pub returns-in-Passed : goal.returns-in-Passed
-returns-in-Passed c =
-    served c.args.words.now (Circulated c.args.t) refl _ c.circulated_check.ensures _ _ c.in-Passed.is
+pub returns-in-Ok : goal.returns-in-Ok
+returns-in-Ok c =
+    served c.args.words.now (Circulated c.args.t) refl _ c.circulated_check.ensures _ _ c.in-Ok.is
     (record { reply = refl; ledger = c.put_acked.ensures; not_refused = λ code e. impossible (cc) })

@@ -8,13 +8,13 @@ use Rattle.calls.proofs.messages.decide.Goals as goal
 
 pub accept-requires-clause-account_bound : goal.accept-requires-clause-account_bound
 accept-requires-clause-account_bound c =
-    ((fits c.args.words.now c.args.t (passed _ (sym c.transfer_check.ensures ∙ c.in-Passed.is))).range.account)
+    ((fits c.args.words.now c.args.t (passed _ (sym c.transfer_check.ensures ∙ c.in-Ok.is))).range.account)
 
-pub returns-in-Failed : goal.returns-in-Failed
-returns-in-Failed c =
-    refused c.args.words.now (Decision c.args.t) refl _ c.transfer_check.ensures _ c.in-Failed.is
+pub returns-in-Err : goal.returns-in-Err
+returns-in-Err c =
+    refused c.args.words.now (Decision c.args.t) refl _ c.transfer_check.ensures _ c.in-Err.is
 
-pub returns-in-Passed : goal.returns-in-Passed
-returns-in-Passed c =
-    let fit = fits c.args.words.now c.args.t (passed _ (sym c.transfer_check.ensures ∙ c.in-Passed.is)) in
-    served c.args.words.now (Decision c.args.t) refl _ c.transfer_check.ensures _ _ c.in-Passed.is (c.accept.ensures.settled fit.range.value)
+pub returns-in-Ok : goal.returns-in-Ok
+returns-in-Ok c =
+    let fit = fits c.args.words.now c.args.t (passed _ (sym c.transfer_check.ensures ∙ c.in-Ok.is)) in
+    served c.args.words.now (Decision c.args.t) refl _ c.transfer_check.ensures _ _ c.in-Ok.is (c.accept.ensures.settled fit.range.value)

@@ -1,4 +1,5 @@
 -- Refused where there is no such account, else its balance; the words stay as they are.
+use Rattle.std.specs.Prelude.{Ok, Err}
 use mathlib.Core.Path.{refl, ap, sym}
 use borrow.Author.Tests.{le-leb, lt-leb}
 use Rattle.model.specs.declared.Message.TheVariants.{Inquiry}
@@ -7,14 +8,13 @@ use Rattle.model.specs.declared.Reply.TheVariants.{Balance}
 use Rattle.laws.proofs.Sums.{impossible}
 use Rattle.laws.proofs.Access.{with_entry_read}
 use Rattle.layout.specs.Layout.{ledger_in}
-use Rattle.basics.specs.declared.results.Check.TheVariants.{Passed, Failed}
 use Rattle.checks.proofs.Ranges.{account_place}
 use Rattle.calls.proofs.Taking.{refused, served}
 use Rattle.calls.proofs.messages.inquire.Goals as goal
 
 pub returns-then-accounts_of-a : goal.returns-then-accounts_of-a
 returns-then-accounts_of-a c =
-    refused c.args.words.now (Inquiry c.args.a) refl (Failed OutOfRange) (rw (← c.accounts_of.ensures, le-leb _ _ c.if-accounts_of-a.true)) OutOfRange refl
+    refused c.args.words.now (Inquiry c.args.a) refl (Err OutOfRange) (rw (← c.accounts_of.ensures, le-leb _ _ c.if-accounts_of-a.true)) OutOfRange refl
 
 pub balance_of-requires-clause-a_bound : goal.balance_of-requires-clause-a_bound
 balance_of-requires-clause-a_bound c =
@@ -22,5 +22,5 @@ balance_of-requires-clause-a_bound c =
 
 pub returns : goal.returns
 returns c =
-    served c.args.words.now (Inquiry c.args.a) refl Passed (rw (← c.accounts_of.ensures, lt-leb _ _ c.if-accounts_of-a.false)) _ _ refl
+    served c.args.words.now (Inquiry c.args.a) refl Ok tt (rw (← c.accounts_of.ensures, lt-leb _ _ c.if-accounts_of-a.false)) _ _ refl
     (record { reply = ap Balance c.balance_of.ensures; ledger = sym (with_entry_read (ledger_in c.args.words.now) c.args.a); not_refused = λ code e. impossible (cc) })

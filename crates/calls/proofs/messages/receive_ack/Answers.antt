@@ -5,7 +5,7 @@ use Rattle.calls.proofs.messages.receive_ack.Goals as goal
 
 pub put_retained_proposed-requires-clause-a_bound : goal.put_retained_proposed-requires-clause-a_bound
 put_retained_proposed-requires-clause-a_bound c =
-    (late_account c.args.words.now c.args.s c.args.t _ c.late_proposal.ensures _ c.in-Full.is)
+    (late_account c.args.words.now c.args.s c.args.t _ c.late_proposal.ensures _ c.in-Some.is)
 
-pub returns-in-Full : goal.returns-in-Full
-returns-in-Full c = search (rules, proposes_late)
+pub returns-in-Some : goal.returns-in-Some
+returns-in-Some c = search (rules, proposes_late)

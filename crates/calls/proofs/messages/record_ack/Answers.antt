@@ -1,4 +1,5 @@
 -- Refused by its rules; or recorded, and the seats that are gathered decide.
+use Rattle.std.specs.Prelude.{Ok, Err}
 use Prim.Native.Nat.{ℕ, ◌<◌}
 use native.Mathlib.Omega.{arith}
 use mathlib.Core.Path.{◌≡◌, sym, ◌∙◌}
@@ -16,9 +17,7 @@ use Rattle.model.specs.Refusals.{first_refusal}
 use Rattle.model.specs.Calls.{tallied, finished, rules_in}
 use Rattle.layout.specs.Layout.{ledger_in, entry_in}
 use Rattle.layout.proofs.Entries.{acks_length}
-use Rattle.basics.specs.declared.results.Check.{Check}
-use Rattle.basics.specs.declared.results.Check.TheVariants.{Passed, Failed}
-use Rattle.basics.specs.Results.{check_of}
+use Rattle.model.specs.Refusals.{check_of}
 use Rattle.basics.proofs.ReadBack.{passed}
 use Rattle.store.specs.Stores.{AckStored}
 use Rattle.tally.specs.declared.Tally.{Tally}
@@ -31,7 +30,7 @@ use borrow.Author.Rules.{rules}
 use Rattle.calls.proofs.messages.record_ack.Goals as goal
 
 -- the ack passed its rules
-module _ (ws : List ℕ) (s : Seat) (t : Transfer) (q : Check) (q-is : q ≡ check_of (first_refusal (rules_in (ledger_in ws) (Ack s t)))) (ok : q ≡ Passed) where
+module _ (ws : List ℕ) (s : Seat) (t : Transfer) (q : Check) (q-is : q ≡ check_of (first_refusal (rules_in (ledger_in ws) (Ack s t)))) (ok : q ≡ Ok tt) where
   fits : Fits ws t × (s.0 < 16)
   fits = ack_fits ws t s (passed _ (sym q-is ∙ ok))
 
@@ -74,7 +73,7 @@ module _ (ws : List ℕ) (s : Seat) (t : Transfer) (q : Check) (q-is : q ≡ che
 -- the same of the words at the end, whatever was done first: it asks that the ack is recorded in
 -- them and that the tally is theirs
 undecided_in : (ws mid : List ℕ) (s : Seat) (t : Transfer) (y : Tally) (r : Reply) (after : List ℕ) → NotEnough mid t y r after
-    → (q : Check) → q ≡ check_of (first_refusal (rules_in (ledger_in ws) (Ack s t))) → q ≡ Passed
+    → (q : Check) → q ≡ check_of (first_refusal (rules_in (ledger_in ws) (Ack s t))) → q ≡ Ok tt
     → (n f : ℕ) → n ≡ (ledger_in mid).seats → f ≡ (ledger_in mid).faults → (k : Bool) → k ≡ enough n f y.equal → k ≡ false
     → AckStored ws s t mid → y ≡ tally_of (at_next (entry_in mid t.account) t) (entry_in mid t.account).acks
     → NotLate ws s t r after
@@ -83,37 +82,37 @@ undecided_in ws mid s t y r after x q q-is ok n f n-is f-is k k-is few stored ga
 
 -- where a rule refuses the ack, the words stay
 refused_as_it_was : (ws : List ℕ) (s : Seat) (t : Transfer) (q : Check) → q ≡ check_of (first_refusal (rules_in (ledger_in ws) (Ack s t)))
-    → (r : Refusal) → q ≡ Failed r → NotLate ws s t (Refuse r) ws
+    → (r : Refusal) → q ≡ Err r → NotLate ws s t (Refuse r) ws
 refused_as_it_was ws s t q q-is r found = record { answered = λ in_time. refused ws (Ack s t) in_time q q-is r found }
 
 pub put_ack-requires-clause-account_bound : goal.put_ack-requires-clause-account_bound
 put_ack-requires-clause-account_bound c =
-    let fit = fits c.args.words.now c.args.s c.args.t _ c.ack_check.ensures c.in-Passed.is in
+    let fit = fits c.args.words.now c.args.s c.args.t _ c.ack_check.ensures c.in-Ok.is in
     (fit.0.range.account, fit.1)
 
 pub gather-tally-requires-clause-account_bound : goal.gather-tally-requires-clause-account_bound
 gather-tally-requires-clause-account_bound c =
-    (account c.args.words.now c.args.s c.args.t _ c.ack_check.ensures c.in-Passed.is)
+    (account c.args.words.now c.args.s c.args.t _ c.ack_check.ensures c.in-Ok.is)
 
 pub accept-requires-clause-account_bound : goal.accept-requires-clause-account_bound
 accept-requires-clause-account_bound c =
-    (account c.args.words.now c.args.s c.args.t _ c.ack_check.ensures c.in-Passed.is)
+    (account c.args.words.now c.args.s c.args.t _ c.ack_check.ensures c.in-Ok.is)
 
 pub propose_or_note-requires-clause-account_bound : goal.propose_or_note-requires-clause-account_bound
 propose_or_note-requires-clause-account_bound c =
-    (account c.args.words.now c.args.s c.args.t _ c.ack_check.ensures c.in-Passed.is)
+    (account c.args.words.now c.args.s c.args.t _ c.ack_check.ensures c.in-Ok.is)
 
-pub returns-in-Failed : goal.returns-in-Failed
-returns-in-Failed c = search (rules, refused_as_it_was)
+pub returns-in-Err : goal.returns-in-Err
+returns-in-Err c = search (rules, refused_as_it_was)
 
 pub returns-then-is_enough : goal.returns-then-is_enough
 returns-then-is_enough c =
-    accepts c.args.words.now c.args.s c.args.t _ c.ack_check.ensures c.in-Passed.is
+    accepts c.args.words.now c.args.s c.args.t _ c.ack_check.ensures c.in-Ok.is
     _ c.put_ack.ensures _ c.gather-tally.ensures.tally _ _ c.seats_of.ensures c.faults_of.ensures _ c.is_enough.ensures c.if-is_enough.true
     _ _ c.accept.ensures
 
 pub returns-else-is_enough : goal.returns-else-is_enough
 returns-else-is_enough c =
     undecided_in c.args.words.now _ c.args.s c.args.t _ _ _ c.propose_or_note.ensures
-    _ c.ack_check.ensures c.in-Passed.is
+    _ c.ack_check.ensures c.in-Ok.is
     _ _ c.seats_of.ensures c.faults_of.ensures _ c.is_enough.ensures c.if-is_enough.false (search rules) (search rules)

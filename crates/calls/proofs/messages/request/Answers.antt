@@ -7,11 +7,11 @@ use Rattle.layout.specs.Layout.{ledger_in}
 use Rattle.calls.proofs.Taking.{refused, served}
 use Rattle.calls.proofs.messages.request.Goals as goal
 
-pub returns-in-Failed : goal.returns-in-Failed
-returns-in-Failed c =
-    refused c.args.words.now (Request c.args.t) refl _ c.request_check.ensures _ c.in-Failed.is
+pub returns-in-Err : goal.returns-in-Err
+returns-in-Err c =
+    refused c.args.words.now (Request c.args.t) refl _ c.request_check.ensures _ c.in-Err.is
 
-pub returns-in-Passed : goal.returns-in-Passed
-returns-in-Passed c =
-    served c.args.words.now (Request c.args.t) refl _ c.request_check.ensures _ _ c.in-Passed.is
+pub returns-in-Ok : goal.returns-in-Ok
+returns-in-Ok c =
+    served c.args.words.now (Request c.args.t) refl _ c.request_check.ensures _ _ c.in-Ok.is
     (record { reply = refl; ledger = sym (with_entry_read (ledger_in c.args.words.now) c.args.t.account); not_refused = λ code e. impossible (cc) })

@@ -10,8 +10,8 @@ returns c =
     within
     (omega arith)
     (line
-    c.put-values.ensures
+    c.put.ensures
     (carry
-    (narrow _ c.put_value-second.ensures (le_refl _))
-    (carry (carries (_ ∷ []) c.put_value-third.ensures) (carries (_ ∷ []) c.put_value-end.ensures)))
-    c.put.ensures)
+    (narrow _ c.put_value.ensures (le_refl _))
+    (carry (carries (_ ∷ []) c.put_value-2.ensures) (carries (_ ∷ []) c.put_value-3.ensures)))
+    c.put-2.ensures)

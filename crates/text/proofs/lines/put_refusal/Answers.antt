@@ -6,6 +6,6 @@ use Rattle.text.proofs.lines.put_refusal.Goals as goal
 pub returns : goal.returns
 returns c =
     line
-    c.put-values.ensures
-    (carry (carries (_ ∷ []) c.put_value-second.ensures) (carries (_ ∷ []) c.put_value-end.ensures))
     c.put.ensures
+    (carry (carries (_ ∷ []) c.put_value.ensures) (carries (_ ∷ []) c.put_value-2.ensures))
+    c.put-2.ensures

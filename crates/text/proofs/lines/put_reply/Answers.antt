@@ -8,7 +8,7 @@ use Rattle.text.proofs.lines.put_reply.Goals as goal
 
 pub returns : goal.returns
 returns c =
-    let said = rw c.letter_of.ensures at c.put-values.ensures in
-    let carrying = carries (values_of c.args.r) c.put_carried-end.ensures in
-    let rest = line said carrying c.put.ensures in
-    within (omega arith) (then (bounded c.put_decimal-space.ensures (le_refl _)) (then c.put-letter.ensures rest))
+    let said = rw c.letter.ensures at c.put-2.ensures in
+    let carrying = carries (values_of c.args.r) c.put_carried.ensures in
+    let rest = line said carrying c.put-3.ensures in
+    within (omega arith) (then (bounded c.put_decimal.ensures (le_refl _)) (then c.put.ensures rest))

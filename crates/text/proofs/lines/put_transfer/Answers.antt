@@ -8,10 +8,10 @@ pub returns : goal.returns
 returns c =
     let t = c.args.t in
     (carry
-    (narrow t.account.0 c.put_value-number.ensures (three_digits _ (omega arith)))
+    (narrow t.account.0 c.put_value.ensures (three_digits _ (omega arith)))
     (carry
-    (carries (t.number ∷ []) c.put_value-value.ensures)
+    (carries (t.number ∷ []) c.put_value-2.ensures)
     (carry
-    (carries (t.value ∷ []) c.put_value-last.ensures)
-    (narrow t.recipient.0 c.put_value.ensures (three_digits _ (omega arith)))))
+    (carries (t.value ∷ []) c.put_value-3.ensures)
+    (narrow t.recipient.0 c.put_value-4.ensures (three_digits _ (omega arith)))))
     ).writes

@@ -7,7 +7,7 @@ use Rattle.text.proofs.output.+put_decimal.Goals as goal
 pub returns-then-n-lt10 : goal.returns-then-n-lt10
 returns-then-n-lt10 t c = within (omega arith) (instead c.put.ensures (sym (one_digit _ c.if-n-lt10.true)))
 
-pub returns : goal.returns
-returns t c =
-    let both = then c.put_decimal-last.ensures c.put-2.ensures in
+pub returns-else-n-lt10 : goal.returns-else-n-lt10
+returns-else-n-lt10 t c =
+    let both = then c.put_decimal.ensures c.put-else-n-lt10.ensures in
     bounded (instead both (sym (more_digits _ c.if-n-lt10.false))) (ten_digits _ (omega arith))

@@ -1,2 +1,2 @@
--- What the answers of this crate mean.
-pub mod Results
+-- What the kinds of pages mean.
+pub mod Kinds

@@ -12,8 +12,7 @@ pub const BODY_LENGTHS: [usize; 6] = [131, 10, 10, 10, 10, 1];
 pub fn body_length(kind: u8) -> usize
     ensures { result ≡ body_length kind }
 {
-    let i = kind as usize;
-    if i < 6 { BODY_LENGTHS[i] } else { 0 }
+    BODY_LENGTHS.get(kind as usize).copied().unwrap_or(0)
 }
 
 // m, as the first two bytes have it.
@@ -30,7 +29,7 @@ pub fn contents_at(bytes: &[u8], i: u16) -> ContentsEntry
     let at = 2 + 8 * (i as u32);
     ContentsEntry {
         kind: byte_at(bytes, at as usize),
-        seat: byte_at(bytes, (at as usize) + 1),
+        seat: byte_at(bytes, at as usize + 1),
         start: number2_at(bytes, at + 2),
         sum: number4_at(bytes, at + 4),
     }
@@ -38,17 +37,9 @@ pub fn contents_at(bytes: &[u8], i: u16) -> ContentsEntry
 
 // "What a page shows is that body's own bytes in the bundle": a part of the caller's slice. Where the slice ends before
 // the body does, what is there of it.
-pub fn body<'a>(bytes: &'a [u8], c: ContentsEntry) -> &'a [u8]
+pub fn body(bytes: &[u8], c: ContentsEntry) -> &[u8]
     ensures { result.now ≡ (page_of bytes.now c).body }
 {
-    let start = c.start as usize;
-    let size = body_length(c.kind);
-    if bytes.len() <= start {
-        return &bytes[0..0];
-    }
-    if bytes.len() - start < size {
-        return &bytes[start..];
-    }
-    let end = start + size;
-    &bytes[start..end]
+    let rest = bytes.get(c.start as usize..).unwrap_or(&[]);
+    rest.get(..body_length(c.kind)).unwrap_or(rest)
 }

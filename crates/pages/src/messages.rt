@@ -1,30 +1,18 @@
 // What a page holds: an opening, or a message.
 ghost use Rattle.std.specs.Prelude.{◌≡◌};
 ghost use Rattle.model.specs.Bundles.{words_from, opening_of, transfer_of, page_of, message_of};
-ghost use Rattle.pages.specs.Results.{asks};
 
 use crate::contents::body;
+use crate::kinds::Kind;
 use crate::numbers::{byte_at, number4_at};
 use model::{Account, ContentsEntry, Message, Opening, Seat, Transfer};
-
-// The message of a page, if it holds one.
-#[derive(Clone, Copy)]
-pub enum Asked {
-    Nothing,
-    Asks(Message),
-}
+use std::array;
 
 // The balances of an opening page, which stand behind n, f and k.
 fn balances_of(body: &[u8]) -> [u32; 32]
     ensures { result ≡ words_from 32 3 body.now }
 {
-    let mut balances: [u32; 32] = [0; 32];
-    let mut i: u32 = 0;
-    while i < 32 {
-        balances[i as usize] = number4_at(body, 3 + 4 * i);
-        i += 1;
-    }
-    balances
+    array::from_fn(|i| number4_at(body, 3 + 4 * i as u32))
 }
 
 // The opening page that a body holds.
@@ -53,22 +41,23 @@ pub fn transfer_of(body: &[u8]) -> Transfer
 
 // The message that a body holds, by its kind. Kind 0 is the opening page and no message, nor is a kind
 // above 5. The seat is an ack's alone.
-pub fn message_from(kind: u8, seat: u8, body: &[u8]) -> Asked
-    ensures { asks result ≡ message_of (record { kind = kind; seat = seat; body = body.now }) }
+pub fn message_from(kind: u8, seat: u8, body: &[u8]) -> Option<Message>
+    ensures { result ≡ message_of (record { kind = kind; seat = seat; body = body.now }) }
 {
-    match kind {
-        1 => Asked::Asks(Message::Request(transfer_of(body))),
-        2 => Asked::Asks(Message::Circulated(transfer_of(body))),
-        3 => Asked::Asks(Message::Ack(Seat(seat), transfer_of(body))),
-        4 => Asked::Asks(Message::Decision(transfer_of(body))),
-        5 => Asked::Asks(Message::Inquiry(Account(byte_at(body, 0)))),
-        _ => Asked::Nothing,
-    }
+    let message = match Kind::try_from(kind).ok()? {
+        Kind::Opening => return None,
+        Kind::Request => Message::Request(transfer_of(body)),
+        Kind::Circulated => Message::Circulated(transfer_of(body)),
+        Kind::Ack => Message::Ack(Seat(seat), transfer_of(body)),
+        Kind::Decision => Message::Decision(transfer_of(body)),
+        Kind::Inquiry => Message::Inquiry(Account(byte_at(body, 0))),
+    };
+    Some(message)
 }
 
 // The message of an entry's page, if it is one.
-pub fn message_of(bytes: &[u8], c: ContentsEntry) -> Asked
-    ensures { asks result ≡ message_of (page_of bytes.now c) }
+pub fn message_of(bytes: &[u8], c: ContentsEntry) -> Option<Message>
+    ensures { result ≡ message_of (page_of bytes.now c) }
 {
     message_from(c.kind, c.seat, body(bytes, c))
 }

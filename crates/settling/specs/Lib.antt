@@ -1,2 +1,2 @@
--- What the search answers and what settling leaves, by the model's definitions.
+-- What settling leaves, by the model's definitions.
 pub mod Results

@@ -31,14 +31,14 @@ module _ (l : Ledger) (a : Account) where
         let size = ap (λ (n : Ledger). length n.entries) paid ∙ set_entry_length l.entries a (debited (entry_of l a) t) in
         received m (ap (with_entries m) (sym (set_out m.entries t.recipient.0 _ (omega arith))))
 
-pub returns-in-None : goal.returns-in-None
-returns-in-None c = none_waits (ledger_in c.args.words.now) c.args.a (sym c.pending_of-pending.ensures ∙ c.in-None.is)
+pub returns-in_default : goal.returns-in_default
+returns-in_default c = none_waits (ledger_in c.args.words.now) c.args.a (sym c.pending_of.ensures ∙ c.in_default.is)
 
-pub returns-then-to-lt32 : goal.returns-then-to-lt32
-returns-then-to-lt32 c =
-    received (ledger_in c.args.words.now) c.args.a _ (sym c.pending_of-pending.ensures ∙ c.in-Some.is) _ c.debit.ensures _ c.credit.ensures
+pub returns-then-t-lt32 : goal.returns-then-t-lt32
+returns-then-t-lt32 c =
+    received (ledger_in c.args.words.now) c.args.a _ (sym c.pending_of.ensures ∙ c.in-Some.is) _ c.debit.ensures _ c.credit.ensures
 
-pub returns-else-to-lt32 : goal.returns-else-to-lt32
-returns-else-to-lt32 c =
+pub returns-else-t-lt32 : goal.returns-else-t-lt32
+returns-else-t-lt32 c =
     let ws = c.args.words.now in
-    lost (ledger_in ws) c.args.a _ (sym c.pending_of-pending.ensures ∙ c.in-Some.is) _ c.debit.ensures (omega (arith, entries_length ws))
+    lost (ledger_in ws) c.args.a _ (sym c.pending_of.ensures ∙ c.in-Some.is) _ c.debit.ensures (omega (arith, entries_length ws))

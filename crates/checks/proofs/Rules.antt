@@ -1,5 +1,5 @@
 -- Rules tried one list after the other.
-use Rattle.std.specs.Prelude.{Ok, Err}
+use Rattle.std.specs.Prelude.{Result, Ok, Err}
 use mathlib.Core.Path.{◌≡◌, refl}
 use mathlib.Core.Bool.{Bool, true, false}
 use mathlib.Core.List.{List, [], ◌∷◌, ◌++◌}
@@ -9,12 +9,13 @@ use Rattle.laws.proofs.Sums.{impossible}
 use Rattle.model.specs.Refusals.{check_of}
 
 -- where none of the first rules holds, those after them decide
-pub passes : (rules more : List Rule) (q : Check) → Ok tt ≡ check_of (first_refusal rules) → q ≡ check_of (first_refusal more)
-    → q ≡ check_of (first_refusal (rules ++ more))
+pub passes : (rules more : List Rule) (q : Result (Unit {0}) Refusal) → Ok tt ≡ check_of (first_refusal rules)
+    → q ≡ check_of (first_refusal more) → q ≡ check_of (first_refusal (rules ++ more))
 passes [] more q none h = h
 passes (rule ∷ rules) more q none h = go rule.0 refl (λ rest. passes rules more q rest h)
   where
-    go : (b : Bool) → rule.0 ≡ b → (Ok tt ≡ check_of (first_refusal rules) → q ≡ check_of (first_refusal (rules ++ more)))
+    go : (b : Bool) → rule.0 ≡ b
+        → (Ok tt ≡ check_of (first_refusal rules) → q ≡ check_of (first_refusal (rules ++ more)))
         → q ≡ check_of (first_refusal (rule ∷ rules ++ more))
     go true e rest = impossible (let z : Ok tt ≡ Err rule.1 = rw e at none in cc)
     go false e rest = rw e (rest (rw e at none))
@@ -25,7 +26,8 @@ pub fails : (rules more : List Rule) (r : Refusal) → Err r ≡ check_of (first
 fails [] more r found = impossible (cc)
 fails (rule ∷ rules) more r found = go rule.0 refl (fails rules more r)
   where
-    go : (b : Bool) → rule.0 ≡ b → (Err r ≡ check_of (first_refusal rules) → Err r ≡ check_of (first_refusal (rules ++ more)))
+    go : (b : Bool) → rule.0 ≡ b
+        → (Err r ≡ check_of (first_refusal rules) → Err r ≡ check_of (first_refusal (rules ++ more)))
         → Err r ≡ check_of (first_refusal (rule ∷ rules ++ more))
     go true e rest = rw e (rw e at found)
     go false e rest = rw e (rest (rw e at found))

@@ -1,13 +1,15 @@
--- What a request and a circulated transfer meet comes first; then the mark, then the funds.
-use mathlib.Core.Path.{sym, ◌∙◌}
-use Rattle.basics.proofs.ReadBack.{passed}
-use Rattle.checks.proofs.Ranges.{offer_fits}
+-- What a request and a circulated transfer meet comes first.
+use Rattle.std.proofs.Common.{[], ◌∷◌}
+use Rattle.std.proofs.lemmas.Result.{err_from_is_err_and}
+use Rattle.model.specs.declared.Refusal.TheVariants.{AlreadyAcked, InsufficientFunds}
+use Rattle.model.specs.Refusals.{above_balance, offer_rules}
+use Rattle.layout.specs.Layout.{ledger_in, entry_in}
+use Rattle.checks.proofs.Rules.{fails}
 use Rattle.checks.proofs.circulated_check.Goals as goal
 
-pub is_acked-requires-clause-a_bound : goal.is_acked-requires-clause-a_bound
-is_acked-requires-clause-a_bound c =
-    (offer_fits c.args.words.now c.args.t (passed _ (sym c.offer_check.ensures ∙ c.in-Ok.is))).range.account
-
-pub balance_of-requires-clause-a_bound : goal.balance_of-requires-clause-a_bound
-balance_of-requires-clause-a_bound c =
-    (offer_fits c.args.words.now c.args.t (passed _ (sym c.offer_check.ensures ∙ c.in-Ok.is))).range.account
+pub returns-in_err-offer_check : goal.returns-in_err-offer_check
+returns-in_err-offer_check c =
+    let p = err_from_is_err_and c.from_residual.result c.from_residual.ensures.1 in
+    let e = entry_in c.args.words.now c.args.t.account in
+    let more = (e.acked, AlreadyAcked) ∷ (above_balance e c.args.t, InsufficientFunds) ∷ [] in
+    rw (p.1, p.2) (fails (offer_rules (ledger_in c.args.words.now) e c.args.t) more _ c.in_err-offer_check.ensures)

@@ -1,5 +1,5 @@
 // A lent buffer that is written from its front, byte by byte.
-ghost use Rattle.std.specs.Prelude.{[], ◌∷◌};
+ghost use Rattle.std.specs.Prelude.{[], ◌∷◌, length};
 
 // The buffer, and how much of its front is written.
 #[derive(Drop)]
@@ -27,6 +27,15 @@ impl<'a> Output<'a> {
         if self.filled < self.buffer.len() {
             self.buffer[self.filled] = b;
             self.filled += 1;
+        }
+    }
+
+    // Bytes, one behind another.
+    pub fn put_all(&mut self, bytes: &[u8])
+        ensures { Appends self.old bytes.now (length bytes.now) self.new }
+    {
+        for b in bytes {
+            self.put(*b);
         }
     }
 }

@@ -1,6 +1,5 @@
-// The text that `daybook` writes, line by line, into a lent buffer: numbers in decimal, the line of a
-// reply, of a refused bundle and of an account. Each function writes at a place of the buffer and replies
-// the place behind what it wrote.
+// The text that `daybook` writes, line by line, into a lent buffer: numbers in decimal, the line of a reply, of a
+// refused bundle and of an account.
 
 #![tactic(auto)]
 

@@ -1,21 +1,26 @@
 -- Accounts at opening, stored one after another where the ledger lies.
-use Prim.Native.Nat.{ℕ, ◌+◌, ◌≤◌, ◌<◌}
+use Prim.Native.Nat.{ℕ, ◌+◌, ◌<◌}
 use mathlib.Core.Path.{◌≡◌, sym, ◌∙◌}
 use mathlib.Core.List.{List, map}
 use lib.ListN.{length, get_or, length-map, get_or-map}
 use Rattle.model.specs.declared.Account.{Account}
-use Rattle.model.specs.Types.{Ledger}
-use Rattle.model.specs.Records.{account_of, fresh_entry, with_balance, with_booked, with_none_retained, with_entries, entry_of, with_entry}
+use Rattle.model.specs.Records.{account_of, fresh_entry, with_balance, with_booked, with_none_retained, entry_of, with_entry}
 use Rattle.laws.proofs.Access.{with_entry_again}
-use Rattle.layout.specs.Layout.{ledger_in}
-use Rattle.store.proofs.Entering.{Entered, none_entered, one_entered, all_entered}
+use native.Mathlib.Omega.{arith}
+use Rattle.layout.specs.Layout.{ledger_in, entry_in}
+use Rattle.layout.proofs.Blocks.{entries_length}
+use Rattle.store.proofs.Entering.{Entered, none_entered, one_entered}
 
--- an entry that was booked at 0, retains nothing and was given a balance is one at opening
-pub fresh_put : (l booked mid after : Ledger) (a : Account) (b : ℕ) → a.0 < length l.entries
-    → booked ≡ with_entry l a (with_booked (entry_of l a) 0) → mid ≡ with_entry booked a (with_none_retained (entry_of booked a))
-    → after ≡ with_entry mid a (with_balance (entry_of mid a) b) → after ≡ with_entry l a (fresh_entry b)
-fresh_put l booked mid after a b h first second third =
-    let bare : mid ≡ with_entry l a (with_none_retained (with_booked (entry_of l a) 0)) =
+-- an account that was booked at 0, retains nothing and was given a balance is one at opening
+pub fresh_put : (before booked mid after : List ℕ) (a : Account) (b : ℕ) → a.0 < 32
+    → ledger_in booked ≡ with_entry (ledger_in before) a (with_booked (entry_in before a) 0)
+    → ledger_in mid ≡ with_entry (ledger_in booked) a (with_none_retained (entry_in booked a))
+    → ledger_in after ≡ with_entry (ledger_in mid) a (with_balance (entry_in mid a) b)
+    → ledger_in after ≡ with_entry (ledger_in before) a (fresh_entry b)
+fresh_put before booked mid after a b inside first second third =
+    let l = ledger_in before in
+    let h : a.0 < length l.entries = omega (arith, entries_length before) in
+    let bare : ledger_in mid ≡ with_entry l a (with_none_retained (with_booked (entry_of l a) 0)) =
     second ∙ rw first (with_entry_again l a (with_booked (entry_of l a) 0) with_none_retained h) in
     third ∙ rw bare (with_entry_again l a (with_none_retained (with_booked (entry_of l a) 0)) (λ e. with_balance e b) h)
 
@@ -33,10 +38,8 @@ module _ (before balances : List ℕ) (count : length balances ≡ 32) where
 
   module _ (now : List ℕ) (i : ℕ) (f : Freshened before balances now i) where
     pub one_fresh : (after : List ℕ) → i < 32 → length after ≡ length now
-        → ledger_in after ≡ with_entry (ledger_in now) (account_of i) (fresh_entry (get_or balances i 0)) → Freshened before balances after (i + 1)
+        → ledger_in after ≡ with_entry (ledger_in now) (account_of i) (fresh_entry (get_or balances i 0))
+        → Freshened before balances after (i + 1)
     one_fresh after h same is =
         one_entered before (map fresh_entry balances) wanted now i f after (fresh_entry (get_or balances i 0)) h same
         (sym (get_or-map fresh_entry balances i 0)) is
-
-    pub all_fresh : 32 ≤ i → ledger_in now ≡ with_entries (ledger_in before) (map fresh_entry balances)
-    all_fresh h = all_entered before (map fresh_entry balances) wanted now i f h

@@ -2,78 +2,63 @@
 
 #![tactic(auto)]
 
-ghost use Rattle.std.specs.Prelude.{◌≡◌, not, ◌<◌, eqb, length, drop};
+ghost use Rattle.std.specs.Prelude.{◌≡◌, not, ◌<◌, eqb, drop, MatchResult, Some, None};
 ghost use Rattle.model.specs.Basics.{sum_of, any};
 ghost use Rattle.model.specs.Records.{fresh_entry, with_entry};
 ghost use Rattle.model.specs.Refusals.{first_refusal};
 ghost use Rattle.model.specs.Openings.{bad_group, bad_accounts, open_rules};
-ghost use Rattle.layout.specs.Layout.{book_words, ledger_in};
-ghost use Rattle.model.specs.Refusals.{check_of};
+ghost use Rattle.layout.specs.Layout.{ledger_in};
 ghost use Rattle.opening.specs.Promises.{FreshEntries, FreshLedger, Opens};
 
-use basics::results::Check;
-use model::{Account, OpenReply, Opening, Refusal};
+use layout::Book;
+use model::{Account, Opening, Refusal};
 use store::{put_balance, put_booked, put_group, put_none_retained};
 
-fn is_bad_group(page: Opening) -> bool
-    ensures { result ≡ bad_group page }
+fn is_bad_group(page: &Opening) -> bool
+    ensures { result ≡ bad_group page.now }
 {
-    page.seats < 1 || 16 < page.seats || (page.seats as u32) <= 5 * (page.faults as u32)
+    page.seats < 1 || 16 < page.seats || u32::from(page.seats) <= 5 * u32::from(page.faults)
 }
 
 // A balance from `from` on is not 0.
-fn some_behind(balances: [u32; 32], from: u8) -> bool
-    ensures { result ≡ any (λ b. not (eqb b 0)) (drop from balances) }
+fn some_behind(balances: &[u32; 32], from: u8) -> bool
+    ensures { result ≡ any (λ b. not (eqb b 0)) (drop from balances.now) }
 {
-    let mut i = from as usize;
-    while i < 32 {
-        if balances[i] != 0 {
-            return true;
-        }
-        i += 1;
-    }
-    false
+    balances.iter().skip(from as usize).any(|b| *b != 0)
 }
 
-fn is_bad_accounts(page: Opening) -> bool
-    ensures { result ≡ bad_accounts page }
+fn is_bad_accounts(page: &Opening) -> bool
+    ensures { result ≡ bad_accounts page.now }
 {
-    let balances = page.balances;
-    page.accounts < 1 || 32 < page.accounts || some_behind(balances, page.accounts)
+    page.accounts < 1 || 32 < page.accounts || some_behind(&page.balances, page.accounts)
 }
 
 // The opening sum, which may be larger than a balance can be.
-fn sum(balances: [u32; 32]) -> u64
-    ensures { result ≡ sum_of (λ b. b) balances }
+fn sum(balances: &[u32; 32]) -> u64
+    ensures { result ≡ sum_of (λ b. b) balances.now }
 {
-    let mut all: u64 = 0;
-    let mut i: usize = 0;
-    while i < 32 {
-        all += balances[i] as u64;
-        i += 1;
-    }
-    all
+    balances.iter().map(|b| u64::from(*b)).sum()
 }
 
-fn open_check(page: Opening, total: u64) -> Check
-    ensures { total ≡ sum_of (λ b. b) page.balances → result ≡ check_of (first_refusal (open_rules page)) }
+// The opening sum of a page that is not refused.
+fn open_check(page: &Opening) -> Result<u32, Refusal>
+    ensures { MatchResult result
+        (λ total. (first_refusal (open_rules page.now) ≡ None) × (total ≡ sum_of (λ b. b) page.now.balances))
+        (λ r. first_refusal (open_rules page.now) ≡ Some r) }
 {
     if is_bad_group(page) {
-        return Check::Failed(Refusal::BadGroup);
+        return Err(Refusal::BadGroup);
     }
     if is_bad_accounts(page) {
-        return Check::Failed(Refusal::BadAccounts);
+        return Err(Refusal::BadAccounts);
     }
-    if 4_294_967_295 < total {
-        return Check::Failed(Refusal::SumTooLarge);
-    }
-    Check::Passed
+    u32::try_from(sum(&page.balances)).map_err(|_| Refusal::SumTooLarge)
 }
 
 // An account at opening.
-fn put_fresh(words: &mut [u32], a: Account, balance: u32)
-    requires words_len { length words.old ≡ book_words }
-    requires a_bound { a.0 < 32 }
+#[tactic(auto, using(crate::proofs::Fresh::fresh_put))]
+fn put_fresh(words: &mut Book, a: Account, balance: u32)
+    requires { a.0 < 32 }
     ensures { ledger_in words.new ≡ with_entry (ledger_in words.old) a (fresh_entry balance) }
 {
     put_booked(words, a, 0);
@@ -82,39 +67,27 @@ fn put_fresh(words: &mut [u32], a: Account, balance: u32)
 }
 
 // The 32 accounts at opening.
-fn put_entries(words: &mut [u32], balances: [u32; 32])
-    requires { length words.old ≡ book_words }
-    ensures { FreshEntries words.old balances words.new }
+fn put_entries(words: &mut Book, balances: &[u32; 32])
+    ensures { FreshEntries words.old balances.now words.new }
 {
-    let mut i: u8 = 0;
-    while i < 32 {
-        put_fresh(words, Account(i), balances[i as usize]);
-        i += 1;
+    for (i, balance) in balances.iter().enumerate() {
+        put_fresh(words, Account(i as u8), *balance);
     }
 }
 
 // A ledger just opened from a page, given its opening sum.
-fn put_ledger(words: &mut [u32], page: Opening, total: u32)
-    requires { length words.old ≡ book_words }
-    ensures { FreshLedger page total words.new }
+fn put_ledger(words: &mut Book, page: &Opening, total: u32)
+    ensures { FreshLedger page.now total words.new }
 {
-    let balances = page.balances;
-    put_entries(words, balances);
+    put_entries(words, &page.balances);
     put_group(words, page.seats, page.faults, page.accounts, total);
 }
 
 // The opening: the words are the page's ledger, or, where it is refused, as they were.
-pub fn open_page(words: &mut [u32], page: Opening) -> OpenReply
-    requires { length words.old ≡ book_words }
+pub fn open_page(words: &mut Book, page: Opening) -> Result<(), Refusal>
     ensures { Opens words.old page result words.new }
 {
-    let balances = page.balances;
-    let total = sum(balances);
-    match open_check(page, total) {
-        Check::Failed(r) => OpenReply::OpenRefused(r),
-        Check::Passed => {
-            put_ledger(words, page, (total % 4_294_967_296) as u32);
-            OpenReply::Opened
-        }
-    }
+    let total = open_check(&page)?;
+    put_ledger(words, &page, total);
+    Ok(())
 }

@@ -6,3 +6,4 @@ pub mod ReadBack
 pub mod Writing
 pub mod Arrays
 pub mod Comparing
+pub mod Searching

@@ -1,5 +1,5 @@
 -- What the check and the reading of a bundle promise, by document 01's definitions in the model.
-use Rattle.std.specs.Prelude.{◌≡◌, ℕ, ◌+◌, ◌<◌, cond, ◌⊎◌, List, [], ◌∷◌, length, nat_lt, Option, Some, None, Ok}
+use Rattle.std.specs.Prelude.{◌≡◌, ℕ, ◌+◌, ◌<◌, cond, ◌⊎◌, List, [], ◌∷◌, length, nat_lt, Option, Some, None, Result, Ok, Err}
 use Rattle.model.specs.declared.Refusal.{Refusal}
 use Rattle.model.specs.declared.ContentsEntry.{ContentsEntry}
 use Rattle.model.specs.Types.{BundleReply, refused_at}
@@ -12,23 +12,28 @@ pub record CheckedAs (bytes : List ℕ) (r : BundleReply) : Type 0 where
   pub meets : r ≡ check_bundle bytes
   pub told : values_of_bundle r ≡ fault_values (entry_count bytes) (faults bytes)
 
--- what the walk over the contents finds
-abbrev pub walked : Option ℕ → ℕ → Walk
+-- what the walk over the contents finds: where the last body ends, or the lowest entry that is wrong
+abbrev pub walked : Option ℕ → ℕ → Result ℕ ℕ
 walked None end = Ok end
-walked (Some i) end = Wrong i
+walked (Some i) end = Err i
 
-abbrev pub walk_of : List ℕ → Walk
+abbrev pub walk_of : List ℕ → Result ℕ ℕ
 walk_of bytes = walked (first_bad_entry bytes) (start_at bytes (entry_count bytes))
+
+-- a page's entry is taken, and this entry is next; or there are no more, and it stays at this one
+abbrev pub taken_read : ContentsEntry → ℕ → Read
+taken_read c i = record { page = Some c; next = record { next = i } }
+
+abbrev pub ended_read : ℕ → Read
+ended_read i = record { page = None; next = record { next = i } }
 
 -- what a reading finds: the page with its body, and the next entry
 abbrev pub reading_of : List ℕ → Read → Reading
-reading_of bytes (Taken c at) = taken (page_of bytes c) at.next
-reading_of bytes (NoMore at) = no_more at.next
+reading_of bytes r = elim r.page [ None ↦ no_more r.next.next | Some c ↦ taken (page_of bytes c) r.next.next ]
 
 -- what a reading replies: the next page's own entry and where to go on, or no more, and it stays
 abbrev pub read_of : List ℕ → ℕ → Read
-read_of bytes i =
-    cond (nat_lt i (entry_count bytes)) (Taken (contents_at bytes i) (record { next = i + 1 })) (NoMore (record { next = i }))
+read_of bytes i = cond (nat_lt i (entry_count bytes)) (taken_read (contents_at bytes i) (i + 1)) (ended_read i)
 
 -- an entry's kind, seat, start and sum
 abbrev pub values_of_entry : ContentsEntry → List ℕ
@@ -38,8 +43,8 @@ values_of_entry c = c.kind ∷ c.seat ∷ c.start ∷ c.sum ∷ []
 -- nothing; how many pages are taken, 1 or 0; the entry at which the reading goes on, or stays; and the
 -- values of a taken page's entry.
 abbrev pub values_of_read : Read → List ℕ
-values_of_read (Taken c at) = 0 ∷ 1 ∷ at.next ∷ values_of_entry c
-values_of_read (NoMore at) = 0 ∷ 0 ∷ at.next ∷ []
+values_of_read r =
+    elim r.page [ None ↦ 0 ∷ 0 ∷ r.next.next ∷ [] | Some c ↦ 0 ∷ 1 ∷ r.next.next ∷ values_of_entry c ]
 
 -- these of document 01's reading: below m entry i is taken and i + 1 is next; from there on
 -- none is, and the reading stays

@@ -3,11 +3,11 @@
 
 #![tactic(auto)]
 
+ghost use Rattle.std.specs.Prelude.{◌≡◌};
 ghost use Rattle.bundle.specs.Promises.{CheckedAs, ReadAs};
 
-use crate::checks::{Walk, first_wrong_sum, is_bad_header, walk_contents};
-use basics::results::Search;
-use model::{BundleReply, ContentsEntry, Refusal};
+use crate::checks::{first_wrong_sum, is_bad_header, walk_contents};
+use model::{BundleError, ContentsEntry, Refusal};
 use pages::contents::{contents_at, entry_count};
 
 pub mod checks;
@@ -19,31 +19,34 @@ pub struct Cursor {
     pub next: u16,
 }
 
-// What a reading finds: the next page's entry and where to go on, or no more and where it stays.
+// What a reading finds: the next page's entry, if there is one, and where to go on, or stay.
 #[derive(Clone, Copy)]
-pub enum Read {
-    Taken(ContentsEntry, Cursor),
-    NoMore(Cursor),
+pub struct Read {
+    pub page: Option<ContentsEntry>,
+    pub next: Cursor,
+}
+
+fn refused(refusal: Refusal, entry: u16) -> BundleError
+    ensures { result ≡ record { refusal = refusal; entry = entry } }
+{
+    BundleError { refusal, entry }
 }
 
 // The check of a bundle: how many entries it has, or the refusal and the entry. Codes 13, 14, 15 and 16 in this
 // order, the lowest entry first.
-pub fn check(bytes: &[u8]) -> BundleReply
+pub fn check(bytes: &[u8]) -> Result<u16, BundleError>
     ensures { CheckedAs bytes.now result }
 {
     if is_bad_header(bytes) {
-        return BundleReply::BundleRefused(Refusal::BadHeader, 0);
+        return Err(refused(Refusal::BadHeader, 0));
     }
-    let end = match walk_contents(bytes) {
-        Walk::Wrong(i) => return BundleReply::BundleRefused(Refusal::BadContents, i),
-        Walk::EndsAt(end) => end,
-    };
-    if bytes.len() != (end as usize) {
-        return BundleReply::BundleRefused(Refusal::BadEnd, 0);
+    let end = walk_contents(bytes).map_err(|i| refused(Refusal::BadContents, i))?;
+    if bytes.len() != end as usize {
+        return Err(refused(Refusal::BadEnd, 0));
     }
     match first_wrong_sum(bytes) {
-        Search::At(i) => BundleReply::BundleRefused(Refusal::BadSum, i),
-        Search::Nowhere => BundleReply::Sound(entry_count(bytes)),
+        Some(i) => Err(refused(Refusal::BadSum, i)),
+        None => Ok(entry_count(bytes)),
     }
 }
 
@@ -54,8 +57,14 @@ pub fn read_next(bytes: &[u8], c: Cursor) -> Read
 {
     let i = c.next;
     if i < entry_count(bytes) {
-        Read::Taken(contents_at(bytes, i), Cursor { next: i + 1 })
+        Read {
+            page: Some(contents_at(bytes, i)),
+            next: Cursor { next: i + 1 },
+        }
     } else {
-        Read::NoMore(c)
+        Read {
+            page: None,
+            next: c,
+        }
     }
 }

@@ -1,11 +1,12 @@
--- The search goes on behind an entry whose sum is right.
-use Rattle.std.proofs.Common.{sym, ap, arith}
-use Rattle.basics.proofs.Counting.{searched_more, searched_found}
+-- The search through the entries is the definition's.
+use Rattle.std.proofs.Common.{ℕ, refl, ap, ◌∙◌, rules}
+use Rattle.model.specs.Basics.{first_where}
+use Rattle.model.specs.Bundles.{wrong_sum_at}
+use Rattle.basics.proofs.Searching.{found_first}
 use Rattle.bundle.proofs.checks.first_wrong_sum.Goals as goal
 
-pub returns-then-is_wrong_sum : goal.returns-then-is_wrong_sum
-returns-then-is_wrong_sum c =
-    sym (ap search_of (searched_found c.loop-i.invariant c.is_wrong_sum.ensures (omega arith) c.if-is_wrong_sum.true))
-
-pub loop-i-preserved : goal.loop-i-preserved
-loop-i-preserved c = searched_more c.loop-i.invariant c.is_wrong_sum.ensures (omega arith) c.if-is_wrong_sum.false
+pub returns : goal.returns
+returns c =
+    let wrong = wrong_sum_at c.args.bytes.now in
+    found_first wrong c.entry_count.result _ refl c.find.ensures.ran (λ i b q made. search rules)
+    ∙ ap (λ (m : ℕ). first_where wrong m 0) c.entry_count.ensures

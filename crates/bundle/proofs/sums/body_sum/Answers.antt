@@ -1,14 +1,19 @@
--- Each turn takes one byte off what is left; behind the last none is left.
-use Rattle.std.proofs.Common.{◌≡◌, ◌+◌, ◌*◌, ◌%◌, get_or, arith}
-use Rattle.basics.proofs.Loops.{one_left, none_left}
+-- The fold is the definition's recursion.
+use Rattle.std.proofs.Common.{◌≡◌, ℕ, ◌+◌, ◌*◌, ◌%◌, List, [], ◌∷◌, refl, ◌∙◌, rules}
+use Rattle.std.specs.List.{fold}
+use Rattle.std.proofs.lemmas.Iterator.{YieldsList-from_slice}
+use Rattle.std.proofs.lemmas.Iterator.Consumers.{fold_from_yields_List}
+use Rattle.model.specs.Bundles.{sum_from}
 use Rattle.bundle.proofs.sums.body_sum.Goals as goal
 
-pub loop-i-preserved : goal.loop-i-preserved
-loop-i-preserved c =
-    let body = c.args.body.now in
-    let loop = c.loop-i in
-    let next : c.wrapping_add_u32-s.result ≡ (31 * loop.s + get_or body loop.i 0) % 4_294_967_296 = omega arith in
-    rw next (rw (one_left body loop.i 0 (omega arith)) at loop.invariant)
+abbrev more : ℕ → ℕ → ℕ
+more s b = (31 * s + b) % 4_294_967_296
+
+fold_is : (s : ℕ) (body : List ℕ) → fold more s body ≡ sum_from s body
+fold_is s [] = refl
+fold_is s (b ∷ body) = fold_is (more s b) body
 
 pub returns : goal.returns
-returns c = rw (none_left c.args.body.now c.loop-i.i (omega arith)) at c.loop-i.invariant
+returns c =
+    fold_from_yields_List _ more 0 _ c.fold.ensures.ran (YieldsList-from_slice c.args.body.now cc) (λ s b t q made. search rules)
+    ∙ fold_is 0 c.args.body.now

@@ -5,19 +5,14 @@ use Rattle.bundle.specs.declared.Read.{Read}
 use Rattle.bundle.specs.Promises.{read_of}
 use Rattle.reader.specs.declared.Reader.{Reader}
 
--- the entry at which a reading goes on after this reply: behind the page taken, or where it stays
-abbrev pub next_of : Read → ℕ
-next_of (Taken c at) = at.next
-next_of (NoMore at) = at.next
-
 -- the reading after this reply, of the same bundle
 abbrev pub gone_on : Reader → Read → Reader
-gone_on r p = record { bundle = r.bundle; next = next_of p }
+gone_on r p = record { bundle = r.bundle; next = p.next.next }
 
 -- where a reading stands that was asked k times for its next page
 abbrev pub place_after : List ℕ → ℕ → ℕ
 place_after bytes zero = 0
-place_after bytes (suc k) = next_of (read_of bytes (place_after bytes k))
+place_after bytes (suc k) = (read_of bytes (place_after bytes k)).next.next
 
 -- "What a page shows is that body's own bytes in the bundle": the body of the page last taken, the one before entry i
 abbrev pub last_body : List ℕ → ℕ → List ℕ

@@ -5,7 +5,7 @@
 
 ghost use Rattle.std.specs.Prelude.{◌≡◌};
 ghost use Rattle.bundle.specs.Promises.{ReadAs};
-ghost use Rattle.reader.specs.Promises.{next_of, gone_on, last_body, opening_body};
+ghost use Rattle.reader.specs.Promises.{gone_on, last_body, opening_body};
 
 use bundle::{Cursor, Read, read_next};
 use pages::contents::{body, contents_at};
@@ -17,67 +17,52 @@ pub struct Reader<'a> {
     pub next: u16,
 }
 
-// Where a reading stands after this reply.
-fn place_after(p: Read) -> u16
-    ensures { result ≡ next_of p }
-{
-    match p {
-        Read::Taken(_, at) => at.next,
-        Read::NoMore(at) => at.next,
+impl<'a> Reader<'a> {
+    // A reading that has taken no page yet. It reads a bundle that `check` found sound; of
+    // other bytes it reads what is there.
+    pub fn new(bundle: &'a [u8]) -> Reader<'a>
+        ensures { (result.bundle ≡ bundle.entry) × (result.next ≡ 0) }
+    {
+        Reader { bundle, next: 0 }
     }
-}
 
-// The body of the page before this entry, as a part of the bundle; before the first page there is none.
-fn body_before<'a>(bundle: &'a [u8], next: u16) -> &'a [u8]
-    ensures { result.now ≡ last_body bundle.now next }
-{
-    if next == 0 {
-        return &bundle[0..0];
+    // "A reading of a bundle goes on from the page last taken. After the last page it replies that there
+    // are no more, and stays there."
+    pub fn take(&mut self) -> Read
+        ensures { ReadAs self.old.bundle.now self.old.next result × (self.new ≡ gone_on self.old result) }
+    {
+        let page = read_next(self.bundle, Cursor { next: self.next });
+        self.next = page.next.next;
+        page
     }
-    body(bundle, contents_at(bundle, next - 1))
-}
 
-// A reading that has taken no page yet. It reads a bundle that `check` found sound; of
-// other bytes it reads what is there.
-pub fn start<'a>(bundle: &'a [u8]) -> Reader<'a>
-    ensures { (result.bundle ≡ bundle.entry) × (result.next ≡ 0) }
-{
-    Reader { bundle, next: 0 }
-}
-
-// "A reading of a bundle goes on from the page last taken. After the last page it replies that there
-// are no more, and stays there."
-pub fn take<'r, 'a>(r: &'r mut Reader<'a>) -> Read
-    ensures { ReadAs r.old.bundle.now r.old.next result × (r.new ≡ gone_on r.old result) }
-{
-    let page = read_next(r.bundle, Cursor { next: r.next });
-    r.next = place_after(page);
-    page
-}
-
-// The body of the page last taken: its own bytes in the bundle.
-pub fn shown<'a>(r: Reader<'a>) -> &'a [u8]
-    ensures { result.now ≡ last_body r.entry.bundle.now r.entry.next }
-{
-    body_before(r.bundle, r.next)
+    // The body of the page last taken, its own bytes in the bundle; before the first page there is none.
+    pub fn shown(self) -> &'a [u8]
+        ensures { result.now ≡ last_body self.entry.bundle.now self.entry.next }
+    {
+        match self.next.checked_sub(1) {
+            Some(last) => body(self.bundle, contents_at(self.bundle, last)),
+            None => &[],
+        }
+    }
 }
 
 // One page by plain parameters: a reading is taken up at this place, and takes the next page.
 pub fn read_page(bundle: &[u8], at: Cursor) -> Read
     ensures { ReadAs bundle.now at.next result }
 {
-    let mut r = Reader {
+    let mut reading = Reader {
         bundle,
         next: at.next,
     };
-    take(&mut r)
+    reading.take()
 }
 
 // The opening page's body by plain parameters: a reading takes its first page and shows it.
-pub fn opening_body<'a>(bundle: &'a [u8]) -> &'a [u8]
+pub fn opening_body(bundle: &[u8]) -> &[u8]
     ensures { result.now ≡ opening_body bundle.now }
 {
-    let mut r = start(bundle);
-    take(&mut r);
-    shown(r)
+    let mut reading = Reader::new(bundle);
+    reading.take();
+    reading.shown()
 }

@@ -1,6 +1,6 @@
 -- Accounts of a held book, taken over one after another where the ledger lies.
 use Rattle.std.specs.Prelude.{Some, None}
-use Prim.Native.Nat.{ℕ, ◌+◌, ◌<◌}
+use Prim.Native.Nat.{ℕ, ◌+◌, ◌≤◌, ◌<◌}
 use native.Mathlib.Omega.{arith}
 use mathlib.Core.Path.{◌≡◌, ap, sym, subst, ◌∙◌}
 use mathlib.Core.List.{List}
@@ -8,8 +8,8 @@ use lib.ListN.{length}
 use Rattle.model.specs.declared.Account.{Account}
 use Rattle.model.specs.declared.Transfer.{Transfer}
 use Rattle.model.specs.Types.{Slot}
-use Rattle.model.specs.Types.{Entry, Ledger}
-use Rattle.model.specs.Records.{account_of, entry_of, with_none_retained, with_retained_of, with_retained, with_entries, with_entry}
+use Rattle.model.specs.Types.{Entry}
+use Rattle.model.specs.Records.{account_of, entry_of, with_none_retained, with_retained_of, with_retained, with_entry}
 use Rattle.model.specs.Switches.{since_request3, retains_from, retains_waiting, switched}
 use Rattle.laws.proofs.Access.{with_entry_same, with_entry_again}
 use Rattle.laws.proofs.Switching.{switched_entry, switched_length}
@@ -18,63 +18,78 @@ use Rattle.layout.proofs.Blocks.{entries_length}
 use Rattle.layout.proofs.Entries.{pending_of}
 use Rattle.store.specs.Stores.{RetainedStored}
 use Rattle.store.proofs.Taking.{held_entries_length}
-use Rattle.store.proofs.Entering.{Entered, one_entered}
+use Rattle.store.proofs.Entering.{Entered, none_entered, one_entered, all_entered}
+use Rattle.switching.specs.Promises.{EntriesTaken}
+
+-- what waits at an account is of that account
+pub waits_there : (ws : List ℕ) (a : Account) (t : Transfer) → a.0 < 32 → Some t ≡ (entry_in ws a).pending
+    → t.account.0 < 32
+waits_there ws a t inside waits =
+    omega (arith, ap (λ (b : Account). b.0) (pending_of ws a t inside (sym waits)).0)
 
 -- The held entry was taken, with what the words retained; then what waits in it is retained, or nothing is.
 module _
-    (before mid : List ℕ) (a : Account) (e : Entry) (inside : a.0 < 32)
+    (before mid after : List ℕ) (a : Account) (e : Entry) (inside : a.0 < 32)
     (took : ledger_in mid ≡ with_entry (ledger_in before) a (with_retained_of e (entry_in before a)))
-    (p : Slot) (p_is : p ≡ (entry_in mid a).pending)
   where
-    abbrev stored : Entry
-    stored = with_retained_of e (entry_in before a)
+    abbrev taken : Entry
+    taken = with_retained_of e (entry_in before a)
 
-    here : entry_in mid a ≡ stored
-    here = rw took (with_entry_same (ledger_in before) a stored (omega (arith, entries_length before)))
+    here : entry_in mid a ≡ taken
+    here = rw took (with_entry_same (ledger_in before) a taken (omega (arith, entries_length before)))
 
-    waits : p ≡ e.pending
-    waits = p_is ∙ ap (λ (x : Entry). x.pending) here
+    -- what waits in it is in its place, if anything does
+    retains : (p : Slot) → p ≡ (entry_in mid a).pending
+        → with_entry (ledger_in before) a (retains_from p e) ≡ with_entry (ledger_in before) a (retains_waiting e)
+    retains p found =
+        ap
+        (λ (x : Slot). with_entry (ledger_in before) a (retains_from x e))
+        (found ∙ ap (λ (x : Entry). x.pending) here)
 
     -- a store that changes what was taken
-    changed : (after : List ℕ) (change : Entry → Entry) → ledger_in after ≡ with_entry (ledger_in mid) a (change (entry_in mid a))
-        → ledger_in after ≡ with_entry (ledger_in before) a (change stored)
-    changed after change is =
-        is ∙ rw took (with_entry_again (ledger_in before) a stored change (omega (arith, entries_length before)))
+    changed : (change : Entry → Entry) → ledger_in after ≡ with_entry (ledger_in mid) a (change (entry_in mid a))
+        → ledger_in after ≡ with_entry (ledger_in before) a (change taken)
+    changed change is =
+        is ∙ rw took (with_entry_again (ledger_in before) a taken change (omega (arith, entries_length before)))
 
-    pub nothing_waits : (after : List ℕ) → p ≡ None → ledger_in after ≡ with_entry (ledger_in mid) a (with_none_retained (entry_in mid a))
+    pub nothing_waits : None ≡ (entry_in mid a).pending
+        → ledger_in after ≡ with_entry (ledger_in mid) a (with_none_retained (entry_in mid a))
         → ledger_in after ≡ with_entry (ledger_in before) a (retains_waiting e)
-    nothing_waits after found is =
-        changed after with_none_retained is ∙ ap (λ (x : Slot). with_entry (ledger_in before) a (retains_from x e)) (sym found ∙ waits)
+    nothing_waits found is = changed with_none_retained is ∙ retains None found
 
-    -- the slip that waits is of the account
-    pub its_account : (t : Transfer) → p ≡ Some t → t.account ≡ a
-    its_account t found = (pending_of mid a t inside (sym p_is ∙ found)).0
-
-    pub slip_waits : (after : List ℕ) (t : Transfer) → p ≡ Some t → RetainedStored mid t after
+    pub slip_waits : (t : Transfer) → Some t ≡ (entry_in mid a).pending → RetainedStored mid t after
         → ledger_in after ≡ with_entry (ledger_in before) a (retains_waiting e)
-    slip_waits after t found kept =
-        let own = its_account t found in
-        let value = (pending_of mid a t inside (sym p_is ∙ found)).1 in
-        let is = subst (λ (b : Account). ledger_in after ≡ with_entry (ledger_in mid) b (with_retained (entry_in mid b) t)) own (kept.retained value) in
-        changed after (λ x. with_retained x t) is
-        ∙ ap (λ (x : Slot). with_entry (ledger_in before) a (retains_from x e)) (sym found ∙ waits)
+    slip_waits t found kept =
+        let own = pending_of mid a t inside (sym found) in
+        let Stored : Account → Type 0 =
+        λ b. ledger_in after ≡ with_entry (ledger_in mid) b (with_retained (entry_in mid b) t) in
+        changed (λ x. with_retained x t) (subst Stored own.0 (kept.retained own.1)) ∙ retains (Some t) found
+
+pub ruleset of_account = (waits_there, nothing_waits)
 
 -- the entries that are wanted: as many as there are accounts
 abbrev pub wanted : List ℕ → List Entry
 wanted held = (switched since_request3 (held_in held)).entries
 
-pub wanted_count : (held : List ℕ) → length (wanted held) ≡ 32
+wanted_count : (held : List ℕ) → length (wanted held) ≡ 32
 wanted_count held = switched_length since_request3 (held_in held) ∙ held_entries_length held
 
--- one account more
-pub one_taken : (held before now after : List ℕ) (i : ℕ) → Entered before (wanted held) now i → i < 32 → length after ≡ length now
-    → ledger_in after ≡ with_entry (ledger_in now) (account_of i) (retains_waiting (entry_of (held_in held) (account_of i)))
+-- no account yet, one more, and all
+pub none_taken : (held before : List ℕ) → Entered before (wanted held) before 0
+none_taken held before = none_entered before (wanted held) (wanted_count held)
+
+pub one_taken : (held before now after : List ℕ) (i : ℕ) → Entered before (wanted held) now i → i < 32
+    → length after ≡ length now
+    → ledger_in after
+    ≡ with_entry (ledger_in now) (account_of i) (retains_waiting (entry_of (held_in held) (account_of i)))
     → Entered before (wanted held) after (i + 1)
 one_taken held before now after i f h same is =
-    one_entered before (wanted held) (wanted_count held) now i f after (retains_waiting (entry_of (held_in held) (account_of i))) h same
+    let e = retains_waiting (entry_of (held_in held) (account_of i)) in
+    one_entered before (wanted held) (wanted_count held) now i f after e h same
     (sym (switched_entry since_request3 (held_in held) (account_of i))) is
 
--- n, f, k and the opening sum after the entries: the ledger that the held one becomes
-pub all_taken : (held before mid after : List ℕ) → ledger_in mid ≡ with_entries (ledger_in before) (wanted held)
-    → ledger_in after ≡ with_entries (held_in held) (ledger_in mid).entries → ledger_in after ≡ switched since_request3 (held_in held)
-all_taken held before mid after entries group = group ∙ ap (λ (l : Ledger). with_entries (held_in held) l.entries) entries
+pub accounts_taken : (held before now : List ℕ) (i : ℕ) → Entered before (wanted held) now i → 32 ≤ i
+    → EntriesTaken held before now
+accounts_taken held before now i f h = record { taken = all_entered before (wanted held) (wanted_count held) now i f h }
+
+pub ruleset of_accounts = (none_taken, one_taken, accounts_taken)

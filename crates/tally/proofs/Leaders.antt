@@ -1,18 +1,22 @@
--- What the loop over the seats knows of the leader: at the end it is the slip that is put forward.
+-- What is known of the leader, seat by seat: at the end it is the slip that is put forward.
 use Rattle.std.specs.Prelude.{Some, None}
-use Prim.Native.Nat.{ℕ, ◌+◌, ◌≤◌, ◌<◌}
+use Prim.Native.Nat.{ℕ, zero, suc, ◌+◌, ◌≤◌, ◌<◌}
+use native.Mathlib.Nat.{add-zero, zero-add}
 use native.Mathlib.Decide.{dec_lt}
 use native.Mathlib.Omega.{arith}
 use mathlib.Core.Path.{◌≡◌, refl, ap, sym, ◌∙◌}
 use mathlib.Core.Bool.{true}
-use mathlib.Core.List.{List}
+use mathlib.Core.List.{List, map}
+use Rattle.std.specs.List.{fold, range_with_len}
 use lib.ListN.{length, get_or-eq_default}
 use borrow.Author.Count.{below_more}
 use borrow.Author.Tests.{lt-ltb, le-ltb, le-leb}
+use Rattle.model.specs.declared.Seat.{Seat}
 use Rattle.model.specs.declared.Transfer.{Transfer}
 use Rattle.model.specs.Types.{Slot}
 use Rattle.model.specs.Types.{AckSlot}
 use Rattle.model.specs.Basics.{bit}
+use Rattle.model.specs.Records.{seat_of}
 use Rattle.model.specs.Acks.{ack_at, holds, acks_for, no_more_than, has_most, slip_in, most_acked}
 use Rattle.laws.proofs.Sums.{impossible, sum_at_least}
 use Rattle.laws.proofs.Equality.{equal_refl}
@@ -28,7 +32,7 @@ module _ (acks : List AckSlot) (number : ℕ) where
   abbrev leading : Transfer → Leader
   leading v = record { transfer = with_number v number; acks = acks_for v acks }
 
-  abbrev no_leader : Leader
+  abbrev pub no_leader : Leader
   no_leader = record { transfer = with_number (slip_in None) number; acks = 0 }
 
   -- none of the seats before i acked a slip with more than c acks
@@ -50,7 +54,7 @@ module _ (acks : List AckSlot) (number : ℕ) where
         → ((k : ℕ) (u : Transfer) → k < seat → ack_at acks k ≡ Some u → acks_for u acks < acks_for v acks)
         → Led i best
 
-  pub led_none : Led 0 no_leader
+  led_none : Led 0 no_leader
   led_none = nobody (λ k below. absurd (omega arith)) refl
 
   -- a slip that a seat acked has an ack
@@ -60,7 +64,7 @@ module _ (acks : List AckSlot) (number : ℕ) where
       omega (arith, here, sum_at_least (λ a. bit (holds u a.slot)) acks i (record { slot = None }) (inside acks i u at))
 
   module _ {i : ℕ} {best : Leader} where
-    pub led_more : Led i best → Led (i + 1) (leader_of acks number best (ack_at acks i))
+    led_more : Led i best → Led (i + 1) (leader_of acks number best (ack_at acks i))
     led_more led = go (ack_at acks i) refl led
       where
         go : (p : Slot) → ack_at acks i ≡ p → Led i best → Led (i + 1) (leader_of acks number best p)
@@ -85,7 +89,7 @@ module _ (acks : List AckSlot) (number : ℕ) where
                 (leads seat v acked refl (no_more_next most (one_slip i u at (omega arith))) first)
 
     -- after the last seat it is the slip that is put forward
-    pub led_all : length acks ≤ i → Led i best → best.transfer ≡ with_number (most_acked acks) number
+    led_all : length acks ≤ i → Led i best → best.transfer ≡ with_number (most_acked acks) number
     unfolding has_most
     led_all all (nobody none is) =
         ap (λ (l : Leader). l.transfer) is
@@ -115,3 +119,17 @@ module _ (acks : List AckSlot) (number : ℕ) where
             not_lower : (u : Transfer) (k : ℕ) → ack_at acks k ≡ Some u → acks_for v acks ≤ acks_for u acks → Dec (k < seat) → seat ≤ k
             not_lower u k at no_fewer (yes below) = absurd (omega (arith, first k u below at))
             not_lower u k at no_fewer (no above) = omega arith
+
+  -- going through the n seats from i on
+  abbrev pub next : Leader → Seat → Leader
+  next best s = leader_of acks number best (ack_at acks s.0)
+
+  led_through : (n i : ℕ) (best : Leader) → Led i best → Led (i + n) (fold next best (map seat_of (range_with_len i n)))
+  led_through zero i best led = rw (add-zero i) led
+  led_through (suc n) i best led =
+      let later : i + suc n ≡ i + 1 + n = omega arith in
+      rw later (led_through n (i + 1) (next best (seat_of i)) (led_more led))
+
+  -- so the leader of all seats is the slip that is put forward
+  pub led_last : (n : ℕ) → length acks ≤ n → (fold next no_leader (map seat_of (range_with_len 0 n))).transfer ≡ with_number (most_acked acks) number
+  led_last n all = led_all all (rw (zero-add n) at (led_through n 0 no_leader led_none))

@@ -30,14 +30,6 @@ module _ (ws : List ℕ) (best : Leader) (a : Account) (number : ℕ) (s : Seat)
   abbrev e : Entry
   e = entry_in ws a
 
-  -- no ack was read, so the seat has none
-  empty : slot ≡ None → best ≡ leader_of e.acks number best (ack_from e s)
-  empty none = go (ack_from e s) refl
-    where
-      go : (p : Slot) → ack_from e s ≡ p → best ≡ leader_of e.acks number best p
-      go None is = refl
-      go (Some v) is = impossible (let z : None ≡ Some (with_number v number) = rw (none, is) at read in cc)
-
   -- the seat's ack, of which u is told
   record Told (u : Transfer) : Type 0 where
     pub ack : Transfer
@@ -80,18 +72,14 @@ module _ (ws : List ℕ) (best : Leader) (a : Account) (number : ℕ) (s : Seat)
       kept : n ≤ best.acks → best ≡ leader_of e.acks number best (ack_from e s)
       kept few = rw ((told u full).is, ← count, le-ltb best.acks n few)
 
-pub acks_for-acks-requires-clause-account_bound : goal.acks_for-acks-requires-clause-account_bound
-acks_for-acks-requires-clause-account_bound c =
-    rw (account c.args.words.now c.args.best c.args.t.account c.args.t.number c.args.s _ c.requires.account_bound.0 c.ack_from-slot.ensures _ c.in-Some.is) c.requires.account_bound.0
-
-pub returns-in-None : goal.returns-in-None
-returns-in-None c =
-    empty c.args.words.now c.args.best c.args.t.account c.args.t.number c.args.s _ c.requires.account_bound.0 c.ack_from-slot.ensures c.in-None.is
+pub acks_for-acks-requires : goal.acks_for-acks-requires
+acks_for-acks-requires c =
+    rw (account c.args.words.now c.args.best c.args.t.account c.args.t.number c.args.s _ c.requires.0 c.ack_from.ensures _ c.in-Some.is) c.requires.0
 
 pub returns-then-best-acks : goal.returns-then-best-acks
 returns-then-best-acks c =
-    taken c.args.words.now c.args.best c.args.t.account c.args.t.number c.args.s _ c.requires.account_bound.0 c.ack_from-slot.ensures _ c.in-Some.is _ c.acks_for-acks.ensures (omega (arith, c.if-best-acks.true))
+    taken c.args.words.now c.args.best c.args.t.account c.args.t.number c.args.s _ c.requires.0 c.ack_from.ensures _ c.in-Some.is _ c.acks_for-acks.ensures (omega (arith, c.if-best-acks.true))
 
 pub returns-else-best-acks : goal.returns-else-best-acks
 returns-else-best-acks c =
-    kept c.args.words.now c.args.best c.args.t.account c.args.t.number c.args.s _ c.requires.account_bound.0 c.ack_from-slot.ensures _ c.in-Some.is _ c.acks_for-acks.ensures (omega (arith, c.if-best-acks.false))
+    kept c.args.words.now c.args.best c.args.t.account c.args.t.number c.args.s _ c.requires.0 c.ack_from.ensures _ c.in-Some.is _ c.acks_for-acks.ensures (omega (arith, c.if-best-acks.false))

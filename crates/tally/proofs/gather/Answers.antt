@@ -11,11 +11,11 @@ use Rattle.tally.specs.Results.{counted, at_next}
 use Rattle.tally.proofs.Nexts.{tally_next}
 use Rattle.tally.proofs.Gathered.{tally_exactly, counted_none, gathers_few, gathers_more, gathers_all}
 use Rattle.tally.proofs.gather.Goals as goal
-use Rattle.tally.proofs.gather.Goals.{then-is_full, else-is_full}
+use Rattle.tally.proofs.gather.Goals.{then-is_some, else-is_some}
 
-pub plus_ack-y-requires : goal.plus_ack-y-requires
-plus_ack-y-requires c =
-    let few = gathers_few _ _ c.loop-p.p c.loop-p.y c.loop-p.invariant.1 in
+pub count-requires : goal.count-requires
+count-requires c =
+    let few = gathers_few _ _ c.loop-p.p c.loop-p.tally c.loop-p.invariant in
     (omega (arith, few.0), omega (arith, few.1))
 
 pub loop-p-preserved : goal.loop-p-preserved
@@ -26,23 +26,21 @@ loop-p-preserved c =
     let e = entry_in ws t.account in
     let s = c.ack_from-s.result in
     let seat = seat_of loop.p in
-    let next : c.if-is_full.y ≡ counted loop.y t seat s =
-    elim c.if-is_full.branch [
-      | then-is_full w ↦ w.y-is ∙ w.plus_ack-y.ensures
-      | else-is_full w ↦ w.y-is ∙ counted_none loop.y t seat s (sym c.is_full.ensures ∙ w.if-is_full.false)
-    ] in (
-      omega arith,
-      gathers_more (at_next e t) e.acks loop.p loop.y loop.invariant.1 t s c.if-is_full.y (omega arith)
-          (omega (arith, acks_length ws t.account (omega arith)))
-          (ap (holds t) c.ack_from-s.ensures ∙ ack_holds ws t.account seat (omega arith) t)
-          (ap is_some c.ack_from-s.ensures ∙ full_numbered t.number (ack_at e.acks loop.p))
-          next,
-    )
+    let next : c.if-is_some.tally ≡ counted loop.tally t seat s =
+    elim c.if-is_some.branch [
+      | then-is_some w ↦ w.tally-is ∙ w.count.ensures
+      | else-is_some w ↦ w.tally-is ∙ counted_none loop.tally t seat s (sym c.is_some.ensures ∙ w.if-is_some.false)
+    ] in
+    gathers_more (at_next e t) e.acks loop.p loop.tally loop.invariant t s c.if-is_some.tally (omega arith)
+    (omega (arith, acks_length ws t.account (omega arith)))
+    (ap (holds t) c.ack_from-s.ensures ∙ ack_holds ws t.account seat (omega arith) t)
+    (ap is_some c.ack_from-s.ensures ∙ full_numbered t.number (ack_at e.acks loop.p))
+    next
 
 pub returns : goal.returns
 returns c =
     let loop = c.loop-p in
     let t = c.args.t in
     let e = entry_in c.args.words.now t.account in
-    let whole = gathers_all (at_next e t) e.acks loop.p loop.y loop.invariant.1 (omega (arith, acks_length c.args.words.now t.account (omega arith))) in
-    record { tally = whole; exactly = λ next. tally_exactly t e.acks loop.y (tally_next e t loop.y next whole) }
+    let whole = gathers_all (at_next e t) e.acks loop.p loop.tally loop.invariant (omega (arith, acks_length c.args.words.now t.account (omega arith))) in
+    record { tally = whole; exactly = λ next. tally_exactly t e.acks loop.tally (tally_next e t loop.tally next whole) }

@@ -1,12 +1,11 @@
--- Each of the two early returns shows that one part of the definition's test fails; after them its third part decides:
--- the acks in words are all of the account and its next number.
+-- The tests are the definition's: the acks in words are all of the account and its next number.
 use Prim.Native.Nat.{ℕ, ◌+◌, ◌-◌, ◌<◌}
 use native.Mathlib.Omega.{arith}
 use mathlib.Core.Path.{◌≡◌, ap, sym, ◌∙◌}
-use mathlib.Core.Bool.{Bool, not, ◌&&◌, and-true, and-false}
+use mathlib.Core.Bool.{Bool, not, ◌&&◌}
 use mathlib.Core.List.{List}
 use lib.Dec.{leb, ltb}
-use borrow.Author.Tests.{le-leb, lt-leb}
+use Rattle.std.proofs.lemmas.Bool.Decides.{nat_tests}
 use Rattle.model.specs.declared.Account.{Account}
 use Rattle.model.specs.declared.Transfer.{Transfer}
 use Rattle.model.specs.Acks.{two_conflict}
@@ -40,26 +39,8 @@ decides ws a y r inside e =
           (conflict_told ws a y t inside account number tally some);
     }
 
-pub returns-then-is_proposed : goal.returns-then-is_proposed
-returns-then-is_proposed c =
-    decides c.args.words.now c.args.a c.args.y _ (omega arith) (rw (← c.is_proposed.ensures, c.if-is_proposed.true, and-false))
+pub returns-then-y : goal.returns-then-y
+returns-then-y c = decides c.args.words.now c.args.a c.args.y _ (omega arith) (grind (arith, nat_tests))
 
-pub returns-then-y-faults_of : goal.returns-then-y-faults_of
-returns-then-y-faults_of c =
-    let ws = c.args.words.now in
-    let l = ledger_in ws in
-    decides ws c.args.a c.args.y _ (omega arith)
-    (rw (lt-leb (l.seats - l.faults) c.args.y.recorded (omega (arith, c.seats_of.ensures, c.faults_of.ensures))))
-
-pub returns : goal.returns
-returns c =
-    let ws = c.args.words.now in
-    let l = ledger_in ws in
-    let y = c.args.y in
-    decides ws c.args.a y _ (omega arith)
-    (rw (
-      le-leb (l.seats - l.faults) y.recorded (omega (arith, c.seats_of.ensures, c.faults_of.ensures)),
-      ← c.is_proposed.ensures,
-      c.if-is_proposed.false,
-      and-true (ltb y.equal y.recorded),
-    ))
+pub returns-else-y : goal.returns-else-y
+returns-else-y c = decides c.args.words.now c.args.a c.args.y _ (omega arith) (grind (arith, nat_tests))

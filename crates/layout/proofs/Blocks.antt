@@ -9,11 +9,12 @@ use mathlib.Core.Logic.{◌≢◌}
 use mathlib.Core.List.{List, ◌∷◌}
 use lib.ListN.{length, get_or, set, length-set}
 use lib.Seq.{get_or-set_same, get_or-set_other}
+use Rattle.std.proofs.lemmas.List.{get_or_past}
 use borrow.Author.Tests.{lt-ltb, le-ltb, eq-eqb, ne_eqb}
 use Rattle.model.specs.declared.Account.{Account}
-use Rattle.model.specs.Records.{fresh_entry, entry_of, with_entry}
-use Rattle.layout.specs.Layout.{block_words, group_place, book_words, Block, block, table_from, entry_by, entries_in, ledger_in}
-use Rattle.layout.specs.Blocks.{put, Changes}
+use Rattle.model.specs.Records.{no_acks, fresh_entry, entry_of, with_entry}
+use Rattle.layout.specs.Layout.{block_words, group_place, book_words, Block, block, table_from, as_read, entry_by, entries_in, ledger_in}
+use Rattle.layout.specs.Blocks.{put, Changes, Stores}
 
 -- what a table has at a place, and how many places it has
 pub table_at : {A : Type 0} (f : ℕ → A) (n i j : ℕ) (d : A) → j < n → get_or (table_from f n i) j d ≡ f (i + j)
@@ -127,3 +128,17 @@ changed_ledger ws a w after c =
       c.group (group_place + 3) (omega arith),
       changed_entries ws a w after c,
     )
+
+-- the entry of any account is the one that its block is, as it is read
+pub entry_read : (ws : List ℕ) (a : Account) → entry_of (ledger_in ws) a ≡ entry_by a.0 (as_read a.0 (block ws a.0))
+unfolding entry_by no_acks
+entry_read ws a = go (dec_lt a.0 32)
+  where
+    go : Dec (a.0 < 32) → entry_of (ledger_in ws) a ≡ entry_by a.0 (as_read a.0 (block ws a.0))
+    go (yes l) = rw (lt-ltb a.0 32 l) (entry_in_lem ws a l)
+    go (no l) = rw (le-ltb a.0 32 (omega arith)) (get_or_past (ledger_in ws).entries a.0 (fresh_entry 0) (omega (arith, entries_length ws)))
+
+-- stores one after another, of any account, the later one of one word
+pub stored_more : {ws mid after : List ℕ} {a : ℕ} (w : Block) (i v : ℕ) → Stores ws a w mid → Stores mid a (put (block mid a) i v) after
+    → Stores ws a (put w i v) after
+stored_more w i v c d = record { inside = λ l. changed_more w i v (c.inside l) (d.inside l); behind = λ l. d.behind l ∙ c.behind l }

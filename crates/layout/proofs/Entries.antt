@@ -11,17 +11,18 @@ use mathlib.Core.List.{List}
 use lib.Dec.{eqb}
 use lib.ListN.{length, get_or, set, length-set}
 use lib.Seq.{get_or-set_same, get_or-set_other}
+use Rattle.std.proofs.lemmas.List.{set_past}
 use borrow.Author.Tests.{lt-ltb, le-ltb, ne_eqb, eqb-false}
 use Rattle.model.specs.declared.Seat.{Seat}
 use Rattle.model.specs.declared.Account.{Account}
 use Rattle.model.specs.declared.Transfer.{Transfer}
 use Rattle.model.specs.Types.{AckSlot, Entry}
-use Rattle.model.specs.Records.{account_of, entry_of, with_entry, with_balance, with_acked, with_ack, with_proposed, with_pending, with_retained_as, with_retained_proposed}
+use Rattle.model.specs.Records.{account_of, entry_of, with_entry, with_entries, with_balance, with_acked, with_ack, with_proposed, with_pending, with_retained_as, with_retained_proposed}
 use Rattle.model.specs.Refusals.{ack_from}
 use Rattle.laws.proofs.Sums.{impossible}
-use Rattle.layout.specs.Layout.{block_words, group_place, book_words, Block, block, current_place, mark, slot_by, ack_in, table_from, up_to, entry_by, entries_in, ledger_in}
-use Rattle.layout.specs.Blocks.{put, Changes}
-use Rattle.layout.proofs.Blocks.{table_at, table_each, table_length, table_same, table_set, put_here, put_else, entry_in_lem, changed_ledger}
+use Rattle.layout.specs.Layout.{block_words, group_place, book_words, Block, block, current_place, as_read, mark, slot_by, ack_in, table_from, up_to, entry_by, entries_in, ledger_in}
+use Rattle.layout.specs.Blocks.{put, Changes, Stores}
+use Rattle.layout.proofs.Blocks.{table_at, table_each, table_length, table_same, table_set, put_here, put_else, entry_in_lem, entry_read, entries_length, changed_ledger}
 
 -- an account's block was changed so that its entry is changed in a way: so is the entry in the ledger
 pub entry_changed : (ws after : List ℕ) (a : Account) (w : Block) (change : Entry → Entry) → a.0 < 32 → Changes ws a.0 w after
@@ -29,10 +30,29 @@ pub entry_changed : (ws after : List ℕ) (a : Account) (w : Block) (change : En
 entry_changed ws after a w change h c e =
     changed_ledger ws a w after c ∙ ap (with_entry (ledger_in ws) a) (e ∙ ap change (sym (entry_in_lem ws a h)))
 
+-- the same of any account
+pub entry_stored_at : (ws after : List ℕ) (a : Account) (w : Block) (change : Entry → Entry) → Stores ws a.0 w after
+    → (a.0 < 32 → entry_by a.0 w ≡ change (entry_by a.0 (block ws a.0))) → ledger_in after ≡ with_entry (ledger_in ws) a (change (entry_of (ledger_in ws) a))
+entry_stored_at ws after a w change c e = go (dec_lt a.0 32)
+  where
+    go : Dec (a.0 < 32) → ledger_in after ≡ with_entry (ledger_in ws) a (change (entry_of (ledger_in ws) a))
+    go (yes l) = entry_changed ws after a w change l (c.inside l) (e l)
+    go (no l) =
+        rw (c.behind (omega arith))
+        (ap (with_entries (ledger_in ws)) (sym (set_past (ledger_in ws).entries a.0 (change (entry_of (ledger_in ws) a)) (omega (arith, entries_length ws)))))
+
+pub entry_stored : (ws after : List ℕ) (a : Account) (w : Block) (change : Entry → Entry) → Stores ws a.0 w after
+    → entry_by a.0 w ≡ change (entry_by a.0 (block ws a.0)) → ledger_in after ≡ with_entry (ledger_in ws) a (change (entry_of (ledger_in ws) a))
+entry_stored ws after a w change c e = entry_stored_at ws after a w change c (λ l. e)
+
 -- the current number is a word of the block
 pub current_in : (ws : List ℕ) (a : Account) → a.0 < 32 → (entry_of (ledger_in ws) a).current ≡ block ws a.0 current_place
 unfolding entry_by
 current_in ws a h = ap (λ e. e.current) (entry_in_lem ws a h)
+
+pub current_read : (ws : List ℕ) (a : Account) → (entry_of (ledger_in ws) a).current ≡ as_read a.0 (block ws a.0) current_place
+unfolding entry_by
+current_read ws a = ap (λ e. e.current) (entry_read ws a)
 
 -- one word of a block
 module _ (a : ℕ) (w : Block) where
@@ -74,11 +94,12 @@ ack_in_lem : (a : ℕ) (w : Block) (s : Seat) → s.0 < 16 → ack_from (entry_b
 unfolding entry_by
 ack_in_lem a w s h = ap (λ k. k.slot) (table_at (ack_in a w) 16 0 s.0 (record { slot = None }) h ∙ ap (ack_in a w) (omega arith))
 
-pub ack_read : (ws : List ℕ) (a : Account) (s : Seat) (value number recipient : ℕ) → a.0 < 32 → s.0 < 16
-    → value ≡ block ws a.0 (7 + s.0) → recipient ≡ block ws a.0 (23 + s.0) → number ≡ (entry_of (ledger_in ws) a).current + 1
+pub ack_read : (ws : List ℕ) (a : Account) (s : Seat) (value number recipient : ℕ) → s.0 < 16
+    → value ≡ as_read a.0 (block ws a.0) (7 + s.0) → recipient ≡ as_read a.0 (block ws a.0) (23 + s.0) → number ≡ (entry_of (ledger_in ws) a).current + 1
     → slot_by a.0 value number recipient ≡ ack_from (entry_of (ledger_in ws) a) s
-ack_read ws a s value number recipient account seat v r n =
-    rw (v, r, n, current_in ws a account) (sym (ap (λ e. ack_from e s) (entry_in_lem ws a account) ∙ ack_in_lem a.0 (block ws a.0) s seat))
+ack_read ws a s value number recipient seat v r n =
+    let w = as_read a.0 (block ws a.0) in
+    rw (v, r, n, current_read ws a) (sym (ap (λ e. ack_from e s) (entry_read ws a) ∙ ack_in_lem a.0 w s seat))
 
 -- each of the 16 seats has a place, and an ack in it is of the account and its next number
 pub acks_length : (ws : List ℕ) (a : Account) → a.0 < 32 → length (entry_of (ledger_in ws) a).acks ≡ 16

@@ -88,6 +88,10 @@ block ws a = block_of block_words ws a
 abbrev pub held_block : List ℕ → ℕ → Block
 held_block ws a = block_of held_block_words ws a
 
+-- a block as it is read: behind the last account zeros
+abbrev pub as_read : ℕ → Block → Block
+as_read a w i = cond (ltb a 32) (w i) 0
+
 -- a mark is any word but 0
 abbrev pub mark : ℕ → Bool
 mark word = not (eqb word 0)

@@ -5,6 +5,8 @@
 #![tactic(auto)]
 
 // Each of the 32 accounts has a block of words; the group's words stand behind the last block.
+pub const BLOCKS: usize = 32;
+
 pub const BLOCK: usize = 43;
 // Within an account's block: balance and current number,
 pub const BALANCE: usize = 0;
@@ -34,7 +36,7 @@ pub const RETAINED_RECIPIENT: usize = 41;
 
 pub const RETAINED_PROPOSED: usize = 42;
 // The group's words: n, f, k and the opening sum.
-pub const SEATS: usize = 32 * BLOCK;
+pub const SEATS: usize = BLOCKS * BLOCK;
 
 pub const FAULTS: usize = SEATS + 1;
 
@@ -50,7 +52,7 @@ pub type Book = [u32; BOOK_WORDS];
 // transfer, and it has 1,252 words.
 pub const HELD_BLOCK: usize = RETAINED_VALUE;
 
-pub const HELD_SEATS: usize = 32 * HELD_BLOCK;
+pub const HELD_SEATS: usize = BLOCKS * HELD_BLOCK;
 
 pub const HELD_FAULTS: usize = HELD_SEATS + 1;
 

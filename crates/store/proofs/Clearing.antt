@@ -7,8 +7,8 @@ use mathlib.Core.List.{List}
 use borrow.Author.Tests.{lt-ltb, le-ltb, le-leb, lt-leb, eq-eqb, ne_eqb}
 use Rattle.model.specs.Records.{no_acks, with_booked, with_none_retained}
 use Rattle.layout.specs.Layout.{block_words, Block, block, entry_by}
-use Rattle.layout.specs.Blocks.{put, Changes}
-use Rattle.layout.proofs.Blocks.{changed_more}
+use Rattle.layout.specs.Blocks.{put, Stores}
+use Rattle.layout.proofs.Blocks.{stored_more}
 use Rattle.store.specs.Stores.{cleared}
 
 -- what is at a place that is cleared, and at one that is not
@@ -40,12 +40,16 @@ cleared_more w i n l = fun_ext (λ j. go j (ℕ_discrete j n) (dec_lt j i) (dec_
     go j (no e) (no p) (no q) = rw (ne_eqb j n e) (cleared_behind w i n j (omega arith) (omega arith) ∙ sym (cleared_behind w i (n + 1) j (omega arith) (omega arith)))
 
 -- .. as words that are stored
-pub nothing_cleared : (ws : List ℕ) (a i : ℕ) → Changes ws a (cleared (block ws a) i i) ws
-nothing_cleared ws a i = record { size = refl; here = cleared_none (block ws a) i; others = λ b h. refl; group = λ j h. refl }
+pub nothing_cleared : (ws : List ℕ) (a i : ℕ) → Stores ws a (cleared (block ws a) i i) ws
+nothing_cleared ws a i =
+    record {
+      inside = λ l. record { size = refl; here = cleared_none (block ws a) i; others = λ b h. refl; group = λ j h. refl };
+      behind = λ l. refl;
+    }
 
-pub one_cleared : (ws mid after : List ℕ) (a i n : ℕ) → i ≤ n → Changes ws a (cleared (block ws a) i n) mid → Changes mid a (put (block mid a) n 0) after
-    → Changes ws a (cleared (block ws a) i (n + 1)) after
-one_cleared ws mid after a i n l c d = rw (← cleared_more (block ws a) i n l) (changed_more (cleared (block ws a) i n) n 0 c d)
+pub one_cleared : (ws mid after : List ℕ) (a i n : ℕ) → i ≤ n → Stores ws a (cleared (block ws a) i n) mid → Stores mid a (put (block mid a) n 0) after
+    → Stores ws a (cleared (block ws a) i (n + 1)) after
+one_cleared ws mid after a i n l c d = rw (← cleared_more (block ws a) i n l) (stored_more (cleared (block ws a) i n) n 0 c d)
 
 -- all but the balance and what is retained is cleared, and then the number is put
 pub booked_put : (a : ℕ) (w : Block) (number : ℕ) → entry_by a (put (cleared w 1 39) 1 number) ≡ with_booked (entry_by a w) number

@@ -8,12 +8,13 @@ use mathlib.Core.Bool.{Bool, true, false, cond}
 use mathlib.Core.List.{List}
 use lib.Dec.{leb}
 use lib.ListN.{length, get_or}
+use Rattle.std.proofs.lemmas.List.{set_past}
 use borrow.Author.Tests.{lt-ltb, le-ltb, eq-eqb, ne_eqb, le-leb}
 use Rattle.model.specs.declared.Account.{Account}
 use Rattle.model.specs.Records.{fresh_entry, with_retained_of, entry_of, with_entries, with_entry}
 use Rattle.layout.specs.Layout.{held_block_words, held_group_place, Block, block, held_block, up_to, entry_by, ledger_in, entry_in, held_entries_in, held_in}
-use Rattle.layout.specs.Blocks.{put, Changes}
-use Rattle.layout.proofs.Blocks.{table_at, table_length, entry_in_lem, changed_more, changed_ledger}
+use Rattle.layout.specs.Blocks.{put, Stores}
+use Rattle.layout.proofs.Blocks.{table_at, table_length, entry_in_lem, entries_length, stored_more, changed_ledger}
 use Rattle.store.specs.Stores.{GroupStored, copied}
 
 -- nothing is copied yet
@@ -30,13 +31,17 @@ copied_more u w n = fun_ext (λ j. go j (ℕ_discrete j n) (dec_lt j n))
     go j (no e) (no q) = rw (ne_eqb j n e, le-ltb j n (omega arith), le-ltb j (n + 1) (omega arith))
 
 -- .. as words that are stored
-pub nothing_copied : (ws : List ℕ) (a : ℕ) (u : Block) → Changes ws a (copied u (block ws a) 0) ws
-nothing_copied ws a u = record { size = refl; here = copied_none u (block ws a); others = λ b h. refl; group = λ j h. refl }
+pub nothing_copied : (ws : List ℕ) (a : ℕ) (u : Block) → Stores ws a (copied u (block ws a) 0) ws
+nothing_copied ws a u =
+    record {
+      inside = λ l. record { size = refl; here = copied_none u (block ws a); others = λ b h. refl; group = λ j h. refl };
+      behind = λ l. refl;
+    }
 
-pub one_copied : (ws mid after : List ℕ) (a n word : ℕ) (u : Block) → word ≡ u n → Changes ws a (copied u (block ws a) n) mid
-    → Changes mid a (put (block mid a) n word) after → Changes ws a (copied u (block ws a) (n + 1)) after
+pub one_copied : (ws mid after : List ℕ) (a n word : ℕ) (u : Block) → word ≡ u n → Stores ws a (copied u (block ws a) n) mid
+    → Stores mid a (put (block mid a) n word) after → Stores ws a (copied u (block ws a) (n + 1)) after
 one_copied ws mid after a n word u is c d =
-    rw (← copied_more u (block ws a) n, ← is) (changed_more (copied u (block ws a) n) n word c d)
+    rw (← copied_more u (block ws a) n, ← is) (stored_more (copied u (block ws a) n) n word c d)
 
 -- a word of a held book's block
 pub held_word : (ws : List ℕ) (a i word : ℕ) → i < held_block_words → word ≡ get_or ws (a * held_block_words + i) 0 → word ≡ held_block ws a i
@@ -56,13 +61,19 @@ pub held_entries_length : (ws : List ℕ) → length (held_in ws).entries ≡ 32
 unfolding held_entries_in held_in
 held_entries_length ws = table_length (λ b. entry_by b (held_block ws b)) 32 0
 
-pub entry_taken : (held ws after : List ℕ) (a : Account) → a.0 < 32
-    → Changes ws a.0 (copied (held_block held a.0) (block ws a.0) held_block_words) after
+pub entry_taken : (held ws after : List ℕ) (a : Account)
+    → Stores ws a.0 (copied (held_block held a.0) (block ws a.0) held_block_words) after
     → ledger_in after ≡ with_entry (ledger_in ws) a (with_retained_of (entry_of (held_in held) a) (entry_in ws a))
-entry_taken held ws after a h c =
-    changed_ledger ws a (copied (held_block held a.0) (block ws a.0) held_block_words) after c
-    ∙ ap (with_entry (ledger_in ws) a)
-    (copied_entry a.0 (held_block held a.0) (block ws a.0) ∙ (λ i. with_retained_of (sym (held_entry held a h) i) (sym (entry_in_lem ws a h) i)))
+entry_taken held ws after a c = go (dec_lt a.0 32)
+  where
+    go : Dec (a.0 < 32) → ledger_in after ≡ with_entry (ledger_in ws) a (with_retained_of (entry_of (held_in held) a) (entry_in ws a))
+    go (yes h) =
+        changed_ledger ws a (copied (held_block held a.0) (block ws a.0) held_block_words) after (c.inside h)
+        ∙ ap (with_entry (ledger_in ws) a)
+        (copied_entry a.0 (held_block held a.0) (block ws a.0) ∙ (λ i. with_retained_of (sym (held_entry held a h) i) (sym (entry_in_lem ws a h) i)))
+    go (no h) =
+        rw (c.behind (omega arith))
+        (ap (with_entries (ledger_in ws)) (sym (set_past (ledger_in ws).entries a.0 (with_retained_of (entry_of (held_in held) a) (entry_in ws a)) (omega (arith, entries_length ws)))))
 
 -- a number that is in its range is read as it is
 up_to_again : (limit word : ℕ) → up_to limit (up_to limit word) ≡ up_to limit word

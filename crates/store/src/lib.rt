@@ -1,5 +1,5 @@
 // The ledger's words, read and stored. No other crate computes where a thing stands in them. A public function asks for
-// an account below 32 and a seat below 16 where it has one, and for nothing of the ledger's content. What it promises is said of the ledger that the words are; of a transfer that is stored, also of the words,
+// a seat below 16 where it has one, and for nothing else. What it promises is said of the ledger that the words are; of a transfer that is stored, also of the words,
 // since a value of 0 is an empty place.
 
 #![tactic(auto)]
@@ -7,31 +7,40 @@
 ghost use Rattle.std.specs.Prelude.{◌≡◌, ◌+◌, ◌≤◌, ◌<◌, length};
 ghost use Rattle.model.specs.Records.{entry_of, with_entry, with_balance, with_acked, with_proposed, with_booked, with_retained_of, with_retained_proposed, with_none_retained, with_entries};
 ghost use Rattle.model.specs.Refusals.{ack_from};
-ghost use Rattle.layout.specs.Layout.{block_words, book_words, held_block_words, held_book_words, block, held_block, slot_by, up_to, ledger_in, entry_in, held_in};
-ghost use Rattle.layout.specs.Blocks.{put, Changes};
+ghost use Rattle.layout.specs.Layout.{block_words, book_words, held_block_words, held_book_words, block, held_block, as_read, slot_by, up_to, ledger_in, entry_in, held_in};
+ghost use Rattle.layout.specs.Blocks.{put, Stores};
 ghost use Rattle.store.specs.Stores.{cleared, numbered, AckStored, PendingStored, RetainedStored, GroupStored, copied};
 
 use layout::{
-    ACCOUNTS, ACK_RECIPIENTS, ACK_VALUES, ACKED, BALANCE, BLOCK, Book, CURRENT, FAULTS,
+    ACCOUNTS, ACK_RECIPIENTS, ACK_VALUES, ACKED, BALANCE, BLOCK, BLOCKS, Book, CURRENT, FAULTS,
     HELD_ACCOUNTS, HELD_BLOCK, HELD_FAULTS, HELD_SEATS, HELD_TOTAL, HeldBook, PENDING_NUMBER,
     PENDING_RECIPIENT, PENDING_VALUE, PROPOSED, RETAINED_NUMBER, RETAINED_PROPOSED,
     RETAINED_RECIPIENT, RETAINED_VALUE, SEATS, TOTAL,
 };
 use model::{Account, Seat, Transfer};
 
-// A word of an account's block.
+// A word of an account's block; behind the last account 0.
 fn word(words: &Book, a: Account, at: usize) -> u32
-    requires { (a.0 < 32) × (at < block_words) }
-    ensures { result ≡ block words.now a.0 at }
+    requires { at < block_words }
+    ensures { result ≡ as_read a.0 (block words.now a.0) at }
 {
-    words[(a.0 as usize) * BLOCK + at]
+    let account = a.0 as usize;
+    if account < BLOCKS {
+        words[account * BLOCK + at]
+    } else {
+        0
+    }
 }
 
+// Behind the last account nothing is stored.
 fn put_word(words: &mut Book, a: Account, at: usize, value: u32)
-    requires { (a.0 < 32) × (at < block_words) }
-    ensures { Changes words.old a.0 (put (block words.old a.0) at value) words.new }
+    requires { at < block_words }
+    ensures { Stores words.old a.0 (put (block words.old a.0) at value) words.new }
 {
-    words[(a.0 as usize) * BLOCK + at] = value;
+    let account = a.0 as usize;
+    if account < BLOCKS {
+        words[account * BLOCK + at] = value;
+    }
 }
 
 // A number that is at most the limit; any other is read as 0.
@@ -83,14 +92,12 @@ pub fn put_group(words: &mut Book, seats: u8, faults: u8, accounts: u8, total: u
 }
 
 pub fn balance_of(words: &Book, a: Account) -> u32
-    requires { a.0 < 32 }
     ensures { result ≡ (entry_in words.now a).balance }
 {
     word(words, a, BALANCE)
 }
 
 pub fn current_of(words: &Book, a: Account) -> u32
-    requires { a.0 < 32 }
     ensures { result ≡ (entry_in words.now a).current }
 {
     word(words, a, CURRENT)
@@ -98,7 +105,6 @@ pub fn current_of(words: &Book, a: Account) -> u32
 
 // This seat has acked the account's next number.
 pub fn is_acked(words: &Book, a: Account) -> bool
-    requires { a.0 < 32 }
     ensures { result ≡ (entry_in words.now a).acked }
 {
     word(words, a, ACKED) != 0
@@ -106,7 +112,6 @@ pub fn is_acked(words: &Book, a: Account) -> bool
 
 // A transfer was proposed for the account's next number.
 pub fn is_proposed(words: &Book, a: Account) -> bool
-    requires { a.0 < 32 }
     ensures { result ≡ (entry_in words.now a).proposed }
 {
     word(words, a, PROPOSED) != 0
@@ -129,7 +134,6 @@ fn slot_of(a: Account, value: u32, number: u32, recipient: u32) -> Option<Transf
 
 // The accepted transfer that waits, if any.
 pub fn pending_of(words: &Book, a: Account) -> Option<Transfer>
-    requires { a.0 < 32 }
     ensures { result ≡ (entry_in words.now a).pending }
 {
     slot_of(
@@ -142,7 +146,6 @@ pub fn pending_of(words: &Book, a: Account) -> Option<Transfer>
 
 // The retained transfer, the latest that was accepted, if any.
 pub fn retained_of(words: &Book, a: Account) -> Option<Transfer>
-    requires { a.0 < 32 }
     ensures { result ≡ (entry_in words.now a).retained }
 {
     slot_of(
@@ -155,7 +158,6 @@ pub fn retained_of(words: &Book, a: Account) -> Option<Transfer>
 
 // A transfer was proposed for the number of the retained one.
 pub fn is_retained_proposed(words: &Book, a: Account) -> bool
-    requires { a.0 < 32 }
     ensures { result ≡ (entry_in words.now a).retained_proposed }
 {
     word(words, a, RETAINED_PROPOSED) != 0
@@ -164,7 +166,7 @@ pub fn is_retained_proposed(words: &Book, a: Account) -> bool
 // A seat's ack for the account's next number, if any is recorded, told with a number: the
 // next, as the caller has found it.
 pub fn ack_from(words: &Book, a: Account, s: Seat, next: u32) -> Option<Transfer>
-    requires { (a.0 < 32) × (s.0 < 16) }
+    requires { s.0 < 16 }
     ensures { result ≡ numbered next (ack_from (entry_in words.now a) s) }
 {
     let seat = s.0 as usize;
@@ -177,21 +179,18 @@ pub fn ack_from(words: &Book, a: Account, s: Seat, next: u32) -> Option<Transfer
 }
 
 pub fn put_balance(words: &mut Book, a: Account, balance: u32)
-    requires { a.0 < 32 }
     ensures { ledger_in words.new ≡ with_entry (ledger_in words.old) a (with_balance (entry_in words.old a) balance) }
 {
     put_word(words, a, BALANCE, balance);
 }
 
 pub fn put_acked(words: &mut Book, a: Account)
-    requires { a.0 < 32 }
     ensures { ledger_in words.new ≡ with_entry (ledger_in words.old) a (with_acked (entry_in words.old a)) }
 {
     put_word(words, a, ACKED, 1);
 }
 
 pub fn put_proposed(words: &mut Book, a: Account)
-    requires { a.0 < 32 }
     ensures { ledger_in words.new ≡ with_entry (ledger_in words.old) a (with_proposed (entry_in words.old a)) }
 {
     put_word(words, a, PROPOSED, 1);
@@ -199,7 +198,7 @@ pub fn put_proposed(words: &mut Book, a: Account)
 
 // A seat's ack of a transfer is recorded: the one place where it is.
 pub fn put_ack(words: &mut Book, s: Seat, t: Transfer)
-    requires { (t.account.0 < 32) × (s.0 < 16) }
+    requires { s.0 < 16 }
     ensures { AckStored words.old s t words.new }
 {
     let seat = s.0 as usize;
@@ -210,7 +209,6 @@ pub fn put_ack(words: &mut Book, s: Seat, t: Transfer)
 
 // An accepted transfer waits.
 pub fn put_pending(words: &mut Book, t: Transfer)
-    requires { t.account.0 < 32 }
     ensures { PendingStored words.old t words.new }
 {
     let recipient = t.recipient;
@@ -221,7 +219,6 @@ pub fn put_pending(words: &mut Book, t: Transfer)
 
 // A transfer of the account's next number is retained, with the mark that this number has.
 pub fn put_retained(words: &mut Book, t: Transfer)
-    requires { t.account.0 < 32 }
     ensures { RetainedStored words.old t words.new }
 {
     let recipient = t.recipient;
@@ -233,7 +230,6 @@ pub fn put_retained(words: &mut Book, t: Transfer)
 }
 
 pub fn put_retained_proposed(words: &mut Book, a: Account)
-    requires { a.0 < 32 }
     ensures { ledger_in words.new ≡ with_entry (ledger_in words.old) a (with_retained_proposed (entry_in words.old a)) }
 {
     put_word(words, a, RETAINED_PROPOSED, 1);
@@ -241,8 +237,8 @@ pub fn put_retained_proposed(words: &mut Book, a: Account)
 
 // The words of an account's block from one place up to another are 0.
 fn clear(words: &mut Book, a: Account, from: usize, to: usize)
-    requires { (a.0 < 32) × (from ≤ to) × (to ≤ block_words) }
-    ensures { Changes words.old a.0 (cleared (block words.old a.0) from to) words.new }
+    requires { (from ≤ to) × (to ≤ block_words) }
+    ensures { Stores words.old a.0 (cleared (block words.old a.0) from to) words.new }
 {
     for at in from..to {
         put_word(words, a, at, 0);
@@ -251,7 +247,6 @@ fn clear(words: &mut Book, a: Account, from: usize, to: usize)
 
 // Nothing is retained.
 pub fn put_none_retained(words: &mut Book, a: Account)
-    requires { a.0 < 32 }
     ensures { ledger_in words.new ≡ with_entry (ledger_in words.old) a (with_none_retained (entry_in words.old a)) }
 {
     clear(words, a, RETAINED_VALUE, BLOCK);
@@ -260,7 +255,6 @@ pub fn put_none_retained(words: &mut Book, a: Account)
 // A number was booked: it is the current one, and the account's acks, marks and what waited are
 // cleared. What is retained stays.
 pub fn put_booked(words: &mut Book, a: Account, number: u32)
-    requires { a.0 < 32 }
     ensures { ledger_in words.new ≡ with_entry (ledger_in words.old) a (with_booked (entry_in words.old a) number) }
 {
     clear(words, a, CURRENT, RETAINED_VALUE);
@@ -270,10 +264,13 @@ pub fn put_booked(words: &mut Book, a: Account, number: u32)
 // The words of an account's block in a book held from before, which ends before what is
 // retained, are those of its block now.
 fn copy_block(held: &HeldBook, words: &mut Book, a: Account)
-    requires { a.0 < 32 }
-    ensures { Changes words.old a.0 (copied (held_block held.now a.0) (block words.old a.0) held_block_words) words.new }
+    ensures { Stores words.old a.0 (copied (held_block held.now a.0) (block words.old a.0) held_block_words) words.new }
 {
-    let start = (a.0 as usize) * HELD_BLOCK;
+    let account = a.0 as usize;
+    if BLOCKS <= account {
+        return;
+    }
+    let start = account * HELD_BLOCK;
     for at in 0..HELD_BLOCK {
         put_word(words, a, at, held[start + at]);
     }
@@ -281,7 +278,6 @@ fn copy_block(held: &HeldBook, words: &mut Book, a: Account)
 
 // An account is as in a book held from before; what is retained stays.
 pub fn take_entry(held: &HeldBook, words: &mut Book, a: Account)
-    requires { a.0 < 32 }
     ensures { ledger_in words.new ≡ with_entry (ledger_in words.old) a (with_retained_of (entry_of (held_in held.now) a) (entry_in words.old a)) }
 {
     copy_block(held, words, a);

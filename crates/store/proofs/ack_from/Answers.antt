@@ -18,4 +18,4 @@ returns c =
     ∙ sym (numbered_slot c.args.a.0 value number c.args.next recipient)
     ∙ ap
     (numbered c.args.next)
-    (ack_read ws c.args.a c.args.s value number recipient (omega arith) (omega arith) c.word.ensures c.word-2.ensures refl)
+    (ack_read ws c.args.a c.args.s value number recipient (omega arith) c.word.ensures c.word-2.ensures refl)

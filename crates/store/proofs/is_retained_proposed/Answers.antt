@@ -1,11 +1,10 @@
 -- A mark is any word but 0.
-use native.Mathlib.Omega.{arith}
 use mathlib.Core.Path.{ap, sym, ◌∙◌}
 use Rattle.layout.specs.Layout.{mark, entry_by}
-use Rattle.layout.proofs.Blocks.{entry_in_lem}
+use Rattle.layout.proofs.Blocks.{entry_read}
 use Rattle.store.proofs.is_retained_proposed.Goals as goal
 
 pub returns : goal.returns
 unfolding entry_by
 returns c =
-    ap mark c.word.ensures ∙ sym (ap (λ e. e.retained_proposed) (entry_in_lem c.args.words.now c.args.a (omega arith)))
+    ap mark c.word.ensures ∙ sym (ap (λ e. e.retained_proposed) (entry_read c.args.words.now c.args.a))

@@ -1,8 +1,7 @@
 -- The three words are the place of the retained slip.
-use native.Mathlib.Omega.{arith}
 use mathlib.Core.Path.{ap, sym, ◌∙◌}
 use Rattle.layout.specs.Layout.{entry_by}
-use Rattle.layout.proofs.Blocks.{entry_in_lem}
+use Rattle.layout.proofs.Blocks.{entry_read}
 use Rattle.store.proofs.retained_of.Goals as goal
 
 pub returns : goal.returns
@@ -10,4 +9,4 @@ unfolding entry_by
 returns c =
     c.slot_of.ensures
     ∙ rw (c.word.ensures, c.word-2.ensures, c.word-3.ensures)
-    (sym (ap (λ e. e.retained) (entry_in_lem c.args.words.now c.args.a (omega arith))))
+    (sym (ap (λ e. e.retained) (entry_read c.args.words.now c.args.a)))

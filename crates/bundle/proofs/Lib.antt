@@ -1,5 +1,4 @@
 -- Laws that the proofs of this crate share, and worked facts of a reading.
-pub mod Checking
 pub mod Longest
 pub mod Reading
 pub mod Facts

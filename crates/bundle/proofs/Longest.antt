@@ -10,7 +10,7 @@ use Rattle.model.specs.Types.{BundleReply, refused_at}
 use Rattle.model.specs.Basics.{every}
 use Rattle.model.specs.Bundles.{number_at, entry_count, contents_at, body_lengths, body_length, start_at, bad_count, bad_header, misplaced, wrong_entry, first_bad_entry, bad_end, wrong_sum_at, first_bad_sum, of_whole, first_fault, check_bundle}
 use Rattle.bundle.specs.Promises.{longest, RefusedEarly, LongRefused}
-use Rattle.laws.proofs.Sums.{impossible, both, neither, NotFound, first_none, same_found}
+use Rattle.laws.proofs.Sums.{impossible, both, neither, is_so, NotFound, first_none, same_found}
 
 -- in a list of numbers of at most b, each is at most b
 pub at_most : (b : ℕ) (xs : List ℕ) (i : ℕ) → every (λ x. leb x b) xs ≡ true → get_or xs i 0 ≤ b
@@ -24,11 +24,7 @@ body_any kind = at_most 131 body_lengths kind refl
 
 -- two numbers that do not differ
 pub no_difference : (a b : ℕ) → not (eqb a b) ≡ false → a ≡ b
-no_difference a b e = go (eqb a b) refl e
-  where
-    go : (same : Bool) → eqb a b ≡ same → not same ≡ false → a ≡ b
-    go true h still = eqb-true a b h
-    go false h still = impossible (cc)
+no_difference a b e = eqb-true a b (is_so (eqb a b) e)
 
 -- what an entry that is not wrong has: a kind, in its place, a seat only where there is one, and its start
 pub right_entry : (i start : ℕ) (c : ContentsEntry) → wrong_entry i start c ≡ false

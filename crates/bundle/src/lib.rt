@@ -34,6 +34,7 @@ fn refused(refusal: Refusal, entry: u16) -> BundleError
 
 // The check of a bundle: how many entries it has, or the refusal and the entry. Codes 13, 14, 15 and 16 in this
 // order, the lowest entry first.
+#[tactic(auto, unfolding(model::specs::Bundles::check_bundle))]
 pub fn check(bytes: &[u8]) -> Result<u16, BundleError>
     ensures { CheckedAs bytes.now result }
 {

@@ -4,9 +4,12 @@
 pub enum Kind {
     Opening,
     Request,
+    // a circulated slip
     Circulated,
     Ack,
+    // a ruling
     Decision,
+    // a balance question
     Inquiry,
 }
 

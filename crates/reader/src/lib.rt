@@ -59,6 +59,7 @@ pub fn read_page(bundle: &[u8], at: Cursor) -> Read
 }
 
 // The opening page's body by plain parameters: a reading takes its first page and shows it.
+#[tactic(auto, using(crate::proofs::Pages::shows_first))]
 pub fn opening_body(bundle: &[u8]) -> &[u8]
     ensures { result.now ≡ opening_body bundle.now }
 {

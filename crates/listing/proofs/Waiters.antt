@@ -1,18 +1,17 @@
 -- What the loop over the accounts knows of the buffer: in front are those before `i` at which a slip
 -- waits, and at the end all of them.
-use Rattle.std.specs.Prelude.{Ok, Err}
+use Rattle.std.specs.Prelude.{Ok}
 use Prim.Native.Nat.{ℕ, suc, ◌+◌, ◌≤◌, ◌<◌}
 use native.Mathlib.Nat.{zero-add}
 use native.Mathlib.Numerals.{add-one}
 use native.Mathlib.Omega.{arith}
-use mathlib.Core.Path.{◌≡◌, refl, ap, sym, ◌∙◌}
+use mathlib.Core.Path.{◌≡◌, ap, sym, ◌∙◌}
 use mathlib.Core.Bool.{true, false}
 use mathlib.Core.List.{List, [], ◌∷◌, ◌++◌, append-nil}
 use lib.ListN.{length, get_or, drop, set, length-append, length-set}
 use lib.Seq.{drop-cons, append_snoc, set_at}
-use borrow.Author.Tests.{lt-ltb, le-ltb}
+use borrow.Author.Tests.{le-ltb}
 use Rattle.model.specs.Types.{Ledger}
-use Rattle.model.specs.declared.Refusal.TheVariants.{ShortBuffer}
 use Rattle.model.specs.Basics.{all_where}
 use Rattle.model.specs.Calls.{waits_at, waiting_accounts, Lists}
 use Rattle.laws.proofs.Searches.{alone, all_more}
@@ -28,13 +27,6 @@ module _ (l : Ledger) (before : List ℕ) where
     pub few : n ≤ i
     pub size : length now ≡ length before
     pub front : now ≡ passed i ++ drop n before
-
-  pub listed_none : ListedBelow 0 0 before
-  listed_none = record { many = refl; few = omega arith; size = refl; front = refl }
-
-  -- a buffer that is too short stays
-  pub not_listed : length before < 32 → Lists (waiting_accounts l) before (Err ShortBuffer) before
-  not_listed short = record { reply = rw (lt-ltb (length before) 32 short); buffer = refl }
 
   passed_more : (i : ℕ) → passed (i + 1) ≡ passed i ++ alone (waits_at l i) i
   passed_more i = rw (add-one i) (rw (zero-add i) at (all_more (waits_at l) i 0))
@@ -55,7 +47,9 @@ module _ (l : Ledger) (before : List ℕ) where
           many = rw (longer, length-append (passed i) (i ∷ [])) (omega (arith, h.many));
           few = omega (arith, h.few);
           size = length-set now n i ∙ h.size;
-          front = rw (h.front, drop-cons before n 0 room, stored, longer, add-one n) (sym (append_snoc (passed i) i (drop (suc n) before)));
+          front =
+              rw (h.front, drop-cons before n 0 room, stored, longer, add-one n)
+              (sym (append_snoc (passed i) i (drop (suc n) before)));
         }
 
     -- after the last account the list is done
@@ -63,4 +57,7 @@ module _ (l : Ledger) (before : List ℕ) where
     unfolding waiting_accounts
     listed_all all room =
         let many : n ≡ length (passed (length l.entries)) = h.many ∙ ap (λ (k : ℕ). length (passed k)) all in
-        record { reply = rw (le-ltb (length before) 32 room, ← many); buffer = h.front ∙ ap (λ (k : ℕ). passed k ++ drop n before) all }
+        record {
+          reply = rw (le-ltb (length before) 32 room, ← many);
+          buffer = h.front ∙ ap (λ (k : ℕ). passed k ++ drop n before) all;
+        }

@@ -2,31 +2,26 @@
 
 #![tactic(auto)]
 
-ghost use Rattle.std.specs.Prelude.{◌≡◌, length};
-ghost use Rattle.layout.specs.Layout.{book_words, ledger_in};
+ghost use Rattle.layout.specs.Layout.{ledger_in};
 ghost use Rattle.model.specs.Calls.{waiting_accounts, Lists};
 
-use basics::slots::is_full;
-use model::{Account, ListReply, Refusal};
+use layout::Book;
+use model::{Account, Refusal};
 use store::pending_of;
 
 // The accounts at which a transfer waits, lowest first, into the front of the buffer. The ledger stays the same.
-pub fn list_waiting(words: &[u32], buffer: &mut [u8]) -> ListReply
-    requires { length words.now ≡ book_words }
+pub fn list_waiting(words: &Book, buffer: &mut [u8]) -> Result<u32, Refusal>
     ensures { Lists (waiting_accounts (ledger_in words.now)) buffer.old result buffer.new }
 {
     if buffer.len() < 32 {
-        return ListReply::ListRefused(Refusal::ShortBuffer);
+        return Err(Refusal::ShortBuffer);
     }
-    let mut n: u32 = 0;
-    let mut i: u8 = 0;
-    while i < 32 {
-        let pending = pending_of(words, Account(i));
-        if is_full(pending) {
-            buffer[n as usize] = i;
+    let mut n = 0;
+    for i in 0..32 {
+        if pending_of(words, Account(i)).is_some() {
+            buffer[n] = i;
             n += 1;
         }
-        i += 1;
     }
-    ListReply::Listed(n)
+    Ok(n as u32)
 }

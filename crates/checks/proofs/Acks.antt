@@ -31,7 +31,7 @@ pub by_recorded : (ws : List ℕ) (s : Seat) (t : Transfer) {a : Slot} {q : Resu
 by_recorded ws s t {q = q} known clear is h =
     let e = entry_in ws t.account in
     let fit = fits ws t (passed _ (sym clear)) in
-    let recorded = is ∙ ack_next ws t.account s fit.range.account t.number fit.next in
+    let recorded = is ∙ ack_next ws t.account s t.number fit.next in
     rw known
     (passes (transfer_rules (ledger_in ws) e t) (recorded_rules t (ack_from e s)) q clear (rw (← recorded) h))
 

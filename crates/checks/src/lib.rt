@@ -35,7 +35,6 @@ fn waits(s: Option<Transfer>, t: Transfer) -> bool
 
 // What the number of every transfer meets, whichever message brings it: 6 to 8.
 fn number_check(words: &Book, t: Transfer) -> Result<(), Refusal>
-    requires { t.account.0 < 32 }
     ensures { result ≡ check_of (first_refusal (number_rules (entry_in words.now t.account) t)) }
 {
     let current = current_of(words, t.account);
@@ -124,14 +123,10 @@ pub fn ack_check(words: &Book, s: Seat, t: Transfer) -> Result<(), Refusal>
 
 // The transfer that a late proposal carries, if an ack brings one: the retained one, where the ack passes 4 and 5, its
 // transfer is another of that account and number, and nothing was proposed for it.
-#[tactic(auto, using(crate::proofs::Late::behind))]
 pub fn late_proposal(words: &Book, s: Seat, t: Transfer) -> Option<Transfer>
     ensures { result ≡ late_slip (ledger_in words.now) (entry_in words.now t.account) s t }
 {
-    // what is retained comes first, which tells most acks apart; behind the last account nothing is
-    if 32 <= t.account.0 {
-        return None;
-    }
+    // what is retained comes first, which tells most acks apart
     let retained = retained_of(words, t.account)?;
     if !in_conflict(retained, t)
         || is_retained_proposed(words, t.account)

@@ -1,6 +1,6 @@
 -- Getter and setter laws of an account's entry, of the list of entries and of the ledger.
 use Rattle.std.specs.Prelude.{Some, None}
-use Prim.Native.Nat.{ℕ, ◌<◌}
+use Prim.Native.Nat.{ℕ, ◌<◌, ◌≤◌}
 use native.Mathlib.Decide.{ℕ_discrete, dec_lt}
 use native.Mathlib.Omega.{arith}
 use mathlib.Core.Path.{◌≡◌, refl, ap}
@@ -131,6 +131,12 @@ module _ (l : Ledger) where
   with_entry_read a = ap (with_entries l) (set_entry_read l.entries a)
 
   -- a store for an account, and then one that changes what was stored, is one store
-  pub with_entry_again : (a : Account) (e : Entry) (change : Entry → Entry) → a.0 < length l.entries
+  pub with_entry_again : (a : Account) (e : Entry) (change : Entry → Entry)
       → with_entry (with_entry l a e) a (change (entry_of (with_entry l a e) a)) ≡ with_entry l a (change e)
-  with_entry_again a e change h = rw (with_entry_same a e h) (ap (with_entries l) (set_entry_twice l.entries a e (change e)))
+  with_entry_again a e change = go (dec_lt a.0 (length l.entries))
+    where
+      go : Dec (a.0 < length l.entries) → with_entry (with_entry l a e) a (change (entry_of (with_entry l a e) a)) ≡ with_entry l a (change e)
+      go (yes h) = rw (with_entry_same a e h) (ap (with_entries l) (set_entry_twice l.entries a e (change e)))
+      go (no h) =
+          let behind : length l.entries ≤ a.0 = omega arith in
+          rw (set_out l.entries a.0 e behind, set_out l.entries a.0 (change (entry_of l a)) behind, set_out l.entries a.0 (change e) behind)

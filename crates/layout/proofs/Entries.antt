@@ -102,9 +102,9 @@ ack_read ws a s value number recipient seat v r n =
     rw (v, r, n, current_read ws a) (sym (ap (λ e. ack_from e s) (entry_read ws a) ∙ ack_in_lem a.0 w s seat))
 
 -- each of the 16 seats has a place, and an ack in it is of the account and its next number
-pub acks_length : (ws : List ℕ) (a : Account) → a.0 < 32 → length (entry_of (ledger_in ws) a).acks ≡ 16
+pub acks_length : (ws : List ℕ) (a : Account) → length (entry_of (ledger_in ws) a).acks ≡ 16
 unfolding entry_by
-acks_length ws a h = ap (λ e. length e.acks) (entry_in_lem ws a h) ∙ table_length (ack_in a.0 (block ws a.0)) 16 0
+acks_length ws a = ap (λ e. length e.acks) (entry_read ws a) ∙ table_length (ack_in a.0 (as_read a.0 (block ws a.0))) 16 0
 
 -- a slip that stands in a place is of the block's account, has the place's number and a value, and
 -- its recipient's number is a byte
@@ -123,23 +123,23 @@ slot_of_next a value number recipient u = go (eqb value 0) refl
         rw (← same) (refl, refl, omega (arith, eqb-false value 0 is), omega arith)
 
 -- so is what waits
-pub pending_of : (ws : List ℕ) (a : Account) (u : Transfer) → a.0 < 32 → (entry_of (ledger_in ws) a).pending ≡ Some u
+pub pending_of : (ws : List ℕ) (a : Account) (u : Transfer) → (entry_of (ledger_in ws) a).pending ≡ Some u
     → (u.account ≡ a) × (0 < u.value) × (u.recipient.0 < 256)
 unfolding entry_by
-pending_of ws a u h waits =
-    let w = block ws a.0 in
-    let found = slot_of_next a.0 (w 4) (w 5) (w 6) u (sym (ap (λ e. e.pending) (entry_in_lem ws a h)) ∙ waits) in
+pending_of ws a u waits =
+    let w = as_read a.0 (block ws a.0) in
+    let found = slot_of_next a.0 (w 4) (w 5) (w 6) u (sym (ap (λ e. e.pending) (entry_read ws a)) ∙ waits) in
     (found.0, found.2, found.3)
 
-pub ack_of_next : (ws : List ℕ) (a : Account) (s : Seat) (u : Transfer) → a.0 < 32 → ack_from (entry_of (ledger_in ws) a) s ≡ Some u
+pub ack_of_next : (ws : List ℕ) (a : Account) (s : Seat) (u : Transfer) → ack_from (entry_of (ledger_in ws) a) s ≡ Some u
     → (u.account ≡ a) × (u.number ≡ (entry_of (ledger_in ws) a).current + 1)
 unfolding entry_by
-ack_of_next ws a s u h = rw (entry_in_lem ws a h)
+ack_of_next ws a s u = rw (entry_read ws a)
     (table_each OfNext (ack_in a.0 w) 16 0 s.0 none (λ e. impossible (cc))
     (λ k e. let found = slot_of_next a.0 (w (7 + k)) (w current_place + 1) (w (23 + k)) u e in (found.0, found.1)))
   where
     w : Block
-    w = block ws a.0
+    w = as_read a.0 (block ws a.0)
 
     none : AckSlot
     none = record { slot = None }

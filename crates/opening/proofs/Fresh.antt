@@ -12,17 +12,16 @@ use Rattle.layout.proofs.Blocks.{entries_length}
 use Rattle.store.proofs.Entering.{Entered, none_entered, one_entered}
 
 -- an account that was booked at 0, retains nothing and was given a balance is one at opening
-pub fresh_put : (before booked mid after : List ℕ) (a : Account) (b : ℕ) → a.0 < 32
+pub fresh_put : (before booked mid after : List ℕ) (a : Account) (b : ℕ)
     → ledger_in booked ≡ with_entry (ledger_in before) a (with_booked (entry_in before a) 0)
     → ledger_in mid ≡ with_entry (ledger_in booked) a (with_none_retained (entry_in booked a))
     → ledger_in after ≡ with_entry (ledger_in mid) a (with_balance (entry_in mid a) b)
     → ledger_in after ≡ with_entry (ledger_in before) a (fresh_entry b)
-fresh_put before booked mid after a b inside first second third =
+fresh_put before booked mid after a b first second third =
     let l = ledger_in before in
-    let h : a.0 < length l.entries = omega (arith, entries_length before) in
     let bare : ledger_in mid ≡ with_entry l a (with_none_retained (with_booked (entry_of l a) 0)) =
-    second ∙ rw first (with_entry_again l a (with_booked (entry_of l a) 0) with_none_retained h) in
-    third ∙ rw bare (with_entry_again l a (with_none_retained (with_booked (entry_of l a) 0)) (λ e. with_balance e b) h)
+    second ∙ rw first (with_entry_again l a (with_booked (entry_of l a) 0) with_none_retained) in
+    third ∙ rw bare (with_entry_again l a (with_none_retained (with_booked (entry_of l a) 0)) (λ e. with_balance e b))
 
 -- The accounts before `i` are at opening, and all but the entries is as it was.
 abbrev pub Freshened : List ℕ → List ℕ → List ℕ → ℕ → Type 0

@@ -58,7 +58,6 @@ fn open_check(page: &Opening) -> Result<u32, Refusal>
 // An account at opening.
 #[tactic(auto, using(crate::proofs::Fresh::fresh_put))]
 fn put_fresh(words: &mut Book, a: Account, balance: u32)
-    requires { a.0 < 32 }
     ensures { ledger_in words.new ≡ with_entry (ledger_in words.old) a (fresh_entry balance) }
 {
     put_booked(words, a, 0);

@@ -48,9 +48,9 @@ full_numbered n None = refl
 full_numbered n (Some u) = refl
 
 -- the same of an ack in words, whose number is the account's next
-module _ (ws : List ℕ) (a : Account) (s : Seat) (inside : a.0 < 32) where
+module _ (ws : List ℕ) (a : Account) (s : Seat) where
   next_of : Of ((entry_in ws a).current + 1) (ack_from (entry_in ws a) s)
-  next_of u e = (ack_of_next ws a s u inside e).1
+  next_of u e = (ack_of_next ws a s u e).1
 
   pub ack_next : (n : ℕ) → n ≡ (entry_in ws a).current + 1 → numbered n (ack_from (entry_in ws a) s) ≡ ack_from (entry_in ws a) s
   ack_next n e = rw e (numbered_same ((entry_in ws a).current + 1) (ack_from (entry_in ws a) s) next_of)

@@ -14,9 +14,8 @@ use model::Account;
 use store::{pending_of, put_none_retained, put_retained, take_entry, take_group};
 
 // An account of the held book: what waits is retained, with the mark of its number; where nothing waits, nothing is.
-#[tactic(auto, using(crate::proofs::Accounts::of_account))]
+#[tactic(auto, using(crate::proofs::Accounts::nothing_waits))]
 fn take_account(held: &HeldBook, words: &mut Book, a: Account)
-    requires { a.0 < 32 }
     ensures { ledger_in words.new
         ≡ with_entry (ledger_in words.old) a (retains_waiting (entry_of (held_in held.now) a)) }
 {

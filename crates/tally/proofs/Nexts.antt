@@ -23,10 +23,10 @@ pub tally_next : (e : Entry) (t : Transfer) (y : Tally) → t.number ≡ e.curre
 tally_next e t y next h = h ∙ ap (λ (u : Transfer). tally_of u e.acks) (at_next_lem e t next)
 
 -- and so is the one that is put forward: where acks are recorded, it is one of theirs
-pub most_next : (ws : List ℕ) (t r : Transfer) → t.account.0 < 32 → t.number ≡ (entry_in ws t.account).current + 1
+pub most_next : (ws : List ℕ) (t r : Transfer) → t.number ≡ (entry_in ws t.account).current + 1
     → 0 < acks_for t (entry_in ws t.account).acks → r ≡ with_number (most_acked (entry_in ws t.account).acks) t.number
     → r ≡ most_acked (entry_in ws t.account).acks
-most_next ws t r inside next some is = is ∙ own (ack_at acks found.0) refl found.1
+most_next ws t r next some is = is ∙ own (ack_at acks found.0) refl found.1
   where
     acks : List AckSlot
     acks = (entry_in ws t.account).acks
@@ -38,5 +38,5 @@ most_next ws t r inside next some is = is ∙ own (ack_at acks found.0) refl fou
     own None at h = impossible (cc)
     own (Some u) at h =
         let first = first_of_most acks found.0 u at in
-        let of = ack_of_next ws t.account (record { 0 = first.seat }) (most_acked acks) inside first.acked in
+        let of = ack_of_next ws t.account (record { 0 = first.seat }) (most_acked acks) first.acked in
         rw (next, ← of.1)

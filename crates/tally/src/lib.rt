@@ -52,7 +52,6 @@ impl Tally {
 // Goes through the seats from 0 and gathers those whose ack for the account's next number equals the transfer: the
 // running tally, which each recorded ack brings up to date.
 pub fn gather(words: &Book, t: Transfer) -> Tally
-    requires { t.account.0 < 32 }
     ensures { Gathers words.now t result }
 {
     let mut tally = Tally {
@@ -73,7 +72,6 @@ pub fn gather(words: &Book, t: Transfer) -> Tally
 // At least n - f acks are recorded, two conflict, and nothing was put forward for this number. All are of one number,
 // so that two which are not equal conflict: two conflict where fewer are equal to one of them than are recorded.
 pub fn must_propose(words: &Book, a: Account, y: Tally) -> bool
-    requires { a.0 < 32 }
     ensures { Decides words.now a y result }
 {
     seats_of(words).saturating_sub(faults_of(words)) <= y.recorded
@@ -84,7 +82,6 @@ pub fn must_propose(words: &Book, a: Account, y: Tally) -> bool
 // How many of the acks that are recorded for an account's next number are equal to the transfer,
 // where only the number is wanted.
 fn acks_for(words: &Book, t: Transfer) -> u8
-    requires { t.account.0 < 32 }
     ensures { result ≡ acks_for (at_next (entry_in words.now t.account) t) (entry_in words.now t.account).acks }
 {
     (0..16)
@@ -102,7 +99,7 @@ pub struct Leader {
 // Of the leader and the transfer that a seat acked for t's account, if any, told with t's number, the one with
 // more acks; on a tie the leader.
 fn better(words: &Book, best: Leader, t: Transfer, s: Seat) -> Leader
-    requires { (t.account.0 < 32) × (s.0 < 16) }
+    requires { s.0 < 16 }
     ensures { result ≡ leader_of (entry_in words.now t.account).acks t.number best (ack_from (entry_in words.now t.account) s) }
 {
     match ack_from(words, t.account, s, t.number) {
@@ -121,7 +118,6 @@ fn better(words: &Book, best: Leader, t: Transfer, s: Seat) -> Leader
 // The most acked transfer of t's account, told with t's number: going through the seats from 0, the first of those with
 // the most acks. Where nothing is recorded its account, value and recipient are 0.
 pub fn most_acked(words: &Book, t: Transfer) -> Transfer
-    requires { t.account.0 < 32 }
     ensures { result ≡ with_number (most_acked (entry_in words.now t.account).acks) t.number }
 {
     let nobody = Leader {

@@ -23,7 +23,7 @@ filtered : (p : ℕ → Bool) (n i : ℕ) → filter p (range_with_len i n) ≡ 
 filtered p zero i = refl
 filtered p (suc n) i = ap (λ (xs : List ℕ). cond (p i) (i ∷ xs) xs) (rw add-one (filtered p n (suc i)))
 
-module _ (ws : List ℕ) (t : Transfer) (inside : t.account.0 < 32) where
+module _ (ws : List ℕ) (t : Transfer) where
   abbrev e : Entry
   e = entry_in ws t.account
 
@@ -34,12 +34,12 @@ module _ (ws : List ℕ) (t : Transfer) (inside : t.account.0 < 32) where
   number : length (filter test (range_with_len 0 16)) ≡ acks_for (at_next e t) e.acks
   number =
       ap length (filtered test 16 0)
-      ∙ ap (λ (n : ℕ). length (all_where test n 0)) (sym (acks_length ws t.account inside))
-      ∙ all_number (λ a. holds (at_next e t) a.slot) (record { slot = None }) e.acks test 0 (λ k below. rw (zero-add k) (ack_holds ws t.account (seat_of k) inside t))
+      ∙ ap (λ (n : ℕ). length (all_where test n 0)) (sym (acks_length ws t.account))
+      ∙ all_number (λ a. holds (at_next e t) a.slot) (record { slot = None }) e.acks test 0 (λ k below. rw (zero-add k) (ack_holds ws t.account (seat_of k) t))
 
 pub returns : goal.returns
 returns c =
     let ws = c.args.words.now in
     count_from_yields_List c.filter.result c.count.result c.count.ensures.ran
-    (YieldsList-from_filter _ (test ws c.args.t c.requires) (YieldsList-from_range 0 16 16 c.filter.ensures.source refl) c.filter.ensures.closure (λ x b q k. search rules))
-    ∙ number ws c.args.t c.requires
+    (YieldsList-from_filter _ (test ws c.args.t) (YieldsList-from_range 0 16 16 c.filter.ensures.source refl) c.filter.ensures.closure (λ x b q k. search rules))
+    ∙ number ws c.args.t

@@ -25,7 +25,7 @@ use Rattle.tally.proofs.better.Goals as goal
 told_back : (n m : ℕ) (u v : Transfer) → u ≡ with_number v n → v.number ≡ m → with_number u m ≡ v
 told_back n m u v tells number = rw (tells, ← number)
 
-module _ (ws : List ℕ) (best : Leader) (a : Account) (number : ℕ) (s : Seat) (slot : Slot) (inside : a.0 < 32)
+module _ (ws : List ℕ) (best : Leader) (a : Account) (number : ℕ) (s : Seat) (slot : Slot)
     (read : slot ≡ numbered number (ack_from (entry_in ws a) s)) where
   abbrev e : Entry
   e = entry_in ws a
@@ -45,7 +45,7 @@ module _ (ws : List ℕ) (best : Leader) (a : Account) (number : ℕ) (s : Seat)
       go None is = impossible (let z : Some u ≡ None = rw (full, is) at read in cc)
       go (Some v) is =
           let same : Some u ≡ Some (with_number v number) = rw (full, is) at read in
-          let of = ack_of_next ws a s v inside is in
+          let of = ack_of_next ws a s v is in
           record { ack = v; is = is; tells = cc; account = of.0; next = of.1 }
 
   module _ (u : Transfer) (full : slot ≡ Some u) where
@@ -72,14 +72,10 @@ module _ (ws : List ℕ) (best : Leader) (a : Account) (number : ℕ) (s : Seat)
       kept : n ≤ best.acks → best ≡ leader_of e.acks number best (ack_from e s)
       kept few = rw ((told u full).is, ← count, le-ltb best.acks n few)
 
-pub acks_for-acks-requires : goal.acks_for-acks-requires
-acks_for-acks-requires c =
-    rw (account c.args.words.now c.args.best c.args.t.account c.args.t.number c.args.s _ c.requires.0 c.ack_from.ensures _ c.in-Some.is) c.requires.0
-
 pub returns-then-best-acks : goal.returns-then-best-acks
 returns-then-best-acks c =
-    taken c.args.words.now c.args.best c.args.t.account c.args.t.number c.args.s _ c.requires.0 c.ack_from.ensures _ c.in-Some.is _ c.acks_for-acks.ensures (omega (arith, c.if-best-acks.true))
+    taken c.args.words.now c.args.best c.args.t.account c.args.t.number c.args.s _ c.ack_from.ensures _ c.in-Some.is _ c.acks_for-acks.ensures (omega (arith, c.if-best-acks.true))
 
 pub returns-else-best-acks : goal.returns-else-best-acks
 returns-else-best-acks c =
-    kept c.args.words.now c.args.best c.args.t.account c.args.t.number c.args.s _ c.requires.0 c.ack_from.ensures _ c.in-Some.is _ c.acks_for-acks.ensures (omega (arith, c.if-best-acks.false))
+    kept c.args.words.now c.args.best c.args.t.account c.args.t.number c.args.s _ c.ack_from.ensures _ c.in-Some.is _ c.acks_for-acks.ensures (omega (arith, c.if-best-acks.false))

@@ -32,8 +32,8 @@ loop-p-preserved c =
       | else-is_some w ↦ w.tally-is ∙ counted_none loop.tally t seat s (sym c.is_some.ensures ∙ w.if-is_some.false)
     ] in
     gathers_more (at_next e t) e.acks loop.p loop.tally loop.invariant t s c.if-is_some.tally (omega arith)
-    (omega (arith, acks_length ws t.account (omega arith)))
-    (ap (holds t) c.ack_from-s.ensures ∙ ack_holds ws t.account seat (omega arith) t)
+    (omega (arith, acks_length ws t.account))
+    (ap (holds t) c.ack_from-s.ensures ∙ ack_holds ws t.account seat t)
     (ap is_some c.ack_from-s.ensures ∙ full_numbered t.number (ack_at e.acks loop.p))
     next
 
@@ -42,5 +42,5 @@ returns c =
     let loop = c.loop-p in
     let t = c.args.t in
     let e = entry_in c.args.words.now t.account in
-    let whole = gathers_all (at_next e t) e.acks loop.p loop.tally loop.invariant (omega (arith, acks_length c.args.words.now t.account (omega arith))) in
+    let whole = gathers_all (at_next e t) e.acks loop.p loop.tally loop.invariant (omega (arith, acks_length c.args.words.now t.account)) in
     record { tally = whole; exactly = λ next. tally_exactly t e.acks loop.tally (tally_next e t loop.tally next whole) }

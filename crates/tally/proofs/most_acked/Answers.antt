@@ -17,4 +17,4 @@ returns c =
     (fold_from_yields_List _ (next acks number) (no_leader acks number) c.fold.result c.fold.ensures.ran
     (YieldsList-from_map _ seat_of (YieldsList-from_range 0 16 16 c.map.ensures.source refl) c.map.ensures.closure (λ x r q k. search rules))
     (λ a x b q k. search rules))
-    ∙ led_last acks number 16 (omega (arith, acks_length c.args.words.now c.args.t.account c.requires))
+    ∙ led_last acks number 16 (omega (arith, acks_length c.args.words.now c.args.t.account))

@@ -15,7 +15,6 @@ use store::{balance_of, pending_of, put_balance, put_booked};
 
 // An accepted transfer waits at this account, and its value is at most the balance.
 fn is_affordable(words: &Book, a: Account) -> bool
-    requires { a.0 < 32 }
     ensures { result ≡ affordable (entry_in words.now a) }
 {
     pending_of(words, a).is_some_and(|t| t.value <= balance_of(words, a))
@@ -31,7 +30,6 @@ fn lowest_affordable(words: &Book) -> Option<Account>
 // "Booking takes the value from the payer, .. sets current to the slip's number, and clears
 // the account's acks and marks."
 fn debit(words: &mut Book, a: Account, t: Transfer)
-    requires { a.0 < 32 }
     ensures { ledger_in words.new ≡ with_entry (ledger_in words.old) a (debited (entry_in words.old a) t) }
 {
     put_balance(words, a, balance_of(words, a).saturating_sub(t.value));
@@ -40,23 +38,18 @@ fn debit(words: &mut Book, a: Account, t: Transfer)
 
 // "Booking .. gives it to the recipient": modulo 2^32, as the definition.
 fn credit(words: &mut Book, a: Account, value: u32)
-    requires { a.0 < 32 }
     ensures { ledger_in words.new ≡ with_entry (ledger_in words.old) a (credited (entry_in words.old a) value) }
 {
     put_balance(words, a, balance_of(words, a).wrapping_add(value));
 }
 
-// Applies (books) the transfer that waits at an account: payer first, then recipient, who may be the payer. There
-// is no account behind the 32nd.
+// Applies (books) the transfer that waits at an account: payer first, then recipient, who may be the payer.
 fn apply_at(words: &mut Book, a: Account)
-    requires { a.0 < 32 }
     ensures { ledger_in words.new ≡ with_entries (ledger_in words.old) (apply (ledger_in words.old).entries a) }
 {
     if let Some(t) = pending_of(words, a) {
         debit(words, a, t);
-        if t.recipient.0 < 32 {
-            credit(words, t.recipient, t.value);
-        }
+        credit(words, t.recipient, t.value);
     }
 }
 

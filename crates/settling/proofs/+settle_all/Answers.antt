@@ -1,10 +1,7 @@
 -- Applying the lowest affordable transfer leaves one fewer. The laws of a turn give the rest.
 use Rattle.std.proofs.Common.{sym, ◌∙◌, arith, rules}
-use Rattle.settling.proofs.Turns.{few_applied, ended, found_inside, one_fewer, whole}
+use Rattle.settling.proofs.Turns.{few_applied, ended, one_fewer, whole}
 use Rattle.settling.proofs.+settle_all.Goals as goal
-
-pub apply_at-requires : goal.apply_at-requires
-apply_at-requires t c = found_inside c.args.words.now c.in-Some.a (sym c.lowest_affordable.ensures ∙ c.in-Some.is)
 
 pub settle_all-requires : goal.settle_all-requires
 settle_all-requires t c =

@@ -1,9 +1,8 @@
 -- Two stores at one account are one.
-use Rattle.std.proofs.Common.{◌-◌, ◌∙◌, arith}
+use Rattle.std.proofs.Common.{◌-◌, ◌∙◌}
 use Rattle.model.specs.Records.{with_balance, with_booked}
 use Rattle.laws.proofs.Access.{with_entry_again}
 use Rattle.layout.specs.Layout.{ledger_in, entry_in}
-use Rattle.layout.proofs.Blocks.{entries_length}
 use Rattle.settling.proofs.debit.Goals as goal
 
 pub returns : goal.returns
@@ -14,4 +13,4 @@ returns c =
     let e = entry_in ws a in
     c.put_booked.ensures
     ∙ rw (c.put_balance.ensures, c.saturating_sub.ensures, c.balance_of.ensures)
-    (with_entry_again (ledger_in ws) a (with_balance e (e.balance - t.value)) (λ e. with_booked e t.number) (omega (arith, entries_length ws)))
+    (with_entry_again (ledger_in ws) a (with_balance e (e.balance - t.value)) (λ e. with_booked e t.number))

@@ -17,7 +17,7 @@ use Rattle.basics.proofs.ReadBack.{passed}
 use Rattle.store.specs.Stores.{numbered}
 use Rattle.store.proofs.Reading.{ack_next}
 use Rattle.checks.proofs.Rules.{passes}
-use Rattle.checks.proofs.Ranges.{fits, transfer_place}
+use Rattle.checks.proofs.Ranges.{fits}
 
 -- the rules of the place where an ack of the seat stands, if one is recorded
 abbrev pub recorded_rules : Transfer → Slot → List Rule
@@ -35,5 +35,5 @@ by_recorded ws s t {q = q} known clear is h =
     rw known
     (passes (transfer_rules (ledger_in ws) e t) (recorded_rules t (ack_from e s)) q clear (rw (← recorded) h))
 
--- that its account and its seat have their places, and what it meets
-pub ruleset of_ack = (transfer_place, seats_fit, by_recorded)
+-- that its seat has a place, and what it meets
+pub ruleset of_ack = (seats_fit, by_recorded)

@@ -1,5 +1,4 @@
--- Laws of the tests and of the late P.
+-- Laws of the tests.
 pub mod Rules
 pub mod Ranges
 pub mod Acks
-pub mod Late

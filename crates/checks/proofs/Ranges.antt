@@ -1,8 +1,8 @@
 -- What a slip has that its rules did not refuse: a place in the words, and what its place will tell of it.
-use Rattle.std.specs.Prelude.{None, Ok}
+use Rattle.std.specs.Prelude.{None}
 use Prim.Native.Nat.{ℕ, ◌+◌, ◌<◌}
 use native.Mathlib.Omega.{arith}
-use mathlib.Core.Path.{◌≡◌, sym}
+use mathlib.Core.Path.{◌≡◌}
 use mathlib.Core.Bool.{false, ◌||◌}
 use mathlib.Core.List.{List}
 use lib.Dec.{eqb, ltb}
@@ -10,9 +10,8 @@ use borrow.Author.Tests.{leb-false, eqb-false}
 use Rattle.model.specs.declared.Seat.{Seat}
 use Rattle.model.specs.declared.Account.{Account}
 use Rattle.model.specs.declared.Transfer.{Transfer}
-use Rattle.model.specs.Refusals.{first_refusal, check_of, unknown_seat, unknown_account, out_of_range, past_number, future_number, transfer_rules, offer_rules, circulated_rules, ack_rules}
+use Rattle.model.specs.Refusals.{first_refusal, unknown_seat, unknown_account, out_of_range, past_number, future_number, transfer_rules, circulated_rules, ack_rules}
 use Rattle.laws.proofs.Sums.{neither}
-use Rattle.basics.proofs.ReadBack.{passed}
 use Rattle.laws.proofs.Refusing.{none_holds, next_number_lem}
 use Rattle.layout.specs.Layout.{ledger_in, entry_in}
 use Rattle.layout.proofs.Ranges.{seats_fit, accounts_fit}
@@ -40,9 +39,6 @@ module _ (ws : List ℕ) (t : Transfer) where
       let accounts = neither (unknown_account l t.account) (unknown_account l t.recipient) number.0 in
       record { account = account_place ws t.account accounts.0; value = omega (arith, eqb-false t.value 0 value.1) }
 
-  pub inside_place : out_of_range (ledger_in ws) t ≡ false → t.account.0 < 32
-  inside_place inside = (in_range inside).account
-
   -- A slip that 5 to 8 do not refuse: its account has a place, it has a value, and its number is the next.
   pub record Fits : Type 0 where
     pub range : InRange
@@ -57,16 +53,6 @@ module _ (ws : List ℕ) (t : Transfer) where
   fits passed =
       let fail = none_holds (transfer_rules (ledger_in ws) (entry_in ws t.account) t) passed in
       fits_by fail.0 fail.1.0 fail.1.1.0
-
-  pub transfer_place : Ok tt ≡ check_of (first_refusal (transfer_rules (ledger_in ws) (entry_in ws t.account) t))
-      → t.account.0 < 32
-  transfer_place clear = (fits (passed _ (sym clear))).range.account
-
-  -- what a request or slip meets first leaves its account its place
-  pub offer_place : Ok tt ≡ check_of (first_refusal (offer_rules (ledger_in ws) (entry_in ws t.account) t))
-      → t.account.0 < 32
-  offer_place clear =
-      inside_place (none_holds (offer_rules (ledger_in ws) (entry_in ws t.account) t) (passed _ (sym clear))).0
 
   -- the same of a slip, and of an ack, whose seat has its place too
   pub circulated_fits : first_refusal (circulated_rules (ledger_in ws) (entry_in ws t.account) t) ≡ None → Fits

@@ -2,7 +2,7 @@
 
 #![tactic(auto)]
 
-ghost use Rattle.std.specs.Prelude.{◌≡◌, ◌<◌};
+ghost use Rattle.std.specs.Prelude.{◌≡◌};
 ghost use Rattle.model.specs.Refusals.{first_refusal, check_of, out_of_range, waits_already, number_rules, transfer_rules, offer_rules, request_rules, circulated_rules, ack_rules};
 ghost use Rattle.layout.specs.Layout.{ledger_in, entry_in};
 ghost use Rattle.checks.specs.Promises.{late_slip};
@@ -51,7 +51,6 @@ fn number_check(words: &Book, t: Transfer) -> Result<(), Refusal>
 }
 
 // What the transfer of an ack or a decision meets: 5 to 8.
-#[tactic(auto, using(crate::proofs::Ranges::inside_place))]
 pub fn transfer_check(words: &Book, t: Transfer) -> Result<(), Refusal>
     ensures { result
         ≡ check_of (first_refusal (transfer_rules (ledger_in words.now) (entry_in words.now t.account) t)) }
@@ -63,7 +62,6 @@ pub fn transfer_check(words: &Book, t: Transfer) -> Result<(), Refusal>
 }
 
 // What a request or a circulated transfer meets first: 5, 20, then 6 to 8.
-#[tactic(auto, using(crate::proofs::Ranges::inside_place))]
 fn offer_check(words: &Book, t: Transfer) -> Result<(), Refusal>
     ensures { result ≡ check_of (first_refusal (offer_rules (ledger_in words.now) (entry_in words.now t.account) t)) }
 {
@@ -76,7 +74,6 @@ fn offer_check(words: &Book, t: Transfer) -> Result<(), Refusal>
     number_check(words, t)
 }
 
-#[tactic(auto, using(crate::proofs::Ranges::offer_place))]
 pub fn request_check(words: &Book, t: Transfer) -> Result<(), Refusal>
     ensures { result
         ≡ check_of (first_refusal (request_rules (ledger_in words.now) (entry_in words.now t.account) t)) }
@@ -88,7 +85,6 @@ pub fn request_check(words: &Book, t: Transfer) -> Result<(), Refusal>
     Ok(())
 }
 
-#[tactic(auto, using(crate::proofs::Ranges::offer_place))]
 pub fn circulated_check(words: &Book, t: Transfer) -> Result<(), Refusal>
     ensures { result
         ≡ check_of (first_refusal (circulated_rules (ledger_in words.now) (entry_in words.now t.account) t)) }

@@ -6,9 +6,7 @@ use lib.ListN.{length, get_or, length-map, get_or-map}
 use Rattle.model.specs.declared.Account.{Account}
 use Rattle.model.specs.Records.{account_of, fresh_entry, with_balance, with_booked, with_none_retained, entry_of, with_entry}
 use Rattle.laws.proofs.Access.{with_entry_again}
-use native.Mathlib.Omega.{arith}
 use Rattle.layout.specs.Layout.{ledger_in, entry_in}
-use Rattle.layout.proofs.Blocks.{entries_length}
 use Rattle.store.proofs.Entering.{Entered, none_entered, one_entered}
 
 -- an account that was booked at 0, retains nothing and was given a balance is one at opening

@@ -16,7 +16,6 @@ use Rattle.model.specs.Switches.{since_request3, retains_from, retains_waiting, 
 use Rattle.laws.proofs.Access.{with_entry_same, with_entry_again}
 use Rattle.laws.proofs.Switching.{switched_entry, switched_length}
 use Rattle.layout.specs.Layout.{ledger_in, entry_in, held_in}
-use Rattle.layout.proofs.Blocks.{entries_length}
 use Rattle.layout.proofs.Entries.{pending_of}
 use Rattle.store.specs.Stores.{RetainedStored}
 use Rattle.store.proofs.Taking.{held_entries_length}

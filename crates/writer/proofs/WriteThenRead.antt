@@ -14,6 +14,7 @@ use borrow.Author.Tests.{lt-ltb, le-ltb, eq-eqb}
 use Rattle.model.specs.declared.Opening.{Opening}
 use Rattle.model.specs.declared.Message.{Message}
 use Rattle.model.specs.declared.ContentsEntry.{ContentsEntry}
+use Rattle.model.specs.Types.{BundleReply}
 use Rattle.model.specs.Basics.{first_where}
 use Rattle.model.specs.Bundles.{number_at, entry_count, contents_at, start_at, body_length, body_sum, Page, page_of, page_at, wrong_entry, bad_header, first_bad_entry, bad_end, wrong_sum_at, first_bad_sum, check_bundle, opening_of, message_of}
 use Rattle.model.specs.Writing.{number_bytes, Bytes, page_zero, message_page, pages_of, entry_bytes, entry_for, contents_of, bodies_of, bundle_of, written}
@@ -27,7 +28,7 @@ entries_length : (start : ℕ) (ps : List Page) → length (contents_of start ps
 entries_length start [] = refl
 entries_length start (p ∷ ps) = omega (arith, entries_length (start + length p.body) ps)
 
-messages_short : (ms : List Message) → length (bodies_of (map message_page ms)) ≤ 10 * length ms
+pub messages_short : (ms : List Message) → length (bodies_of (map message_page ms)) ≤ 10 * length ms
 messages_short [] = omega arith
 messages_short (m ∷ ms) = rw length-append (omega (arith, message_short m, messages_short ms))
 
@@ -210,6 +211,10 @@ module _ (o : Opening) (ms : List Message) (fits : OpeningFits o) (fit : AllFit 
       let joined = length-append (page_zero o).body (bodies_of (map message_page ms)) in
       omega (arith, messages_short ms)
 
+  -- the answer of a check that finds so many entries
+  abbrev sound_with : ℕ → BundleReply
+  sound_with m = Ok m
+
   reads_back : ReadsBack o ms
   unfolding written
   reads_back =
@@ -227,7 +232,7 @@ module _ (o : Opening) (ms : List Message) (fits : OpeningFits o) (fit : AllFit 
       record {
         bytes = bundle_bytes ps (opening_bytes o fits, messages_bytes ms fit);
         short = omega arith;
-        sound = pages_sound bytes ps count (omega arith) (omega arith) size found ∙ ap Sound pages_count;
+        sound = pages_sound bytes ps count (omega arith) (omega arith) size found ∙ ap sound_with pages_count;
         reads =
             record {
               page = (page_at bytes 0, rw (lt-ltb 0 (entry_count bytes) (omega arith)), ap (λ (p : Page). opening_of p.body) page ∙ opening_read o fits);

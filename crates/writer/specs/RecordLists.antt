@@ -1,6 +1,6 @@
 -- Messages as a host gives them: fixed records of 12 bytes, kind (1), seat (1), body (10). Of a question's body the
 -- account is read and the rest is not.
-use Rattle.std.specs.Prelude.{ℕ, zero, suc, ◌+◌, ◌*◌, ◌/◌, ◌%◌, Bool, not, List, [], ◌∷◌, eqb, length, get_or, take, drop, Option, Some, None}
+use Rattle.std.specs.Prelude.{ℕ, zero, suc, ◌*◌, ◌/◌, ◌%◌, Bool, not, List, [], ◌∷◌, eqb, length, get_or, take, drop, Option, Some, None}
 use Rattle.model.specs.declared.Message.{Message}
 use Rattle.model.specs.declared.Refusal.TheVariants.{BadContents, BadEnd}
 use Rattle.model.specs.Basics.{first_where}
@@ -11,13 +11,17 @@ use Rattle.model.specs.Writing.{too_many, no_room}
 abbrev pub record_count : List ℕ → ℕ
 record_count records = length records / 12
 
-abbrev pub record_page : List ℕ → ℕ → Page
-record_page records i =
+-- the page of a record's 12 bytes
+abbrev pub page_in : List ℕ → Page
+page_in bytes =
     record {
-      kind = get_or records (12 * i) 0;
-      seat = get_or records (12 * i + 1) 0;
-      body = take 10 (drop (12 * i + 2) records);
+      kind = get_or bytes 0 0;
+      seat = get_or bytes 1 0;
+      body = take 10 (drop 2 bytes);
     }
+
+abbrev pub record_page : List ℕ → ℕ → Page
+record_page records i = page_in (take 12 (drop (12 * i) records))
 
 -- 14, of a record: its entry in the contents would be wrong behind entry 0
 abbrev pub wrong_record : List ℕ → ℕ → Bool
@@ -35,6 +39,10 @@ first_wrong records = first_where (wrong_record records) (record_count records) 
 -- 15, of records: the last one is not whole
 abbrev pub bad_last : List ℕ → Bool
 bad_last records = not (eqb (length records % 12) 0)
+
+-- the message of a record's 12 bytes
+abbrev pub record_message : List ℕ → Message
+record_message bytes = message_or (message_of (page_in bytes))
 
 abbrev pub message_in : List ℕ → ℕ → Message
 message_in records i = message_or (message_of (record_page records i))

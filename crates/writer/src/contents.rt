@@ -1,23 +1,26 @@
 // The contents of a bundle: the entry of each page. Start and sum are computed, never given.
-ghost use Rattle.std.specs.Prelude.{◌≡◌};
+ghost use Rattle.std.specs.Prelude.{◌≡◌, length};
 ghost use Rattle.model.specs.Writing.{page_zero, message_page, entry_bytes, entry_for};
-ghost use Rattle.basics.specs.Outputs.{Writes};
+ghost use Rattle.pages.specs.Kinds.{number_of};
+ghost use Rattle.basics.specs.Outputs.{Appends};
 
-use crate::numbers::{put_number2, put_number4};
-use crate::sums::{message_sum, opening_sum};
-use basics::output::put;
+use crate::bodies::{put_message, put_opening};
+use crate::sinks::Sum;
+use basics::output::Output;
 use model::{ContentsEntry, Message, Opening};
+use pages::contents::body_length;
+use pages::kinds::Kind;
 
 // A message's kind.
-pub fn kind_of(m: Message) -> u8
-    ensures { result ≡ (message_page m).kind }
+fn kind_of(m: Message) -> Kind
+    ensures { number_of result ≡ (message_page m).kind }
 {
     match m {
-        Message::Request(_) => 1,
-        Message::Circulated(_) => 2,
-        Message::Ack(_, _) => 3,
-        Message::Decision(_) => 4,
-        Message::Inquiry(_) => 5,
+        Message::Request(_) => Kind::Request,
+        Message::Circulated(_) => Kind::Circulated,
+        Message::Ack(_, _) => Kind::Ack,
+        Message::Decision(_) => Kind::Decision,
+        Message::Inquiry(_) => Kind::Inquiry,
     }
 }
 
@@ -26,23 +29,29 @@ fn seat_of(m: Message) -> u8
     ensures { result ≡ (message_page m).seat }
 {
     match m {
-        Message::Request(_) => 0,
-        Message::Circulated(_) => 0,
         Message::Ack(seat, _) => seat.0,
-        Message::Decision(_) => 0,
-        Message::Inquiry(_) => 0,
+        _ => 0,
     }
+}
+
+// How long a message's body is.
+pub fn message_length(m: Message) -> usize
+    ensures { result ≡ length (message_page m).body }
+{
+    body_length(kind_of(m).into())
 }
 
 // The entry of a message whose body starts at a place.
 pub fn message_entry(m: Message, start: u16) -> ContentsEntry
     ensures { result ≡ entry_for start (message_page m) }
 {
+    let mut sum = Sum(0);
+    put_message(&mut sum, m);
     ContentsEntry {
-        kind: kind_of(m),
+        kind: kind_of(m).into(),
         seat: seat_of(m),
-        start: start,
-        sum: message_sum(m),
+        start,
+        sum: sum.0,
     }
 }
 
@@ -50,20 +59,22 @@ pub fn message_entry(m: Message, start: u16) -> ContentsEntry
 pub fn opening_entry(page: Opening, start: u16) -> ContentsEntry
     ensures { result ≡ entry_for start (page_zero page) }
 {
+    let mut sum = Sum(0);
+    put_opening(&mut sum, page);
     ContentsEntry {
-        kind: 0,
+        kind: Kind::Opening.into(),
         seat: 0,
-        start: start,
-        sum: opening_sum(page),
+        start,
+        sum: sum.0,
     }
 }
 
 // An entry's eight bytes: kind (1), seat (1), start (2), sum (4).
-pub fn put_entry(out: &mut [u8], at: usize, c: ContentsEntry) -> usize
-    ensures { Writes out.old at (entry_bytes c) 8 out.new result }
+pub fn put_entry(out: &mut Output, c: ContentsEntry)
+    ensures { Appends out.old (entry_bytes c) 8 out.new }
 {
-    let seat = put(out, at, c.kind);
-    let start = put(out, seat, c.seat);
-    let sum = put_number2(out, start, c.start);
-    put_number4(out, sum, c.sum)
+    out.put(c.kind);
+    out.put(c.seat);
+    out.put_all(&c.start.to_le_bytes());
+    out.put_all(&c.sum.to_le_bytes());
 }

@@ -1,29 +1,27 @@
 // The writer for hosts: the messages are fixed records of 12 bytes, kind (1), seat (1), body (10).
-ghost use Rattle.std.specs.Prelude.{◌+◌, ◌*◌, ◌≤◌, ◌≡◌, length, take};
-ghost use Rattle.model.specs.Bundles.{message_or};
-ghost use Rattle.basics.specs.Results.{search_of};
-ghost use Rattle.pages.specs.Results.{asks};
+ghost use Rattle.std.specs.Prelude.{◌<◌, ◌≤◌, ◌≡◌, IfSome, length, take, map};
+ghost use Rattle.std.specs.List.{position};
+ghost use Rattle.model.specs.Bundles.{message_or, wrong_page};
 ghost use Rattle.writer.specs.Promises.{WroteRecords};
-ghost use Rattle.writer.specs.RecordLists.{record_count, wrong_record, first_wrong, message_in, messages_from};
+ghost use Rattle.writer.specs.RecordLists.{page_in, record_message};
 
-use crate::{MOST_MESSAGES, write};
-use basics::results::Search;
+use crate::{MOST_MESSAGES, refused, write};
 use bundle::checks::is_wrong_entry;
-use model::{Account, ContentsEntry, Message, Opening, Refusal, WriteReply};
-use pages::messages::{Asked, message_from};
+use model::{Account, BundleError, ContentsEntry, Message, Opening, Refusal};
+use pages::messages::message_from;
 
 // Kind, seat and ten bytes of a body.
 const RECORD_SIZE: usize = 12;
 
+type Record = [u8; RECORD_SIZE];
+
 // 14, of a record: its entry in the contents would be wrong, wherever its body starts.
-fn is_wrong_record(records: &[u8], i: usize) -> bool
-    requires { 12 * i + 12 ≤ length records.now }
-    ensures { result ≡ wrong_record records.now i }
+fn is_wrong_record(bytes: &Record) -> bool
+    ensures { result ≡ wrong_page 1 (page_in bytes.now) }
 {
-    let at = RECORD_SIZE * i;
     let c = ContentsEntry {
-        kind: records[at],
-        seat: records[at + 1],
+        kind: bytes[0],
+        seat: bytes[1],
         start: 0,
         sum: 0,
     };
@@ -31,51 +29,35 @@ fn is_wrong_record(records: &[u8], i: usize) -> bool
 }
 
 // The lowest record that is wrong.
-fn first_wrong(records: &[u8], count: usize) -> Search
-    requires { (count ≡ record_count records.now) × (count ≤ 999) }
-    ensures { result ≡ search_of (first_wrong records.now) }
+fn first_wrong(records: &[Record]) -> Option<usize>
+    ensures first { result ≡ position (λ bytes. wrong_page 1 (page_in bytes)) records.now }
+    ensures below { IfSome result (λ i. i < length records.now) }
 {
-    let mut i: usize = 0;
-    while i < count {
-        if is_wrong_record(records, i) {
-            return Search::At(i as u16);
-        }
-        i += 1;
-    }
-    Search::Nowhere
+    records.iter().position(|record| is_wrong_record(record))
 }
 
 // A page's message, or a question where it is none.
-pub fn message_or(asked: Asked) -> Message
-    ensures { result ≡ message_or (asks asked) }
+pub fn message_or(asked: Option<Message>) -> Message
+    ensures { result ≡ message_or asked }
 {
-    match asked {
-        Asked::Nothing => Message::Inquiry(Account(0)),
-        Asked::Asks(m) => m,
-    }
+    asked.unwrap_or(Message::Inquiry(Account(0)))
 }
 
 // The message of a record.
-fn message_in(records: &[u8], i: usize) -> Message
-    requires { 12 * i + 12 ≤ length records.now }
-    ensures { result ≡ message_in records.now i }
+fn message_in(bytes: &Record) -> Message
+    ensures { result ≡ record_message bytes.now }
 {
-    let at = RECORD_SIZE * i;
-    let start = at + 2;
-    let end = at + RECORD_SIZE;
-    message_or(message_from(records[at], records[at + 1], &records[start..end]))
+    message_or(message_from(bytes[0], bytes[1], &bytes[2..]))
 }
 
-// The messages of so many records.
-fn messages_in(records: &[u8], count: usize) -> [Message; MOST_MESSAGES]
-    requires { (12 * count ≤ length records.now) × (count ≤ 999) }
-    ensures { take count result ≡ messages_from count records.now 0 }
+// The messages of records, and questions behind them.
+fn messages_in(records: &[Record]) -> [Message; MOST_MESSAGES]
+    requires { length records.now ≤ 999 }
+    ensures { take (length records.now) result ≡ map record_message records.now }
 {
-    let mut messages: [Message; MOST_MESSAGES] = [Message::Inquiry(Account(0)); MOST_MESSAGES];
-    let mut i: usize = 0;
-    while i < count {
-        messages[i] = message_in(records, i);
-        i += 1;
+    let mut messages = [Message::Inquiry(Account(0)); MOST_MESSAGES];
+    for (i, record) in records.iter().enumerate() {
+        messages[i] = message_in(record);
     }
     messages
 }
@@ -83,19 +65,19 @@ fn messages_in(records: &[u8], count: usize) -> [Message; MOST_MESSAGES]
 // Writes the bundle of a page and of the messages in the records, as `write` does. 18 for more than 999 whole records;
 // then 14 with the entry of the lowest record whose kind is no message's or that has a seat where its kind has none; 15
 // where the last record is not whole; 19.
-pub fn write_records(page: Opening, records: &[u8], out: &mut [u8]) -> WriteReply
+pub fn write_records(page: Opening, records: &[u8], out: &mut [u8]) -> Result<u32, BundleError>
     ensures { WroteRecords page records.now out.old result out.new }
 {
-    let count = records.len() / RECORD_SIZE;
+    let (records, piece) = records.as_chunks::<RECORD_SIZE>();
+    let count = records.len();
     if MOST_MESSAGES < count {
-        return WriteReply::WriteRefused(Refusal::TooManyMessages, 0);
+        return Err(refused(Refusal::TooManyMessages, 0));
     }
-    let wrong = first_wrong(records, count);
-    if let Search::At(i) = wrong {
-        return WriteReply::WriteRefused(Refusal::BadContents, i + 1);
+    if let Some(i) = first_wrong(records) {
+        return Err(refused(Refusal::BadContents, i as u16 + 1));
     }
-    if records.len() % RECORD_SIZE != 0 {
-        return WriteReply::WriteRefused(Refusal::BadEnd, 0);
+    if !piece.is_empty() {
+        return Err(refused(Refusal::BadEnd, 0));
     }
-    write(page, messages_in(records, count), count, out)
+    write(page, &messages_in(records)[..count], out)
 }

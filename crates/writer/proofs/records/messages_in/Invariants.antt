@@ -1,10 +1,8 @@
--- The loop reads one record after another.
-use Rattle.std.proofs.Common.{◌-◌}
-use Rattle.writer.proofs.Recording.{ReadTo}
+-- The messages before `i` are those of the records.
+use Rattle.std.proofs.Common.{◌≡◌, length, take, map}
+use Rattle.writer.specs.RecordLists.{record_message}
 use Rattle.writer.proofs.records.messages_in.Given as goal
 
 abbrev pub invariant-loop-i : goal.invariant-loop-i
-invariant-loop-i l = ReadTo l.records l.count l.messages l.i
-
-abbrev pub decreases-loop-i : goal.decreases-loop-i
-decreases-loop-i l = l.count - l.i
+invariant-loop-i l =
+    (length l.messages ≡ 999) × (take l.i l.messages ≡ map record_message (take l.i l.records))

@@ -24,7 +24,9 @@ fn is_affordable(words: &Book, a: Account) -> bool
 fn lowest_affordable(words: &Book) -> Option<Account>
     ensures { result ≡ lowest_affordable (ledger_in words.now).entries }
 {
-    (0..32).map(Account).find(|a| is_affordable(words, *a))
+    (0..32)
+        .find(|a| is_affordable(words, Account(*a)))
+        .map(Account)
 }
 
 // "Booking takes the value from the payer, .. sets current to the slip's number, and clears

@@ -16,28 +16,28 @@ use Rattle.model.specs.declared.Refusal.{Refusal}
 use Rattle.model.specs.declared.Message.{Message}
 use Rattle.model.specs.declared.Message.TheVariants.{Ack}
 use Rattle.model.specs.declared.Reply.{Reply}
-use Rattle.model.specs.declared.Reply.TheVariants.{Accept, Refuse, Note, Propose}
+use Rattle.model.specs.declared.Reply.TheVariants.{Accept, Refuse, Propose}
 use Rattle.model.specs.Basics.{bit}
 use Rattle.model.specs.Records.{with_ack, with_pending, with_proposed, with_retained, with_retained_proposed, with_entry}
 use Rattle.model.specs.Acks.{holds, acks_for, acks_recorded, enough, must_propose, most_acked}
 use Rattle.model.specs.Replies.{letter_of, values_of}
-use Rattle.model.specs.Refusals.{first_refusal}
+use Rattle.model.specs.Refusals.{Rule, first_refusal, check_of, ack_rules}
 use Rattle.model.specs.Calls.{Due, replied, accepts, Effect, tallied, waits, finished_by, finished, late_in, step, rules_in}
 use Rattle.laws.proofs.Equality.{equal_refl}
 use Rattle.laws.proofs.Sums.{impossible, sum_at_least}
-use Rattle.laws.proofs.Access.{set_entry_twice, with_entry_read, with_entry_same, with_entry_again}
+use Rattle.laws.proofs.Access.{set_entry_twice, with_entry_same, with_entry_again}
 use Rattle.laws.proofs.Steps.{joining}
 use Rattle.model.specs.Switches.{newest}
 use Rattle.laws.proofs.Refusing.{effect_in, refuses, not_refused, joins_in_lem, newest_step}
 use Rattle.layout.specs.Layout.{ledger_in, entry_in}
 use Rattle.layout.proofs.Blocks.{entries_length}
 use Rattle.layout.proofs.Ranges.{accounts_fit}
-use Rattle.model.specs.Refusals.{check_of}
 use Rattle.basics.proofs.ReadBack.{passed, failed}
 use Rattle.settling.specs.Results.{Settles}
 use Rattle.tally.specs.declared.Tally.{Tally}
 use Rattle.tally.specs.Results.{tally_of}
 use Rattle.checks.specs.Promises.{late_slip}
+use Rattle.checks.proofs.Ranges.{ack_fits}
 use Rattle.calls.specs.Promises.{Answered, Taken}
 
 -- what is replied is told by its letter and its values
@@ -46,18 +46,24 @@ answered : (before : List ℕ) (m : Message) (r : Reply) (after : List ℕ) → 
 answered before m r after reply ledger kept =
     record { reply = reply; letter = ap letter_of reply; values = ap values_of reply; ledger = ledger; kept = kept }
 
--- A message that brings no late P, whose rules were tried: refused with the words as they
--- were, or served by its effect.
-module _ (ws : List ℕ) (m : Message) (in_time : late_in (ledger_in ws) m ≡ false) (q : Check) (q_is : q ≡ check_of (first_refusal (rules_in (ledger_in ws) m))) where
-  pub refused : (r : Refusal) → q ≡ Err r → Answered ws m (Refuse r) ws
+-- A message that brings no late P, whose rules were tried: refused with the words as they were, or served by its effect.
+module _ (ws : List ℕ) (m : Message) (in_time : late_in (ledger_in ws) m ≡ false) where
+  abbrev rules : List Rule
+  rules = rules_in (ledger_in ws) m
+
+  pub refused : (r : Refusal) → Err r ≡ check_of (first_refusal rules) → Answered ws m (Refuse r) ws
   refused r found =
-      let step_is = sym (newest_step (ledger_in ws) m) ∙ refuses newest (ledger_in ws) m r in_time (failed (first_refusal (rules_in (ledger_in ws) m)) r (sym q_is ∙ found)) in
+      let step_is = sym (newest_step (ledger_in ws) m) ∙ refuses newest (ledger_in ws) m r in_time (failed (first_refusal rules) r (sym found)) in
       answered ws m (Refuse r) ws (rw step_is) (rw step_is) (λ code e. refl)
 
-  pub served : (r : Reply) (after : List ℕ) → q ≡ Ok tt → Taken (effect_in newest (ledger_in ws) m) r after → Answered ws m r after
-  served r after found x =
-      let step_is = sym (newest_step (ledger_in ws) m) ∙ not_refused newest (ledger_in ws) m in_time (passed (first_refusal (rules_in (ledger_in ws) m)) (sym q_is ∙ found)) in
+  pub served : (r : Reply) (after : List ℕ) → Ok tt ≡ check_of (first_refusal rules) → Taken (effect_in newest (ledger_in ws) m) r after → Answered ws m r after
+  served r after clear x =
+      let step_is = sym (newest_step (ledger_in ws) m) ∙ not_refused newest (ledger_in ws) m in_time (passed (first_refusal rules) (sym clear)) in
       answered ws m r after (rw step_is x.reply) (rw step_is x.ledger) (λ code e. absurd (x.not_refused code e))
+
+-- a message that its rules let pass has a place for its account, and an ack for its seat
+pub ack_account : (ws : List ℕ) (s : Seat) (t : Transfer) → Ok tt ≡ check_of (first_refusal (ack_rules (ledger_in ws) (entry_in ws t.account) s t)) → t.account.0 < 32
+ack_account ws s t clear = (ack_fits ws t s (passed _ (sym clear))).0.range.account
 
 -- An entry that is stored is overwritten where a turn is finished.
 finished_again : (l : Ledger) (a : Account) (e : Entry) (x : Effect) → finished (with_entry l a e) a x ≡ finished l a x
@@ -153,32 +159,29 @@ settled before mid after t n stored x =
     }
 
 -- What the tally decides: K, else P, else N.
-module _
-    (ws : List ℕ) (t : Transfer) (y : Tally) (y_is : y ≡ tally_of t (entry_in ws t.account).acks)
-    (k : Bool) (k_is : k ≡ enough (ledger_in ws).seats (ledger_in ws).faults y.equal)
-  where
-    accepts_is : k ≡ enough (ledger_in ws).seats (ledger_in ws).faults (acks_for t (entry_in ws t.account).acks)
-    accepts_is = k_is ∙ ap (λ (z : Tally). enough (ledger_in ws).seats (ledger_in ws).faults z.equal) y_is
+module _ (ws : List ℕ) (t : Transfer) (y : Tally) (y_is : y ≡ tally_of t (entry_in ws t.account).acks) where
+  abbrev l : Ledger
+  l = ledger_in ws
 
-    -- what follows from the entry in words
-    abbrev pub Decided : Reply → List ℕ → Type 0
-    Decided r after = Taken (finished (ledger_in ws) t.account (tallied (ledger_in ws) (entry_in ws t.account) t)) r after
+  abbrev e : Entry
+  e = entry_in ws t.account
 
-    pub tally_accepts : (r : Reply) (after : List ℕ) → k ≡ true
-        → Taken (finished (ledger_in ws) t.account (waits (entry_in ws t.account) t)) r after → Decided r after
-    tally_accepts r after holds x = rw (sym accepts_is ∙ holds) x
+  -- what follows from the entry in words
+  abbrev pub Decided : Reply → List ℕ → Type 0
+  Decided r after = Taken (finished l t.account (tallied l e t)) r after
 
-    module _ (few : k ≡ false) (p : Bool) (p_is : p ≡ must_propose (ledger_in ws).seats (ledger_in ws).faults y.recorded (entry_in ws t.account)) where
-      proposes_is : p ≡ must_propose (ledger_in ws).seats (ledger_in ws).faults (acks_recorded (entry_in ws t.account).acks) (entry_in ws t.account)
-      proposes_is = p_is ∙ ap (λ (z : Tally). must_propose (ledger_in ws).seats (ledger_in ws).faults z.recorded (entry_in ws t.account)) y_is
+  enough_is : enough l.seats l.faults (acks_for t e.acks) ≡ enough l.seats l.faults y.equal
+  enough_is = rw y_is
 
-      pub tally_proposes : (u : Transfer) (after : List ℕ) → p ≡ true → u ≡ most_acked (entry_in ws t.account).acks
-          → ledger_in after ≡ with_entry (ledger_in ws) t.account (with_proposed (entry_in ws t.account)) → Decided (Propose u) after
-      tally_proposes u after due most marked =
-          rw (sym accepts_is ∙ few, sym proposes_is ∙ due)
-          (record { reply = ap Propose most; ledger = marked; not_refused = λ code e. impossible (cc) })
+  pub tally_accepts : (r : Reply) (after : List ℕ) → enough l.seats l.faults y.equal ≡ true → Taken (finished l t.account (waits e t)) r after → Decided r after
+  tally_accepts r after more x = rw (enough_is ∙ more) x
 
-      pub tally_notes : p ≡ false → Decided Note ws
-      tally_notes not_due =
-          rw (sym accepts_is ∙ few, sym proposes_is ∙ not_due)
-          (record { reply = refl; ledger = sym (with_entry_read (ledger_in ws) t.account); not_refused = λ code e. impossible (cc) })
+  module _ (few : enough l.seats l.faults y.equal ≡ false) where
+    must_is : must_propose l.seats l.faults (acks_recorded e.acks) e ≡ must_propose l.seats l.faults y.recorded e
+    must_is = rw y_is
+
+    pub tally_proposes : (u : Transfer) (after : List ℕ) → must_propose l.seats l.faults y.recorded e ≡ true → u ≡ most_acked e.acks
+        → ledger_in after ≡ with_entry l t.account (with_proposed e) → Decided (Propose u) after
+    tally_proposes u after due most marked =
+        rw (enough_is ∙ few, must_is ∙ due)
+        (record { reply = ap Propose most; ledger = marked; not_refused = λ code e. impossible (cc) })

@@ -1,5 +1,5 @@
-// The five kinds of message where the ledger lies. They ask for a book's length, and for nothing of its content; the
-// crate `ledger` has them with the book as an array, which asks for nothing.
+// The five kinds of message where the ledger lies: they ask for nothing of its content. The crate `ledger` has them beside
+// the other operations.
 
 #![tactic(auto)]
 

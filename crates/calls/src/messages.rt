@@ -1,13 +1,12 @@
 // The five kinds of message, each where the ledger lies. What a function promises is in specs/Promises.antt.
-ghost use Rattle.std.specs.Prelude.{◌≡◌, ◌<◌, length};
+ghost use Rattle.std.specs.Prelude.{◌<◌};
 ghost use Rattle.model.specs.declared.Message.TheVariants.{Request, Circulated, Ack, Decision, Inquiry};
-ghost use Rattle.layout.specs.Layout.{book_words};
 ghost use Rattle.calls.specs.Promises.{Answered, NotLate, NotEnough, Accepted};
 
 use basics::quorums::is_enough;
-use basics::results::Check;
 use checks::{ack_check, circulated_check, late_proposal, request_check, transfer_check};
-use model::{Account, Refusal, Reply, Seat, Slot, Transfer};
+use layout::Book;
+use model::{Account, Refusal, Reply, Seat, Transfer};
 use settling::settle_all;
 use store::{
     accounts_of, balance_of, faults_of, put_ack, put_acked, put_pending, put_proposed,
@@ -16,84 +15,75 @@ use store::{
 use tally::{Tally, gather, most_acked, must_propose};
 
 // A home's new transfer: circulate it.
-pub fn request(words: &[u32], t: Transfer) -> Reply
-    requires { length words.now ≡ book_words }
+pub fn request(words: &Book, t: Transfer) -> Reply
     ensures { Answered words.now (Request t) result words.now }
 {
     match request_check(words, t) {
-        Check::Failed(r) => Reply::Refuse(r),
-        Check::Passed => Reply::Circulate,
+        Ok(()) => Reply::Circulate,
+        Err(r) => Reply::Refuse(r),
     }
 }
 
 // A circulated transfer (document 01: slip): this seat acks it.
-pub fn acknowledge(words: &mut [u32], t: Transfer) -> Reply
-    requires { length words.old ≡ book_words }
+pub fn acknowledge(words: &mut Book, t: Transfer) -> Reply
     ensures { Answered words.old (Circulated t) result words.new }
 {
-    match circulated_check(words, t) {
-        Check::Failed(r) => Reply::Refuse(r),
-        Check::Passed => {
-            put_acked(words, t.account);
-            Reply::Acknowledge
-        }
+    if let Err(r) = circulated_check(words, t) {
+        return Reply::Refuse(r);
     }
+    put_acked(words, t.account);
+    Reply::Acknowledge
 }
 
 // A seat's ack of a transfer. Where it conflicts with the one that its account retains, the latest that was accepted,
 // and nothing was proposed for that number yet, the seat joins in and proposes the retained one, and the ack is not
 // recorded (document 02, request 5). Else it is tried and recorded.
-pub fn receive_ack(words: &mut [u32], s: Seat, t: Transfer) -> Reply
-    requires { length words.old ≡ book_words }
+pub fn receive_ack(words: &mut Book, s: Seat, t: Transfer) -> Reply
     ensures { Answered words.old (Ack s t) result words.new }
 {
     match late_proposal(words, s, t) {
-        Slot::Full(retained) => {
+        Some(retained) => {
             put_retained_proposed(words, t.account);
             Reply::Propose(retained)
         }
-        Slot::Empty => record_ack(words, s, t),
+        None => record_ack(words, s, t),
     }
 }
 
 // A seat's ack of a transfer, beside lines 35 to 37 of Algorithm 1 in document 000, with
 // document 01's threshold in line 37.
-fn record_ack(words: &mut [u32], s: Seat, t: Transfer) -> Reply
-    requires { length words.old ≡ book_words }
+#[tactic(auto, using(crate::proofs::Taking::ack_account))]
+fn record_ack(words: &mut Book, s: Seat, t: Transfer) -> Reply
     ensures { NotLate words.old s t result words.new }
 {
     // line 35: an ack of t from seat s is delivered; that its number is valid is among the checks, 4 to 10
-    match ack_check(words, s, t) {
-        Check::Failed(r) => Reply::Refuse(r),
-        Check::Passed => {
-            // line 36, record: acks[t.sender][s] := t
-            put_ack(words, s, t);
-            // line 37, gather: {p ∈ Π | acks[t.sender][p] = t}, from seat 0 on
-            let tally = gather(words, t);
-            // line 37, compare: is their number more than (n + 3f) / 2?
-            if is_enough(seats_of(words), faults_of(words), tally.equal) {
-                accept(words, t)
-            } else {
-                propose_or_note(words, t, tally)
-            }
-        }
+    if let Err(r) = ack_check(words, s, t) {
+        return Reply::Refuse(r);
+    }
+    // line 36, record: acks[t.sender][s] := t
+    put_ack(words, s, t);
+    // line 37, gather: {p ∈ Π | acks[t.sender][p] = t}, from seat 0 on
+    let tally = gather(words, t);
+    // line 37, compare: is their number more than (n + 3f) / 2?
+    if is_enough(seats_of(words), faults_of(words), tally.equal) {
+        accept(words, t)
+    } else {
+        propose_or_note(words, t, tally)
     }
 }
 
 // The council's decision (document 01: ruling): its transfer is accepted.
-pub fn decide(words: &mut [u32], t: Transfer) -> Reply
-    requires { length words.old ≡ book_words }
+pub fn decide(words: &mut Book, t: Transfer) -> Reply
     ensures { Answered words.old (Decision t) result words.new }
 {
     match transfer_check(words, t) {
-        Check::Failed(r) => Reply::Refuse(r),
-        Check::Passed => accept(words, t),
+        Ok(()) => accept(words, t),
+        Err(r) => Reply::Refuse(r),
     }
 }
 
 // A balance question.
-pub fn inquire(words: &[u32], a: Account) -> Reply
-    requires { length words.now ≡ book_words }
+pub fn inquire(words: &Book, a: Account) -> Reply
     ensures { Answered words.now (Inquiry a) result words.now }
 {
     if accounts_of(words) <= a.0 {
@@ -103,9 +93,8 @@ pub fn inquire(words: &[u32], a: Account) -> Reply
 }
 
 // What follows from the ack that was just recorded, where those equal to it are not enough: P or N.
-fn propose_or_note(words: &mut [u32], t: Transfer, tally: Tally) -> Reply
-    requires words_len { length words.old ≡ book_words }
-    requires account_bound { t.account.0 < 32 }
+fn propose_or_note(words: &mut Book, t: Transfer, tally: Tally) -> Reply
+    requires { t.account.0 < 32 }
     ensures { NotEnough words.old t tally result words.new }
 {
     if must_propose(words, t.account, tally) {
@@ -117,9 +106,8 @@ fn propose_or_note(words: &mut [u32], t: Transfer, tally: Tally) -> Reply
 }
 
 // The accepted transfer is retained, it waits, and settling begins: K carries how many transfers it applied.
-fn accept(words: &mut [u32], t: Transfer) -> Reply
-    requires words_len { length words.old ≡ book_words }
-    requires account_bound { t.account.0 < 32 }
+fn accept(words: &mut Book, t: Transfer) -> Reply
+    requires { t.account.0 < 32 }
     ensures { Accepted words.old t result words.new }
 {
     put_retained(words, t);

@@ -1,5 +1,4 @@
 -- Refused where there is no such account, else its balance; the words stay as they are.
-use Rattle.std.specs.Prelude.{Ok, Err}
 use mathlib.Core.Path.{refl, ap, sym}
 use borrow.Author.Tests.{le-leb, lt-leb}
 use Rattle.model.specs.declared.Message.TheVariants.{Inquiry}
@@ -14,13 +13,13 @@ use Rattle.calls.proofs.messages.inquire.Goals as goal
 
 pub returns-then-accounts_of-a : goal.returns-then-accounts_of-a
 returns-then-accounts_of-a c =
-    refused c.args.words.now (Inquiry c.args.a) refl (Err OutOfRange) (rw (← c.accounts_of.ensures, le-leb _ _ c.if-accounts_of-a.true)) OutOfRange refl
+    refused c.args.words.now (Inquiry c.args.a) refl OutOfRange (rw (← c.accounts_of.ensures, le-leb _ _ c.if-accounts_of-a.true))
 
-pub balance_of-requires-clause-a_bound : goal.balance_of-requires-clause-a_bound
-balance_of-requires-clause-a_bound c =
-    (account_place c.args.words.now c.args.a (rw (← c.accounts_of.ensures, lt-leb _ _ c.if-accounts_of-a.false)))
+pub balance_of-requires : goal.balance_of-requires
+balance_of-requires c =
+    account_place c.args.words.now c.args.a (rw (← c.accounts_of.ensures, lt-leb _ _ c.if-accounts_of-a.false))
 
 pub returns : goal.returns
 returns c =
-    served c.args.words.now (Inquiry c.args.a) refl Ok tt (rw (← c.accounts_of.ensures, lt-leb _ _ c.if-accounts_of-a.false)) _ _ refl
+    served c.args.words.now (Inquiry c.args.a) refl _ _ (rw (← c.accounts_of.ensures, lt-leb _ _ c.if-accounts_of-a.false))
     (record { reply = ap Balance c.balance_of.ensures; ledger = sym (with_entry_read (ledger_in c.args.words.now) c.args.a); not_refused = λ code e. impossible (cc) })

@@ -1,5 +1,5 @@
 -- The tally decides: P, else N.
-use mathlib.Core.Path.{refl}
+use mathlib.Core.Path.{refl, sym, ◌∙◌}
 use Rattle.tally.proofs.Nexts.{most_next}
 use Rattle.calls.proofs.Taking.{tally_proposes}
 use Rattle.calls.proofs.messages.propose_or_note.Goals as goal
@@ -10,6 +10,7 @@ returns-then-must_propose c =
     let t = c.args.t in
     record {
       decided = λ next among tally few.
-          tally_proposes ws t c.args.tally tally _ refl few _ (c.must_propose.ensures.decided t refl next.number tally (rw tally among))
-          _ _ c.if-must_propose.true (most_next ws t _ c.requires.account_bound next.number among c.most_acked-most.ensures) c.put_proposed.ensures;
+          tally_proposes ws t c.args.tally tally few _ _
+          (sym (c.must_propose.ensures.decided t refl next.number tally (rw tally among)) ∙ c.if-must_propose.true)
+          (most_next ws t _ c.requires next.number among c.most_acked-most.ensures) c.put_proposed.ensures;
     }

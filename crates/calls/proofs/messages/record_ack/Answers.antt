@@ -2,7 +2,7 @@
 use Rattle.std.specs.Prelude.{Ok, Err}
 use Prim.Native.Nat.{ℕ, ◌<◌}
 use native.Mathlib.Omega.{arith}
-use mathlib.Core.Path.{◌≡◌, sym, ◌∙◌}
+use mathlib.Core.Path.{◌≡◌, sym}
 use mathlib.Core.Bool.{Bool, true, false}
 use mathlib.Core.List.{List}
 use Rattle.model.specs.declared.Seat.{Seat}
@@ -25,17 +25,17 @@ use Rattle.tally.specs.Results.{tally_of, at_next}
 use Rattle.tally.proofs.Nexts.{tally_next}
 use Rattle.calls.specs.Promises.{Next, Taken, NotLate, Accepted, NotEnough}
 use Rattle.checks.proofs.Ranges.{Fits, ack_fits}
-use Rattle.calls.proofs.Taking.{refused, served, still_next, recorded, whole, tally_accepts}
+use Rattle.calls.proofs.Taking.{ack_account, refused, served, still_next, recorded, whole, tally_accepts}
 use borrow.Author.Rules.{rules}
 use Rattle.calls.proofs.messages.record_ack.Goals as goal
 
 -- the ack passed its rules
-module _ (ws : List ℕ) (s : Seat) (t : Transfer) (q : Check) (q-is : q ≡ check_of (first_refusal (rules_in (ledger_in ws) (Ack s t)))) (ok : q ≡ Ok tt) where
+module _ (ws : List ℕ) (s : Seat) (t : Transfer) (clear : Ok tt ≡ check_of (first_refusal (rules_in (ledger_in ws) (Ack s t)))) where
   fits : Fits ws t × (s.0 < 16)
-  fits = ack_fits ws t s (passed _ (sym q-is ∙ ok))
+  fits = ack_fits ws t s (passed _ (sym clear))
 
   account : t.account.0 < 32
-  account = fits.0.range.account
+  account = ack_account ws s t clear
 
   -- and is recorded
   module _ (mid : List ℕ) (stored : AckStored ws s t mid) where
@@ -52,67 +52,55 @@ module _ (ws : List ℕ) (s : Seat) (t : Transfer) (q : Check) (q-is : q ≡ che
     follows : (r : Reply) (after : List ℕ) → Taken (finished (ledger_in mid) t.account (tallied (ledger_in mid) (entry_in mid t.account) t)) r after
         → NotLate ws s t r after
     follows r after x =
-        record { answered = λ in_time. served ws (Ack s t) in_time q q-is r after ok (whole ws mid s t account in_words r after x) }
+        record { answered = λ in_time. served ws (Ack s t) in_time r after clear (whole ws mid s t account in_words r after x) }
 
-    -- the seats are gathered,
-    module _ (y : Tally) (gathers : y ≡ tally_of (at_next (entry_in mid t.account) t) (entry_in mid t.account).acks) where
-      tally : y ≡ tally_of t (entry_in mid t.account).acks
-      tally = tally_next (entry_in mid t.account) t y next.number gathers
+    -- the seats are gathered, and their number is compared
+    module _
+        (y : Tally) (gathers : y ≡ tally_of (at_next (entry_in mid t.account) t) (entry_in mid t.account).acks)
+        (n f : ℕ) (n_is : n ≡ (ledger_in mid).seats) (f_is : f ≡ (ledger_in mid).faults)
+      where
+        tally : y ≡ tally_of t (entry_in mid t.account).acks
+        tally = tally_next (entry_in mid t.account) t y next.number gathers
 
-      -- and their number is compared
-      module _ (n f : ℕ) (n-is : n ≡ (ledger_in mid).seats) (f-is : f ≡ (ledger_in mid).faults) (k : Bool) (k-is : k ≡ enough n f y.equal) where
-        compares : k ≡ enough (ledger_in mid).seats (ledger_in mid).faults y.equal
-        compares = k-is ∙ rw (n-is, f-is)
+        compared : {k : Bool} → k ≡ enough n f y.equal → enough (ledger_in mid).seats (ledger_in mid).faults y.equal ≡ k
+        compared is = rw (← n_is, ← f_is) (sym is)
 
-        accepts : k ≡ true → (r : Reply) (after : List ℕ) → Accepted mid t r after → NotLate ws s t r after
-        accepts more r after x = follows r after (tally_accepts mid t y tally k compares r after more (x.settled next.value))
+        accepts : true ≡ enough n f y.equal → (r : Reply) (after : List ℕ) → Accepted mid t r after → NotLate ws s t r after
+        accepts more r after x = follows r after (tally_accepts mid t y tally r after (compared more) (x.settled next.value))
 
-        undecided : k ≡ false → (r : Reply) (after : List ℕ) → NotEnough mid t y r after → NotLate ws s t r after
-        undecided few r after x = follows r after (x.decided next among tally (sym compares ∙ few))
+        undecided : false ≡ enough n f y.equal → (r : Reply) (after : List ℕ) → NotEnough mid t y r after → NotLate ws s t r after
+        undecided few r after x = follows r after (x.decided next among tally (compared few))
 
 -- the same of the words at the end, whatever was done first: it asks that the ack is recorded in
 -- them and that the tally is theirs
 undecided_in : (ws mid : List ℕ) (s : Seat) (t : Transfer) (y : Tally) (r : Reply) (after : List ℕ) → NotEnough mid t y r after
-    → (q : Check) → q ≡ check_of (first_refusal (rules_in (ledger_in ws) (Ack s t))) → q ≡ Ok tt
-    → (n f : ℕ) → n ≡ (ledger_in mid).seats → f ≡ (ledger_in mid).faults → (k : Bool) → k ≡ enough n f y.equal → k ≡ false
+    → Ok tt ≡ check_of (first_refusal (rules_in (ledger_in ws) (Ack s t)))
+    → (n f : ℕ) → n ≡ (ledger_in mid).seats → f ≡ (ledger_in mid).faults → false ≡ enough n f y.equal
     → AckStored ws s t mid → y ≡ tally_of (at_next (entry_in mid t.account) t) (entry_in mid t.account).acks
     → NotLate ws s t r after
-undecided_in ws mid s t y r after x q q-is ok n f n-is f-is k k-is few stored gathers =
-    undecided ws s t q q-is ok mid stored y gathers n f n-is f-is k k-is few r after x
+undecided_in ws mid s t y r after x clear n f n_is f_is few stored gathers =
+    undecided ws s t clear mid stored y gathers n f n_is f_is few r after x
 
 -- where a rule refuses the ack, the words stay
-refused_as_it_was : (ws : List ℕ) (s : Seat) (t : Transfer) (q : Check) → q ≡ check_of (first_refusal (rules_in (ledger_in ws) (Ack s t)))
-    → (r : Refusal) → q ≡ Err r → NotLate ws s t (Refuse r) ws
-refused_as_it_was ws s t q q-is r found = record { answered = λ in_time. refused ws (Ack s t) in_time q q-is r found }
+refused_as_it_was : (ws : List ℕ) (s : Seat) (t : Transfer) (r : Refusal) → Err r ≡ check_of (first_refusal (rules_in (ledger_in ws) (Ack s t)))
+    → NotLate ws s t (Refuse r) ws
+refused_as_it_was ws s t r found = record { answered = λ in_time. refused ws (Ack s t) in_time r found }
 
-pub put_ack-requires-clause-account_bound : goal.put_ack-requires-clause-account_bound
-put_ack-requires-clause-account_bound c =
-    let fit = fits c.args.words.now c.args.s c.args.t _ c.ack_check.ensures c.in-Ok.is in
+pub put_ack-requires : goal.put_ack-requires
+put_ack-requires c =
+    let fit = fits c.args.words.now c.args.s c.args.t c.in_default.ensures in
     (fit.0.range.account, fit.1)
-
-pub gather-tally-requires-clause-account_bound : goal.gather-tally-requires-clause-account_bound
-gather-tally-requires-clause-account_bound c =
-    (account c.args.words.now c.args.s c.args.t _ c.ack_check.ensures c.in-Ok.is)
-
-pub accept-requires-clause-account_bound : goal.accept-requires-clause-account_bound
-accept-requires-clause-account_bound c =
-    (account c.args.words.now c.args.s c.args.t _ c.ack_check.ensures c.in-Ok.is)
-
-pub propose_or_note-requires-clause-account_bound : goal.propose_or_note-requires-clause-account_bound
-propose_or_note-requires-clause-account_bound c =
-    (account c.args.words.now c.args.s c.args.t _ c.ack_check.ensures c.in-Ok.is)
 
 pub returns-in-Err : goal.returns-in-Err
 returns-in-Err c = search (rules, refused_as_it_was)
 
 pub returns-then-is_enough : goal.returns-then-is_enough
 returns-then-is_enough c =
-    accepts c.args.words.now c.args.s c.args.t _ c.ack_check.ensures c.in-Ok.is
-    _ c.put_ack.ensures _ c.gather-tally.ensures.tally _ _ c.seats_of.ensures c.faults_of.ensures _ c.is_enough.ensures c.if-is_enough.true
+    accepts c.args.words.now c.args.s c.args.t c.in_default.ensures
+    _ c.put_ack.ensures _ c.gather-tally.ensures.tally _ _ c.seats_of.ensures c.faults_of.ensures c.if-is_enough.ensures
     _ _ c.accept.ensures
 
 pub returns-else-is_enough : goal.returns-else-is_enough
 returns-else-is_enough c =
-    undecided_in c.args.words.now _ c.args.s c.args.t _ _ _ c.propose_or_note.ensures
-    _ c.ack_check.ensures c.in-Ok.is
-    _ _ c.seats_of.ensures c.faults_of.ensures _ c.is_enough.ensures c.if-is_enough.false (search rules) (search rules)
+    undecided_in c.args.words.now _ c.args.s c.args.t _ _ _ c.propose_or_note.ensures c.in_default.ensures
+    _ _ c.seats_of.ensures c.faults_of.ensures c.if-is_enough.ensures (search rules) (search rules)

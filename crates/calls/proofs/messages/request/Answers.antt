@@ -8,10 +8,9 @@ use Rattle.calls.proofs.Taking.{refused, served}
 use Rattle.calls.proofs.messages.request.Goals as goal
 
 pub returns-in-Err : goal.returns-in-Err
-returns-in-Err c =
-    refused c.args.words.now (Request c.args.t) refl _ c.request_check.ensures _ c.in-Err.is
+returns-in-Err c = refused c.args.words.now (Request c.args.t) refl _ c.in-Err.ensures
 
 pub returns-in-Ok : goal.returns-in-Ok
 returns-in-Ok c =
-    served c.args.words.now (Request c.args.t) refl _ c.request_check.ensures _ _ c.in-Ok.is
+    served c.args.words.now (Request c.args.t) refl _ _ c.in-Ok.ensures
     (record { reply = refl; ledger = sym (with_entry_read (ledger_in c.args.words.now) c.args.t.account); not_refused = λ code e. impossible (cc) })

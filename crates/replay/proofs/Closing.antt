@@ -9,7 +9,8 @@ use mathlib.Core.List.{List, [], ◌++◌, append_assoc, append-nil}
 use lib.ListN.{length}
 use Rattle.model.specs.Types.{Ledger}
 use Rattle.model.specs.Records.{account_of, entry_of}
-use Rattle.basics.specs.Outputs.{Writes}
+use Rattle.basics.specs.declared.output.Output.{Output}
+use Rattle.basics.specs.Outputs.{Appends}
 use Rattle.basics.proofs.Writing.{nothing, then, within}
 use Rattle.layout.specs.Layout.{table_from}
 use Rattle.text.specs.Lines.{decimal, account_line}
@@ -17,23 +18,23 @@ use Rattle.text.proofs.Decimals.{two_digits}
 use Rattle.replay.specs.Text.{Row, row_lines, row_of, closing}
 use Rattle.replay.specs.Promises.{closing_most}
 
-module _ (l : Ledger) (before : List ℕ) (start : ℕ) where
+module _ (l : Ledger) (before : Output) where
   -- the row of an account
   abbrev row : ℕ → Row
   row a = row_of (entry_of l (account_of a))
 
   -- the lines of the accounts below a are written
-  pub record ClosedTo (a : ℕ) (after : List ℕ) (filled : ℕ) : Type 0 where
+  pub record ClosedTo (a : ℕ) (after : Output) : Type 0 where
     pub lines : List ℕ
     pub goes_on : lines ++ row_lines a (table_from row (l.accounts - a) a) ≡ closing l
-    pub writes : Writes before start lines (27 * a) after filled
+    pub writes : Appends before lines (27 * a) after
 
-  pub closed_none : ClosedTo 0 before start
+  pub closed_none : ClosedTo 0 before
   closed_none = record { lines = []; goes_on = rw sub-zero; writes = nothing }
 
-  module _ {a : ℕ} {mid : List ℕ} {at : ℕ} (p : ClosedTo a mid at) where
-    pub closed_more : {after : List ℕ} {balance current filled : ℕ} → balance ≡ (row a).balance → current ≡ (row a).current → a < l.accounts → l.accounts ≤ 32
-        → Writes mid at (account_line a balance current) (length (decimal a) + 25) after filled → ClosedTo (a + 1) after filled
+  module _ {a : ℕ} {mid : Output} (p : ClosedTo a mid) where
+    pub closed_more : {after : Output} {balance current : ℕ} → balance ≡ (row a).balance → current ≡ (row a).current → a < l.accounts → l.accounts ≤ 32
+        → Appends mid (account_line a balance current) (length (decimal a) + 25) after → ClosedTo (a + 1) after
     closed_more balance_is current_is inside few w =
         let line = account_line a (row a).balance (row a).current in
         let one : l.accounts - a ≡ suc (l.accounts - suc a) = omega arith in
@@ -43,7 +44,7 @@ module _ (l : Ledger) (before : List ℕ) (start : ℕ) where
           writes = within (omega (arith, two_digits a (omega arith))) (then p.writes (rw (balance_is, current_is) at w));
         }
 
-    pub closed_all : l.accounts ≤ a → a ≤ 32 → Writes before start (closing l) closing_most mid at
+    pub closed_all : l.accounts ≤ a → a ≤ 32 → Appends before (closing l) closing_most mid
     closed_all over few =
         let none_left : l.accounts - a ≡ 0 = omega arith in
         let all : p.lines ≡ closing l = sym (append-nil p.lines) ∙ (rw none_left at p.goes_on) in

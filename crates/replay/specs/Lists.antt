@@ -1,6 +1,6 @@
 -- The waiting list of the ledger that a bundle leaves. No bundle asks for it; a host may, behind the last entry.
-use Rattle.std.specs.Prelude.{ℕ, ◌-◌, List, Option, Some, Err}
-use Rattle.model.specs.Types.{Ledger, refused_at}
+use Rattle.std.specs.Prelude.{ℕ, ◌-◌, List, Option, Some, Err, Ok}
+use Rattle.model.specs.Types.{Ledger}
 use Rattle.model.specs.declared.Refusal.{Refusal}
 use Rattle.model.specs.Types.{ListReply}
 use Rattle.model.specs.Types.{OpenReply}
@@ -23,11 +23,11 @@ accounts_behind bytes = accounts_from bytes (fresh_ledger (opening_page bytes))
 -- the refusal of an opening; and of a bundle; where there is none, one that is tried later
 abbrev pub opening_refusal_or : Option Refusal → OpenReply → Option Refusal
 opening_refusal_or later (Err r) = Some r
-opening_refusal_or later Opened = later
+opening_refusal_or later (Ok u) = later
 
 abbrev pub bundle_refusal_or : Option Refusal → BundleReply → Option Refusal
-bundle_refusal_or later (refused_at r i) = Some r
-bundle_refusal_or later (Sound m) = later
+bundle_refusal_or later (Err e) = Some e.refusal
+bundle_refusal_or later (Ok m) = later
 
 -- the refusal that the list behind a sound bundle meets: its opening's, else 17; and behind any
 -- bundle: that of the bundle first

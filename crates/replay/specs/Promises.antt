@@ -1,10 +1,13 @@
 -- What replaying promises.
-use Rattle.std.specs.Prelude.{ℕ, ◌+◌, ◌-◌, ◌*◌, ◌≤◌, ◌<◌, ◌≡◌, List, ◌++◌, length, take, drop}
-use Rattle.model.specs.Bundles.{entry_count}
-use Rattle.basics.specs.Outputs.{Writes}
+use Rattle.std.specs.Prelude.{ℕ, ◌+◌, ◌-◌, ◌*◌, ◌≤◌, ◌<◌, ◌≡◌, List, ◌++◌, length, take, drop, MatchResult, Result, Ok, Err}
+use Rattle.model.specs.Bundles.{entry_count, check_bundle}
+use Rattle.model.specs.Types.{OpenReply, BundleReply, BundleError}
+use Rattle.model.specs.Records.{fresh_ledger}
+use Rattle.basics.specs.declared.output.Output.{Output}
+use Rattle.basics.specs.Outputs.{Appends}
 use Rattle.layout.specs.Layout.{ledger_in}
 use Rattle.bundle.specs.Promises.{longest}
-use Rattle.replay.specs.Text.{ledger_from, lines_from, text_of}
+use Rattle.replay.specs.Text.{ledger_from, lines_from, text_of, opening_page, opened}
 
 -- How long a text can be. The longest line of an entry is that of P: the entry in 3 digits, the letter, account and
 -- recipient in 3 digits each, number and value in 10 each, their spaces and the end of the line: 36 bytes, for 999
@@ -36,12 +39,22 @@ pub record ReplayedInput (input : List ℕ) (read : ℕ) (before after : List �
 abbrev pub SameText : Type 0
 SameText = (n : ℕ) → longest < n → (bytes : List ℕ) → text_of (take n bytes) ≡ text_of bytes
 
--- The text stands at the buffer's front.
-abbrev pub Wrote : List ℕ → List ℕ → List ℕ → ℕ → Type 0
-Wrote text before after r = Writes before 0 text text_most after r
-
--- All entries from 1 on: their lines stand at the buffer's front, and the words are the ledger that is left, whose
--- closing lines are still to come.
-pub record PlayedAll (bytes words left before after : List ℕ) (r : ℕ) : Type 0 where
+-- All entries from 1 on: their lines are put out, and the words are the ledger that is left, whose closing lines are
+-- still to come.
+pub record PlayedAll (bytes words left : List ℕ) (before after : Output) : Type 0 where
   pub ledger : ledger_in left ≡ ledger_from bytes (entry_count bytes - 1) 1 (ledger_in words)
-  pub writes : Writes before 0 (lines_from bytes (entry_count bytes - 1) 1 (ledger_in words)) lines_most after r
+  pub writes : Appends before (lines_from bytes (entry_count bytes - 1) 1 (ledger_in words)) lines_most after
+
+-- the refusal that keeps a bundle's page 0 from opening a book: the bundle's, or the opening's, which names entry 0
+abbrev pub opened_by : BundleReply → OpenReply → Result (Unit {0}) BundleError
+opened_by (Err e) o = Err e
+opened_by (Ok m) (Err r) = Err (record { refusal = r; entry = 0 })
+opened_by (Ok m) (Ok u) = Ok tt
+
+-- The book that a bundle's page 0 opens, a fresh one; or that refusal.
+abbrev pub OpensBook : List ℕ → Result (List ℕ) BundleError → Type 0
+OpensBook bytes r =
+    MatchResult
+    r
+    (λ words. (opened_by (check_bundle bytes) (opened bytes) ≡ Ok tt) × (ledger_in words ≡ fresh_ledger (opening_page bytes)))
+    (λ e. opened_by (check_bundle bytes) (opened bytes) ≡ Err e)

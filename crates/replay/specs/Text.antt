@@ -1,6 +1,6 @@
 -- Document 01, "The program `daybook`": the whole text that it writes for a bundle, as a list of bytes.
-use Rattle.std.specs.Prelude.{ℕ, zero, suc, ◌-◌, List, [], ◌∷◌, ◌++◌, Option, Some, None, Err}
-use Rattle.model.specs.Types.{Entry, Ledger, refused_at}
+use Rattle.std.specs.Prelude.{ℕ, zero, suc, ◌-◌, List, [], ◌∷◌, ◌++◌, Option, Some, None, Err, Ok}
+use Rattle.model.specs.Types.{Entry, Ledger}
 use Rattle.model.specs.declared.Message.{Message}
 use Rattle.model.specs.declared.Opening.{Opening}
 use Rattle.model.specs.Types.{OpenReply}
@@ -72,12 +72,12 @@ opened bytes = open_reply (opening_page bytes)
 -- (entry 0 for codes 1, 2, 3 ..)"
 abbrev pub opened_text : List ℕ → ℕ → OpenReply → List ℕ
 opened_text bytes m (Err r) = refusal_line (code_of r) 0
-opened_text bytes m Opened = played_text bytes (m - 1) (fresh_ledger (opening_page bytes))
+opened_text bytes m (Ok u) = played_text bytes (m - 1) (fresh_ledger (opening_page bytes))
 
 -- the text of the check's answer: nothing is opened before the whole bundle is checked
 abbrev pub checked_text : List ℕ → BundleReply → List ℕ
-checked_text bytes (refused_at r i) = refusal_line (code_of r) i
-checked_text bytes (Sound m) = opened_text bytes m (opened bytes)
+checked_text bytes (Err e) = refusal_line (code_of e.refusal) e.entry
+checked_text bytes (Ok m) = opened_text bytes m (opened bytes)
 
 -- what `daybook` writes for these bytes
 abbrev pub text_of : List ℕ → List ℕ

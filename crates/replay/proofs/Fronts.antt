@@ -1,10 +1,11 @@
 -- As much of an input as the longest bundle has, and one byte more, gives the text of the whole: a longer
 -- bundle is refused, and by its front.
+use Rattle.std.specs.Prelude.{Ok, Err}
 use Prim.Native.Nat.{ℕ, ◌<◌}
 use mathlib.Core.Path.{◌≡◌, refl, ap, sym, ◌∙◌}
 use mathlib.Core.List.{List}
 use lib.ListN.{length, take}
-use Rattle.model.specs.Types.{BundleReply, refused_at}
+use Rattle.model.specs.Types.{BundleReply}
 use Rattle.model.specs.Bundles.{check_bundle}
 use Rattle.bundle.proofs.Longest.{front, read_front}
 use Rattle.bundle.specs.Promises.{longest}
@@ -15,8 +16,8 @@ pub same_text : SameText
 same_text n large bytes = rw (front bytes n large) (go (check_bundle bytes) refl)
   where
     go : (r : BundleReply) → check_bundle bytes ≡ r → checked_text (take n bytes) r ≡ checked_text bytes r
-    go (Sound m) e = rw (read_front bytes n m large e)
-    go (refused_at q i) e = refl
+    go (Ok m) e = rw (read_front bytes n m large e)
+    go (Err q) e = refl
 
 -- so the text of what was read into a buffer of more bytes than the longest bundle has is that of the input
 pub text_of_input : (input : List ℕ) (read n : ℕ) {before after : List ℕ} {r : ℕ} → longest < length input → take n input ≡ take read input

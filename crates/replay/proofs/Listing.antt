@@ -1,21 +1,20 @@
 -- The waiting list behind a bundle.
-use Rattle.std.specs.Prelude.{Some, Ok, Err}
+use Rattle.std.specs.Prelude.{Some, Result, Ok, Err}
 use Prim.Native.Nat.{ℕ}
-use mathlib.Core.Path.{◌≡◌, ap, subst}
+use mathlib.Core.Path.{◌≡◌, refl, ap, subst}
 use mathlib.Core.List.{List}
-use Rattle.model.specs.Types.{Ledger, refused_at}
+use Rattle.model.specs.Types.{Ledger, ListReply, OpenReply, BundleReply, BundleError}
 use Rattle.model.specs.declared.Refusal.{Refusal}
-use Rattle.model.specs.Types.{ListReply}
-use Rattle.model.specs.Types.{OpenReply}
+use Rattle.model.specs.Records.{fresh_ledger}
 use Rattle.model.specs.Refusals.{list_refusal}
 use Rattle.model.specs.Replies.{values_of_list}
 use Rattle.model.specs.Bundles.{check_bundle}
+use Rattle.basics.specs.declared.output.Output.{Output}
 use Rattle.layout.specs.Layout.{ledger_in}
-use Rattle.opening.specs.Promises.{Opens}
 use Rattle.ledger.specs.Promises.{ListedBy, ListedAs}
-use Rattle.replay.specs.Text.{opening_page}
-use Rattle.replay.specs.Lists.{accounts_from, accounts_behind, refusal_behind, SoundList, ListOf}
-use Rattle.replay.proofs.Sound.{fresh_words}
+use Rattle.replay.specs.Text.{opening_page, opened}
+use Rattle.replay.specs.Promises.{opened_by, OpensBook, PlayedAll}
+use Rattle.replay.specs.Lists.{accounts_behind, refusal_behind, ListOf}
 
 -- a list that meets a refusal tells it, and leaves the buffer
 refused_list : (q : Refusal) (accounts before : List ℕ) (r : ListReply) (after : List ℕ) → r ≡ Err q → after ≡ before → ListedBy (Some q) accounts before r after
@@ -25,22 +24,33 @@ refused_list q accounts before r after told kept = record { lists = record { rep
 pub list_played : {before after : List ℕ} {r : ListReply} (l k : Ledger) → l ≡ k → ListedAs l before r after → ListedAs k before r after
 list_played {before = before} {after = after} {r = r} l k same h = subst (λ (x : Ledger). ListedAs x before r after) same h
 
-module _ (bytes : List ℕ) {before after : List ℕ} {r : ListReply} where
-  -- the answer of the opening page decides what follows
-  pub list_opened : (words held : List ℕ) (a : OpenReply) → Opens words (opening_page bytes) a held → a ≡ Ok tt
-      → ListedBy (list_refusal before) (accounts_from bytes (ledger_in held)) before r after → SoundList bytes before r after
+-- the refusal that a list meets, by what keeps page 0 from opening, if anything does
+Meets : List ℕ → List ℕ → Result (Unit {0}) BundleError → Type 0
+Meets bytes before (Err e) = refusal_behind bytes before ≡ Some e.refusal
+Meets bytes before (Ok u) = refusal_behind bytes before ≡ list_refusal before
+
+meets : (bytes before : List ℕ) → Meets bytes before (opened_by (check_bundle bytes) (opened bytes))
+unfolding refusal_behind
+meets bytes before = go (check_bundle bytes) (opened bytes) refl refl
+  where
+    go : (c : BundleReply) (o : OpenReply) → check_bundle bytes ≡ c → opened bytes ≡ o → Meets bytes before (opened_by c o)
+    go (Err e) o checked answer = rw checked refl
+    go (Ok m) (Err r) checked answer = rw (checked, answer) refl
+    go (Ok m) (Ok u) checked answer = rw (checked, answer) refl
+
+module _ (bytes before : List ℕ) {opening : Result (List ℕ) BundleError} (opens : OpensBook bytes opening) where
+  -- behind a bundle, or an opening, that is refused
+  pub list_refused : {e : BundleError} → opening ≡ Err e → ListOf bytes before (Err e.refusal) before
+  list_refused {e} is =
+      let refused : opened_by (check_bundle bytes) (opened bytes) ≡ Err e = rw is at opens in
+      let met : refusal_behind bytes before ≡ Some e.refusal = subst (λ x. Meets bytes before x) refused (meets bytes before) in
+      rw met (refused_list e.refusal (accounts_behind bytes) before (Err e.refusal) before refl refl)
+
+  -- behind one that opens: of the ledger that its entries leave
+  pub list_opened : {words left after : List ℕ} {r : ListReply} {from to : Output} → opening ≡ Ok words → PlayedAll bytes words left from to
+      → ListedAs (ledger_in left) before r after → ListOf bytes before r after
   unfolding accounts_behind
-  list_opened words held a answer opens h = rw (← answer.reply, opens) (rw (fresh_words words held (opening_page bytes) a answer opens) at h)
-
-  pub list_not_opened : (words held : List ℕ) (a : OpenReply) (q : Refusal) → Opens words (opening_page bytes) a held → a ≡ Err q → r ≡ Err q → after ≡ before
-      → SoundList bytes before r after
-  list_not_opened words held a q answer refused told kept = rw (← answer.reply, refused) (refused_list q (accounts_behind bytes) before r after told kept)
-
-  -- and so does that of the check
-  pub list_of_sound : (m : ℕ) → check_bundle bytes ≡ Ok m → SoundList bytes before r after → ListOf bytes before r after
-  unfolding refusal_behind
-  list_of_sound m sound h = rw sound h
-
-  pub list_of_refused : (q : Refusal) (i : ℕ) → check_bundle bytes ≡ refused_at q i → r ≡ Err q → after ≡ before → ListOf bytes before r after
-  unfolding refusal_behind
-  list_of_refused q i refused told kept = rw refused (refused_list q (accounts_behind bytes) before r after told kept)
+  list_opened {words} is played h =
+      let fact : (opened_by (check_bundle bytes) (opened bytes) ≡ Ok tt) × (ledger_in words ≡ fresh_ledger (opening_page bytes)) = rw is at opens in
+      let met : refusal_behind bytes before ≡ list_refusal before = subst (λ x. Meets bytes before x) fact.0 (meets bytes before) in
+      rw (met, ← fact.1) (list_played _ _ played.ledger h)

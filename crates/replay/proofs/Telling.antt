@@ -2,12 +2,11 @@
 use Rattle.std.specs.Prelude.{Result, Ok, Err}
 use Prim.Native.Nat.{ℕ, ◌-◌, ◌≤◌}
 use native.Mathlib.Omega.{arith}
-use mathlib.Core.Path.{◌≡◌, refl, ap, sym, ◌∙◌}
+use mathlib.Core.Path.{◌≡◌, refl, ap, sym, subst, ◌∙◌}
 use mathlib.Core.List.{List}
-use lib.ListN.{length, take, drop, length-append}
-use lib.Seq.{take-append_seam}
-use Rattle.laws.proofs.Sums.{impossible}
+use lib.ListN.{length}
 use Rattle.model.specs.Types.{OpenReply, BundleReply, BundleError}
+use Rattle.model.specs.Records.{fresh_ledger}
 use Rattle.model.specs.Bundles.{entry_count, check_bundle}
 use Rattle.model.specs.Replies.{code_of}
 use Rattle.basics.specs.declared.output.Output.{Output}
@@ -15,15 +14,56 @@ use Rattle.basics.specs.Outputs.{Appends}
 use Rattle.basics.proofs.Writing.{then, within, whole}
 use Rattle.text.specs.Lines.{refusal_line}
 use Rattle.layout.specs.Layout.{ledger_in}
-use Rattle.replay.specs.Text.{closing, played_text, opening_page, opened_text, checked_text, opened, text_of}
+use Rattle.replay.specs.Text.{closing, played_text, opening_page, opened, text_of}
 use Rattle.replay.specs.Promises.{closing_most, text_most, opened_by, OpensBook, Replayed, PlayedAll}
 use Rattle.replay.proofs.Sound.{sound_count}
 
--- a bundle that opens is sound, and its text is of its entries
-opened_as : (bytes : List ℕ) (c : BundleReply) (o : OpenReply) → check_bundle bytes ≡ c → opened bytes ≡ o → opened_by c o ≡ Ok tt
-    → (text_of bytes ≡ played_text bytes (entry_count bytes - 1) _) × (entry_count bytes ≤ 1_000)
-opened_as bytes (Err e) o checked answer h = impossible (cc)
-opened_as bytes (Ok m) (Err r) checked answer h = impossible (cc)
-opened_as bytes (Ok m) (Ok u) checked answer h =
-    let count = sound_count bytes m checked in
-    (rw (checked, answer, count.0) refl, count.2.1)
+-- what the text is, by what keeps page 0 from opening, if anything does
+Told : List ℕ → Result (Unit {0}) BundleError → Type 0
+Told bytes (Err e) = text_of bytes ≡ refusal_line (code_of e.refusal) e.entry
+Told bytes (Ok u) =
+    (text_of bytes ≡ played_text bytes (entry_count bytes - 1) (fresh_ledger (opening_page bytes))) × (entry_count bytes ≤ 1_000)
+
+told : (bytes : List ℕ) → Told bytes (opened_by (check_bundle bytes) (opened bytes))
+told bytes = go (check_bundle bytes) (opened bytes) refl refl
+  where
+    go : (c : BundleReply) (o : OpenReply) → check_bundle bytes ≡ c → opened bytes ≡ o → Told bytes (opened_by c o)
+    go (Err e) o checked answer = rw checked refl
+    go (Ok m) (Err r) checked answer = rw (checked, answer) refl
+    go (Ok m) (Ok u) checked answer =
+        let count = sound_count bytes m checked in
+        (rw (checked, answer, count.0) refl, count.2.1)
+
+module _ (bytes : List ℕ) {r : Result (List ℕ) BundleError} (opens : OpensBook bytes r) where
+  module _ {words : List ℕ} (is : r ≡ Ok words) where
+    open_fact : (opened_by (check_bundle bytes) (opened bytes) ≡ Ok tt) × (ledger_in words ≡ fresh_ledger (opening_page bytes))
+    open_fact = rw is at opens
+
+    text_is : (text_of bytes ≡ played_text bytes (entry_count bytes - 1) (fresh_ledger (opening_page bytes))) × (entry_count bytes ≤ 1_000)
+    text_is = subst (λ x. Told bytes x) open_fact.0 (told bytes)
+
+    -- a bundle that opens has few entries,
+    pub few_opened : entry_count bytes ≤ 1_000
+    few_opened = text_is.1
+
+    -- and its text is their lines, and behind them the closing lines of the ledger that they leave
+    pub told_opened : {left : List ℕ} {before mid after : Output} → PlayedAll bytes words left before mid
+        → Appends mid (closing (ledger_in left)) closing_most after → Appends before (text_of bytes) text_most after
+    told_opened played closes =
+        rw (text_is.0, ← open_fact.1) (rw (← played.ledger) (within (omega arith) (then played.writes closes)))
+
+  -- the text of a bundle, or an opening, that is refused
+  pub told_refused : {e : BundleError} → r ≡ Err e → {code : ℕ} → code ≡ code_of e.refusal → {before after : Output}
+      → Appends before (refusal_line code e.entry) 24 after → Appends before (text_of bytes) text_most after
+  told_refused {e} is code_is w =
+      let refused : opened_by (check_bundle bytes) (opened bytes) ≡ Err e = rw is at opens in
+      let text : text_of bytes ≡ refusal_line (code_of e.refusal) e.entry = subst (λ x. Told bytes x) refused (told bytes) in
+      rw text (within (omega arith) (rw code_is at w))
+
+-- every text fits
+pub replayed : {text buffer : List ℕ} {before after : Output} → before.buffer.now ≡ buffer → before.filled ≡ 0 → length buffer ≡ text_most
+    → Appends before text text_most after → Replayed text buffer after.buffer.now after.filled
+replayed {text} {buffer} is front size w =
+    let fits : length text ≤ length buffer = omega (arith, w.writes.short) in
+    let all = whole (rw (is, front) at w.writes) fits in
+    record { front = all.0; size = all.1; fits = fits }

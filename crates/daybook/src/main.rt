@@ -5,39 +5,20 @@
 #![tactic(auto)]
 
 use replay::{INPUT_SIZE, TEXT_SIZE, replay_input};
-use std::io::{Read, Stdin};
+use std::io::{self, Read, Stdin};
 
-// How many bytes were read, and whether the read behind them failed.
-#[derive(Drop)]
-struct Taken {
-    read: usize,
-    failed: bool,
-}
-
-// Reads standard input until the buffer is full, the input ends or a read fails.
-fn take_input(mut stdin: Stdin, input: &mut [u8]) -> Taken {
-    let mut read: usize = 0;
+// Reads standard input until the buffer is full, the input ends or a read fails: how many bytes were read, and that
+// failure, if there was one.
+fn take_input(mut stdin: Stdin, input: &mut [u8]) -> (usize, io::Result<()>) {
+    let mut read = 0;
     while read < input.len() {
         match stdin.read(&mut input[read..]) {
-            Ok(0) => {
-                return Taken {
-                    read: read,
-                    failed: false,
-                };
-            }
+            Ok(0) => break,
             Ok(more) => read += more,
-            Err(_) => {
-                return Taken {
-                    read: read,
-                    failed: true,
-                };
-            }
+            Err(e) => return (read, Err(e)),
         }
     }
-    Taken {
-        read: read,
-        failed: false,
-    }
+    (read, Ok(()))
 }
 
 // What cannot be told on standard error is not told.
@@ -46,17 +27,17 @@ fn say(rt: &impl Eprint, line: &str) {
 }
 
 fn main(rt: HostRuntime) {
-    let mut input = [0u8; INPUT_SIZE];
-    let mut text = [0u8; TEXT_SIZE];
-    let taken = take_input(rt.stdin(), &mut input);
-    let filled = replay_input(&input, taken.read, &mut text);
+    let mut input = [0; INPUT_SIZE];
+    let mut text = [0; TEXT_SIZE];
+    let (read, reading) = take_input(rt.stdin(), &mut input);
+    let filled = replay_input(&input, read, &mut text);
     if rt.write_all(&text[..filled]).is_err() {
         say(
             &rt,
             "daybook: standard output: writing failed, the text is not whole; see where it goes and run this again",
         );
     }
-    if taken.failed {
+    if reading.is_err() {
         say(
             &rt,
             "daybook: standard input: reading failed, the text is of the bytes before; see to it and run this again",

@@ -1,5 +1,5 @@
 -- What is handed over: the refusal that it meets, or what the page that it is comes to.
-use Rattle.std.specs.Prelude.{Option, Some, None, Ok, Err}
+use Rattle.std.specs.Prelude.{Option, Some, None, Ok, Err, Result}
 use Prim.Native.Nat.{ℕ}
 use mathlib.Core.Path.{◌≡◌, refl, ap, sym, ◌∙◌}
 use mathlib.Core.Logic.{◌≢◌}
@@ -18,7 +18,7 @@ use Rattle.model.specs.Records.{fresh_ledger}
 use Rattle.model.specs.Refusals.{first_refusal}
 use Rattle.model.specs.Replies.{code_of, values_of_open}
 use Rattle.model.specs.Bundles.{Page, wrong_page, opening_of, message_of, message_or}
-use Rattle.model.specs.Openings.{open_rules, open_ledger_by, open_ledger}
+use Rattle.model.specs.Openings.{open_rules, open_reply, open_ledger_by, open_ledger}
 use Rattle.model.specs.Calls.{step}
 use Rattle.laws.proofs.Sums.{impossible}
 use Rattle.model.specs.Refusals.{check_of}
@@ -26,7 +26,7 @@ use Rattle.basics.proofs.ReadBack.{failed, passed}
 use Rattle.layout.specs.Layout.{ledger_in}
 use Rattle.ledger.specs.Promises.{code_if_any, OpenedAs, Answered}
 use Rattle.host.specs.Handing.{wrong_body, handed_rules, handed_refusal, answer_by, answer, opening_rules}
-use Rattle.host.specs.Messages.{ToldOpening, AnsweredAs}
+use Rattle.host.specs.Messages.{ToldOpening, OpenedHanded, AnsweredAs}
 
 -- the two tests, and what follows where neither holds
 abbrev tests : Bool → Bool → Option Refusal → Option Refusal
@@ -50,7 +50,7 @@ none_found false true rest e = impossible (cc)
 none_found false false rest e = refl
 
 -- An opening page that is handed over, and what the check of it found.
-module _ (before page : List ℕ) (found : Check) (is : found ≡ check_of (first_refusal (handed_rules 0 (record { kind = 0; seat = 0; body = page })))) where
+module _ (before page : List ℕ) (found : Result (Unit {0}) Refusal) (is : found ≡ check_of (first_refusal (handed_rules 0 (record { kind = 0; seat = 0; body = page })))) where
   abbrev handed : Page
   handed = record { kind = 0; seat = 0; body = page }
 
@@ -63,26 +63,36 @@ module _ (before page : List ℕ) (found : Check) (is : found ≡ check_of (firs
   abbrev opened : Option Refusal → Ledger
   opened q = open_ledger_by q (fresh_ledger (opening_of page)) (ledger_in before)
 
-  pub opening_refused : (r : Refusal) → found ≡ Err r → (code : ℕ) → code ≡ code_of r → ToldOpening before page code before
-  opening_refused r failing code told =
+  pub handed_refused : (r : Refusal) → found ≡ Err r → OpenedHanded before page (Err r) before
+  handed_refused r failing =
       let e : all ≡ Some r = found_first (wrong_page 0 handed) (wrong_body handed) later r (failed _ r (sym is ∙ failing)) in
-      record { code = told ∙ ap code_if_any (sym e); ledger = ap opened (sym e); kept = λ differs. refl }
+      record { reply = ap check_of (sym e); ledger = ap opened (sym e); kept = λ code same. refl }
 
   -- the page that was read, and what its opening told
-  pub opening_told : found ≡ Ok tt → (o : Opening) (q : OpenReply) (code : ℕ) (after : List ℕ) → o ≡ opening_of page → OpenedAs before o q after
-      → values_of_open q ≡ code ∷ [] → (code ≢ 0 → after ≡ before) → ToldOpening before page code after
-  unfolding open_ledger
-  opening_told passing o q code after read opens carries kept =
+  pub handed_opened : found ≡ Ok tt → (o : Opening) (q : OpenReply) (after : List ℕ) → o ≡ opening_of page → OpenedAs before o q after → OpenedHanded before page q after
+  unfolding open_reply open_ledger
+  handed_opened passing o q after read opens =
       let e : all ≡ later = none_found (wrong_page 0 handed) (wrong_body handed) later (passed _ (sym is ∙ passing)) in
-      let told = ap (λ (values : List ℕ). get_or values 0 0) (sym carries ∙ opens.told) in
       record {
-        code = told ∙ ap (λ (page : Opening). code_if_any (first_refusal (open_rules page))) read ∙ ap code_if_any (sym e);
+        reply = opens.opens.reply ∙ ap (λ (page : Opening). check_of (first_refusal (open_rules page))) read ∙ ap check_of (sym e);
         ledger = opens.opens.ledger ∙ ap (λ (page : Opening). open_ledger page (ledger_in before)) read ∙ ap opened (sym e);
-        kept = kept;
+        kept = opens.opens.kept;
       }
 
+-- An opening, told in numbers.
+module _ {before page : List ℕ} {r : OpenReply} {after : List ℕ} (h : OpenedHanded before page r after) where
+  pub told_opened : r ≡ Ok tt → ToldOpening before page 0 after
+  told_opened is =
+      let none = passed (first_refusal (opening_rules page)) (sym h.reply ∙ is) in
+      record { code = ap code_if_any (sym none); ledger = h.ledger; kept = λ differs. absurd (differs refl) }
+
+  pub told_refused : {q : Refusal} {code : ℕ} → r ≡ Err q → code ≡ code_of q → ToldOpening before page code after
+  told_refused {q} is code_is =
+      let some = failed (first_refusal (opening_rules page)) q (sym h.reply ∙ is) in
+      record { code = code_is ∙ ap code_if_any (sym some); ledger = h.ledger; kept = λ differs. h.kept q is }
+
 -- What is handed over as a message, and what the check of it found.
-module _ (before : List ℕ) (p : Page) (found : Check) (is : found ≡ check_of (handed_refusal p)) where
+module _ (before : List ℕ) (p : Page) (found : Result (Unit {0}) Refusal) (is : found ≡ check_of (handed_refusal p)) where
   abbrev by : Option Refusal → Outcome
   by q = answer_by q (ledger_in before) (message_or (message_of p))
 

@@ -1,16 +1,16 @@
 -- The join of two bundles, told in words.
-use Rattle.std.specs.Prelude.{ℕ, List, [], ◌∷◌, ◌++◌, take, replicate}
+use Rattle.std.specs.Prelude.{ℕ, List, [], ◌∷◌, ◌++◌, take, replicate, Some, None, Ok, Err}
 use Rattle.model.specs.declared.Transfer.{Transfer}
-use Rattle.model.specs.Types.{Evidence, join_refused, found_pair, no_pair}
+use Rattle.model.specs.Types.{Evidence}
 use Rattle.model.specs.Replies.{values_of_transfer, values_of_evidence}
 use Rattle.model.specs.Bundles.{transfer_of}
 use Rattle.model.specs.Joins.{shown_body, shown_start}
 
 -- of a pair also the place where the body starts that is shown, and the slip on it
 abbrev pub also_told : Evidence → ℕ → Transfer → List ℕ
-also_told (found_pair s i j shown) start t = start ∷ values_of_transfer t
-also_told no_pair start t = []
-also_told (join_refused r of i) start t = []
+also_told (Ok (Some p)) start t = start ∷ values_of_transfer t
+also_told (Ok None) start t = []
+also_told (Err e) start t = []
 
 -- the eleven words of an answer: its number and values, what is also told, and zeros
 abbrev pub answer_words : Evidence → ℕ → Transfer → List ℕ

@@ -4,7 +4,8 @@ use Rattle.model.specs.declared.Refusal.{Refusal}
 use Rattle.model.specs.declared.Reply.{Reply}
 use Rattle.model.specs.declared.Reply.TheVariants.{Refuse}
 use Rattle.model.specs.Records.{fresh_ledger}
-use Rattle.model.specs.Refusals.{first_refusal}
+use Rattle.model.specs.Types.{OpenReply}
+use Rattle.model.specs.Refusals.{first_refusal, check_of}
 use Rattle.model.specs.Replies.{letter_of, values_of}
 use Rattle.model.specs.Bundles.{Page, opening_of}
 use Rattle.model.specs.Openings.{open_ledger_by}
@@ -18,6 +19,12 @@ pub record ToldOpening (before page : List ℕ) (r : ℕ) (after : List ℕ) : T
   pub code : r ≡ code_if_any (first_refusal (opening_rules page))
   pub ledger : ledger_in after ≡ open_ledger_by (first_refusal (opening_rules page)) (fresh_ledger (opening_of page)) (ledger_in before)
   pub kept : r ≢ 0 → after ≡ before
+
+-- The same, answered by the refusal.
+pub record OpenedHanded (before page : List ℕ) (r : OpenReply) (after : List ℕ) : Type 0 where
+  pub reply : r ≡ check_of (first_refusal (opening_rules page))
+  pub ledger : ledger_in after ≡ open_ledger_by (first_refusal (opening_rules page)) (fresh_ledger (opening_of page)) (ledger_in before)
+  pub kept : (code : Refusal) → r ≡ Err code → after ≡ before
 
 -- the five words of a reply: the letter, what the reply carries, and zeros
 abbrev pub reply_words : Reply → List ℕ

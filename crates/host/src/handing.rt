@@ -1,13 +1,11 @@
 // What a host hands over, a kind, a seat and a body, is met as a page of a bundle is, before all else.
 ghost use Rattle.std.specs.Prelude.{◌≡◌};
-ghost use Rattle.model.specs.Refusals.{first_refusal};
-ghost use Rattle.model.specs.Refusals.{check_of};
+ghost use Rattle.model.specs.Refusals.{first_refusal, check_of};
 ghost use Rattle.host.specs.Handing.{handed_rules};
 ghost use Rattle.host.specs.Messages.{AnsweredAs};
 
-use basics::results::Check;
 use bundle::checks::is_wrong_entry;
-use layout::BOOK_WORDS;
+use layout::Book;
 use ledger::call;
 use model::{ContentsEntry, Refusal, Reply};
 use pages::contents::body_length;
@@ -16,31 +14,30 @@ use writer::records::message_or;
 
 // As entry i of a bundle: 14 for a kind that cannot stand there, or a seat other than 0 where the kind has none; 15 for
 // a body that is not as long as its kind's.
-pub fn check_handed(i: u16, kind: u8, seat: u8, body: &[u8]) -> Check
+pub fn check_handed(i: u16, kind: u8, seat: u8, body: &[u8]) -> Result<(), Refusal>
     ensures { result ≡ check_of (first_refusal (handed_rules i (record { kind = kind; seat = seat; body = body.now }))) }
 {
-    let c = ContentsEntry {
-        kind: kind,
-        seat: seat,
+    let entry = ContentsEntry {
+        kind,
+        seat,
         start: 0,
         sum: 0,
     };
-    if is_wrong_entry(i, 0, c) {
-        return Check::Failed(Refusal::BadContents);
+    if is_wrong_entry(i, 0, entry) {
+        return Err(Refusal::BadContents);
     }
     if body.len() != body_length(kind) {
-        return Check::Failed(Refusal::BadEnd);
+        return Err(Refusal::BadEnd);
     }
-    Check::Passed
+    Ok(())
 }
 
 // What is handed over as a message, answered.
-pub fn answer(words: &mut [u32; BOOK_WORDS], kind: u8, seat: u8, body: &[u8]) -> Reply
+pub fn answer(words: &mut Book, kind: u8, seat: u8, body: &[u8]) -> Reply
     ensures { AnsweredAs words.old (record { kind = kind; seat = seat; body = body.now }) result words.new }
 {
-    let handed = check_handed(1, kind, seat, body);
-    match handed {
-        Check::Failed(r) => Reply::Refuse(r),
-        Check::Passed => call(words, message_or(message_from(kind, seat, body))),
+    match check_handed(1, kind, seat, body) {
+        Err(r) => Reply::Refuse(r),
+        Ok(()) => call(words, message_or(message_from(kind, seat, body))),
     }
 }

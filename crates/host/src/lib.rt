@@ -8,7 +8,6 @@ ghost use Rattle.std.specs.Prelude.{◌≡◌};
 ghost use Rattle.model.specs.Acks.{enough};
 ghost use Rattle.model.specs.Refusals.{list_refusal};
 ghost use Rattle.model.specs.Bundles.{body_sum, transfer_of, check_bundle};
-ghost use Rattle.model.specs.Replies.{number_of_which};
 ghost use Rattle.model.specs.Joins.{evidence};
 ghost use Rattle.model.specs.Calls.{waiting_accounts};
 ghost use Rattle.layout.specs.Layout.{book_words, ledger_in};
@@ -17,29 +16,26 @@ ghost use Rattle.replay.specs.Lists.{accounts_behind, refusal_behind};
 ghost use Rattle.replay.specs.Text.{text_of};
 ghost use Rattle.replay.specs.Promises.{Replayed};
 ghost use Rattle.saving.specs.Saved.{saved_size, saved};
-ghost use Rattle.host.specs.Messages.{reply_words, ToldOpening, ToldCall};
+ghost use Rattle.host.specs.Messages.{reply_words, ToldOpening, OpenedHanded, ToldCall};
 ghost use Rattle.host.specs.Keeping.{number_of_load, ToldLoad};
 ghost use Rattle.host.specs.Quorums.{Fewest};
 ghost use Rattle.host.specs.Waiting.{number_of, ToldList};
-ghost use Rattle.host.specs.BundleNumbers.{number_of_fault, number_of_check, number_of_write, ToldWriting};
+ghost use Rattle.host.specs.BundleNumbers.{number_of_bundle, ToldWriting};
 ghost use Rattle.host.specs.Evidences.{answer_words, evidence_words};
 
 use crate::handing::{answer, check_handed};
-use basics::codes::{code_of, letter_of};
 use basics::quorums::is_enough;
-use basics::results::Check;
 use bundle::check;
 use bundle::sums::body_sum;
 use evidence::{join, shown, shown_start};
-use layout::{BOOK_WORDS, HELD_WORDS};
+use layout::{BOOK_WORDS, Book, HeldBook};
 use ledger::{list_waiting, open, switch};
-use model::{
-    BundleReply, Evidence, ListReply, OpenReply, Refusal, Reply, Transfer, Which, WriteReply,
-};
+use model::{BundleError, FoundPair, JoinError, Refusal, Reply, Transfer};
 use pages::contents::BODY_LENGTHS;
+use pages::kinds::Kind;
 use pages::messages::{opening_of, transfer_of};
 use replay::{TEXT_SIZE, list_after, replay};
-use saving::{LoadReply, SAVED_SIZE, load, save};
+use saving::{LoadError, SAVED_SIZE, load, save};
 use writer::records::write_records;
 
 mod handing;
@@ -62,23 +58,26 @@ pub fn ledger_words() -> u32
 // Opens the book from a page, a bundle's body of kind 0: n, f, k, 32 balances. Returns 0, and the book is
 // the page's, whatever it was; or the code that the page is refused by, 15 where it is not 131 bytes
 // long, and each word is as it was.
-pub fn ledger_open(words: &mut [u32; BOOK_WORDS], page: &[u8]) -> u8
+pub fn ledger_open(words: &mut Book, page: &[u8]) -> u8
     ensures { ToldOpening words.old page.now result words.new }
 {
-    let handed = check_handed(0, 0, 0, page);
-    if let Check::Failed(r) = handed {
-        return code_of(r);
+    match open_handed(words, page) {
+        Ok(()) => 0,
+        Err(r) => u8::from(r),
     }
-    let reply = open(words, opening_of(page));
-    match reply {
-        OpenReply::Opened => 0,
-        OpenReply::OpenRefused(r) => code_of(r),
-    }
+}
+
+// The same, answered by the refusal.
+fn open_handed(words: &mut Book, page: &[u8]) -> Result<(), Refusal>
+    ensures { OpenedHanded words.old page.now result words.new }
+{
+    check_handed(0, Kind::Opening as u8, 0, page)?;
+    open(words, opening_of(page))
 }
 
 // Takes over a book held from before request 5: the book is what the held one becomes, whatever it was. The held one
 // stays as it was; the two must not overlap, as no buffer that is written may overlap another.
-pub fn ledger_switch(held: &[u32; HELD_WORDS], words: &mut [u32; BOOK_WORDS])
+pub fn ledger_switch(held: &HeldBook, words: &mut Book)
     ensures { SwitchedAs held.now words.new }
 {
     switch(held, words);
@@ -88,11 +87,10 @@ pub fn ledger_switch(held: &[u32; HELD_WORDS], words: &mut [u32; BOOK_WORDS])
 fn reply_words(r: Reply) -> [u32; REPLY_WORDS]
     ensures { result ≡ reply_words r }
 {
-    let letter = letter_of(r) as u32;
+    let letter = r.letter() as u32;
     match r {
-        Reply::Circulate => [letter, 0, 0, 0, 0],
-        Reply::Acknowledge => [letter, 0, 0, 0, 0],
-        Reply::Accept(count) => [letter, count, 0, 0, 0],
+        Reply::Circulate | Reply::Acknowledge | Reply::Note => [letter, 0, 0, 0, 0],
+        Reply::Accept(value) | Reply::Balance(value) => [letter, value, 0, 0, 0],
         Reply::Propose(t) => [
             letter,
             t.account.0 as u32,
@@ -100,9 +98,7 @@ fn reply_words(r: Reply) -> [u32; REPLY_WORDS]
             t.value,
             t.recipient.0 as u32,
         ],
-        Reply::Note => [letter, 0, 0, 0, 0],
-        Reply::Balance(b) => [letter, b, 0, 0, 0],
-        Reply::Refuse(code) => [letter, code_of(code) as u32, 0, 0, 0],
+        Reply::Refuse(refusal) => [letter, u8::from(refusal) as u32, 0, 0, 0],
     }
 }
 
@@ -111,7 +107,7 @@ fn reply_words(r: Reply) -> [u32; REPLY_WORDS]
 // the kind is no message's, 0 or above 5, or where the seat is not 0 and the kind has none; then R 15 where the body is
 // not as long as its kind's. With every R each word of the book is as it was.
 pub fn ledger_call(
-    words: &mut [u32; BOOK_WORDS],
+    words: &mut Book,
     kind: u8,
     seat: u8,
     body: &[u8],
@@ -123,18 +119,18 @@ pub fn ledger_call(
 }
 
 // A list's reply as one number: how many accounts were written, or 256 times the code.
-fn number_of(reply: ListReply) -> u32
+fn number_of(reply: Result<u32, Refusal>) -> u32
     ensures { result ≡ number_of reply }
 {
     match reply {
-        ListReply::Listed(count) => count,
-        ListReply::ListRefused(code) => 256 * (code_of(code) as u32),
+        Ok(count) => count,
+        Err(refusal) => 256 * (u8::from(refusal) as u32),
     }
 }
 
 // Writes the waiting list, the accounts at which a transfer waits in the book, lowest first, into the front of the list
 // that is lent, 32 bytes or more. Returns how many; or 256 times 17 where the list is shorter, and it is as it was.
-pub fn ledger_waiting(words: &[u32; BOOK_WORDS], list: &mut [u8]) -> u32
+pub fn ledger_waiting(words: &Book, list: &mut [u8]) -> u32
     ensures { ToldList (list_refusal list.old) (waiting_accounts (ledger_in words.now)) list.old result list.new }
 {
     number_of(list_waiting(words, list))
@@ -148,29 +144,29 @@ pub fn ledger_saved_size() -> u32
 }
 
 // Saves the book: its 5,532 bytes to keep, whatever the buffer held. The book stays as it was.
-pub fn ledger_save(words: &[u32; BOOK_WORDS], bytes: &mut [u8; SAVED_SIZE])
+pub fn ledger_save(words: &Book, bytes: &mut [u8; SAVED_SIZE])
     ensures { bytes.new ≡ saved words.now }
 {
     save(words, bytes);
 }
 
 // A load's reply as one number.
-fn number_of_load(reply: LoadReply) -> u8
+fn number_of_load(reply: Result<(), LoadError>) -> u8
     ensures { result ≡ number_of_load reply }
 {
     match reply {
-        LoadReply::Loaded => 0,
-        LoadReply::WrongMark => 101,
-        LoadReply::UnknownFormat => 102,
-        LoadReply::WrongLength => 103,
-        LoadReply::WrongSum => 104,
+        Ok(()) => 0,
+        Err(LoadError::WrongMark) => 101,
+        Err(LoadError::UnknownFormat) => 102,
+        Err(LoadError::WrongLength) => 103,
+        Err(LoadError::WrongSum) => 104,
     }
 }
 
 // Loads a saved book. Returns 0, and the words are those that were saved, whatever they were; or, tried in this order,
 // 101 for a wrong mark, 102 for a format that is not known, 103 for a length that is not that format's, 104 for a wrong
 // sum, and each word is as it was.
-pub fn ledger_load(words: &mut [u32; BOOK_WORDS], bytes: &[u8]) -> u8
+pub fn ledger_load(words: &mut Book, bytes: &[u8]) -> u8
     ensures { ToldLoad words.old bytes.now result words.new }
 {
     number_of_load(load(words, bytes))
@@ -206,29 +202,22 @@ pub fn daybook_waiting(bytes: &[u8], list: &mut [u8]) -> u32
     number_of(list_after(bytes, list))
 }
 
-// A refusal and its entry as one number: 65,536 times the code, and the entry.
-fn number_of_fault(code: Refusal, entry: u16) -> u32
-    ensures { result ≡ number_of_fault code entry }
-{
-    65_536 * (code_of(code) as u32) + (entry as u32)
-}
-
-// A check's reply as one number.
-fn number_of_check(reply: BundleReply) -> u32
-    ensures { result ≡ number_of_check reply }
+// A reply about a bundle as one number: how many entries it has, or its length; or 65,536 times the code, and the entry.
+fn number_of_bundle(reply: Result<u32, BundleError>) -> u32
+    ensures { result ≡ number_of_bundle reply }
 {
     match reply {
-        BundleReply::Sound(count) => count as u32,
-        BundleReply::BundleRefused(code, entry) => number_of_fault(code, entry),
+        Ok(number) => number,
+        Err(e) => 65_536 * (u8::from(e.refusal) as u32) + (e.entry as u32),
     }
 }
 
 // The check of a bundle. Returns how many entries it has, 1 to 1,000; or 65,536 times the
 // code, 13 to 16, and the entry.
 pub fn bundle_check(bytes: &[u8]) -> u32
-    ensures { result ≡ number_of_check (check_bundle bytes.now) }
+    ensures { result ≡ number_of_bundle (check_bundle bytes.now) }
 {
-    number_of_check(check(bytes))
+    number_of_bundle(check(bytes).map(u32::from))
 }
 
 // The sum of a body, as a bundle's contents entry has it.
@@ -239,17 +228,7 @@ pub fn bundle_sum(body: &[u8]) -> u32
 }
 
 // How many bytes an opening page has.
-pub const PAGE_SIZE: usize = BODY_LENGTHS[0];
-
-// A writer's reply as one number: the bundle's length, or 65,536 times the code, and the entry.
-fn number_of_write(reply: WriteReply) -> u32
-    ensures { result ≡ number_of_write reply }
-{
-    match reply {
-        WriteReply::Written(size) => size,
-        WriteReply::WriteRefused(code, entry) => number_of_fault(code, entry),
-    }
-}
+pub const PAGE_SIZE: usize = BODY_LENGTHS[Kind::Opening as usize];
 
 // Writes the bundle of an opening page and of messages into the front of the buffer that is lent; what stands behind it
 // stays. A message is a record of 12 bytes: kind, seat, and ten bytes of a body as a bundle has it (of a question's the
@@ -260,59 +239,44 @@ fn number_of_write(reply: WriteReply) -> u32
 pub fn bundle_write(page: &[u8; PAGE_SIZE], records: &[u8], out: &mut [u8]) -> u32
     ensures { ToldWriting page.now records.now out.old result out.new }
 {
-    number_of_write(write_records(opening_of(page), records, out))
+    number_of_bundle(write_records(opening_of(page), records, out))
 }
 
 // How many bytes a slip has.
-pub const SLIP_SIZE: usize = BODY_LENGTHS[3];
+pub const SLIP_SIZE: usize = BODY_LENGTHS[Kind::Ack as usize];
 
 // How many words a join's reply has: its number and values, where the body starts that is shown, and the four values of
 // its slip.
 pub const EVIDENCE_WORDS: usize = 11;
 
-// Which of two bundles, as a number.
-fn number_of_which(which: Which) -> u32
-    ensures { result ≡ number_of_which which }
-{
-    match which {
-        Which::First => 1,
-        Which::Second => 2,
-        Which::Neither => 0,
-    }
-}
-
 // The words of a join's reply, given where the body starts that is shown, and its slip.
-fn evidence_words(found: Evidence, start: u16, slip: Transfer) -> [u32; EVIDENCE_WORDS]
+fn evidence_words(
+    found: Result<Option<FoundPair>, JoinError>,
+    start: u16,
+    slip: Transfer,
+) -> [u32; EVIDENCE_WORDS]
     ensures { result ≡ answer_words found start slip }
 {
     match found {
-        Evidence::FoundPair(seat, i, j, which) => [
+        Ok(Some(pair)) => [
             0,
             1,
-            seat.0 as u32,
-            i as u32,
-            j as u32,
-            number_of_which(which),
+            pair.seat.0 as u32,
+            pair.first as u32,
+            pair.second as u32,
+            u8::from(pair.shown) as u32,
             start as u32,
             slip.account.0 as u32,
             slip.number,
             slip.value,
             slip.recipient.0 as u32,
         ],
-        Evidence::NoPair => [0; EVIDENCE_WORDS],
-        Evidence::JoinRefused(code, which, entry) => [
-            code_of(code) as u32,
-            number_of_which(which),
-            entry as u32,
-            0,
-            0,
-            0,
-            0,
-            0,
-            0,
-            0,
-            0,
-        ],
+        Ok(None) => [0; EVIDENCE_WORDS],
+        Err(e) => {
+            let code = u8::from(e.refusal) as u32;
+            let bundle = u8::from(e.bundle) as u32;
+            [code, bundle, e.entry as u32, 0, 0, 0, 0, 0, 0, 0, 0]
+        }
     }
 }
 

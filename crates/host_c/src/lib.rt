@@ -20,11 +20,11 @@ ghost use Rattle.host.specs.Messages.{ToldOpening, ToldCall};
 ghost use Rattle.host.specs.Keeping.{ToldLoad};
 ghost use Rattle.host.specs.Quorums.{Fewest};
 ghost use Rattle.host.specs.Waiting.{ToldList};
-ghost use Rattle.host.specs.BundleNumbers.{number_of_check, ToldWriting};
+ghost use Rattle.host.specs.BundleNumbers.{number_of_bundle, ToldWriting};
 ghost use Rattle.host.specs.Evidences.{evidence_words};
 
 use host::{EVIDENCE_WORDS, PAGE_SIZE, REPLY_WORDS, SLIP_SIZE};
-use layout::{BOOK_WORDS, HELD_WORDS};
+use layout::{Book, HeldBook};
 use replay::TEXT_SIZE;
 use saving::SAVED_SIZE;
 
@@ -36,14 +36,14 @@ pub extern "C" fn ledger_words() -> u32
 }
 
 #[unsafe(no_mangle)]
-pub extern "C" fn ledger_open(words: &mut [u32; BOOK_WORDS], page: &[u8]) -> u8
+pub extern "C" fn ledger_open(words: &mut Book, page: &[u8]) -> u8
     ensures { ToldOpening words.old page.now result words.new }
 {
     host::ledger_open(words, page)
 }
 
 #[unsafe(no_mangle)]
-pub extern "C" fn ledger_switch(held: &[u32; HELD_WORDS], words: &mut [u32; BOOK_WORDS])
+pub extern "C" fn ledger_switch(held: &HeldBook, words: &mut Book)
     ensures { SwitchedAs held.now words.new }
 {
     host::ledger_switch(held, words);
@@ -51,7 +51,7 @@ pub extern "C" fn ledger_switch(held: &[u32; HELD_WORDS], words: &mut [u32; BOOK
 
 #[unsafe(no_mangle)]
 pub extern "C" fn ledger_call(
-    words: &mut [u32; BOOK_WORDS],
+    words: &mut Book,
     kind: u8,
     seat: u8,
     body: &[u8],
@@ -63,7 +63,7 @@ pub extern "C" fn ledger_call(
 }
 
 #[unsafe(no_mangle)]
-pub extern "C" fn ledger_waiting(words: &[u32; BOOK_WORDS], list: &mut [u8]) -> u32
+pub extern "C" fn ledger_waiting(words: &Book, list: &mut [u8]) -> u32
     ensures { ToldList (list_refusal list.old) (waiting_accounts (ledger_in words.now)) list.old result list.new }
 {
     host::ledger_waiting(words, list)
@@ -77,14 +77,14 @@ pub extern "C" fn ledger_saved_size() -> u32
 }
 
 #[unsafe(no_mangle)]
-pub extern "C" fn ledger_save(words: &[u32; BOOK_WORDS], bytes: &mut [u8; SAVED_SIZE])
+pub extern "C" fn ledger_save(words: &Book, bytes: &mut [u8; SAVED_SIZE])
     ensures { bytes.new ≡ saved words.now }
 {
     host::ledger_save(words, bytes);
 }
 
 #[unsafe(no_mangle)]
-pub extern "C" fn ledger_load(words: &mut [u32; BOOK_WORDS], bytes: &[u8]) -> u8
+pub extern "C" fn ledger_load(words: &mut Book, bytes: &[u8]) -> u8
     ensures { ToldLoad words.old bytes.now result words.new }
 {
     host::ledger_load(words, bytes)
@@ -120,7 +120,7 @@ pub extern "C" fn daybook_waiting(bytes: &[u8], list: &mut [u8]) -> u32
 
 #[unsafe(no_mangle)]
 pub extern "C" fn bundle_check(bytes: &[u8]) -> u32
-    ensures { result ≡ number_of_check (check_bundle bytes.now) }
+    ensures { result ≡ number_of_bundle (check_bundle bytes.now) }
 {
     host::bundle_check(bytes)
 }

@@ -4,116 +4,84 @@
 
 #![tactic(auto)]
 
-use basics::codes::{code_of, letter_of};
-use layout::BOOK_WORDS;
-use model::{Account, ListReply, Message, OpenReply, Opening, Reply, Seat, Transfer};
+use layout::{BOOK_WORDS, Book};
+use model::{Account, Message, Opening, Reply, Seat, Transfer};
+use std::fmt::{self, Display, Formatter};
 
-// Bytes to standard output. What cannot be written is not told: the lines are compared by whoever runs this.
-fn write(rt: &impl Print, bytes: &[u8]) {
-    let _ = rt.write_all(bytes);
-}
+// A reply as a line: its letter, and what it carries, each value in two digits.
+struct Line(Reply);
 
-// A space and a number, by its last two digits: no value of the known pages has more.
-fn number(rt: &impl Print, n: u32) {
-    let digits = [b' ', (48 + n / 10 % 10) as u8, (48 + n % 10) as u8];
-    write(rt, &digits);
-}
-
-fn small(rt: &impl Print, n: u8) {
-    number(rt, n as u32);
-}
-
-// One byte: a letter, or the end of a line.
-fn put(rt: &impl Print, byte: u8) {
-    let text = [byte];
-    write(rt, &text);
+impl Display for Line {
+    fn fmt(&self, f: &mut Formatter) -> fmt::Result {
+        let Line(reply) = *self;
+        write!(f, "{}", reply.letter() as char)?;
+        match reply {
+            Reply::Accept(value) | Reply::Balance(value) => write!(f, " {value:02}"),
+            Reply::Propose(t) => {
+                let (account, recipient) = (t.account.0, t.recipient.0);
+                write!(f, " {account:02} {:02} {:02} {recipient:02}", t.number, t.value)
+            }
+            Reply::Refuse(refusal) => write!(f, " {:02}", u8::from(refusal)),
+            Reply::Circulate | Reply::Acknowledge | Reply::Note => Ok(()),
+        }
+    }
 }
 
 fn transfer(account: u8, number: u32, value: u32, recipient: u8) -> Transfer {
     Transfer {
         account: Account(account),
-        number: number,
-        value: value,
+        number,
+        value,
         recipient: Account(recipient),
     }
 }
 
-// A reply: its letter and what it carries.
-fn show(rt: &impl Print, r: Reply) {
-    put(rt, letter_of(r));
-    match r {
-        Reply::Accept(count) => number(rt, count),
-        Reply::Balance(balance) => number(rt, balance),
-        Reply::Propose(t) => {
-            small(rt, t.account.0);
-            number(rt, t.number);
-            number(rt, t.value);
-            small(rt, t.recipient.0);
-        }
-        Reply::Refuse(code) => small(rt, code_of(code)),
-        Reply::Circulate => {}
-        Reply::Acknowledge => {}
-        Reply::Note => {}
-    }
-    put(rt, b'\n');
-}
-
-// The opening of two accounts: its code, 0 where it opens.
+// The opening of two accounts: its code, 0 where it opens. Here and below, what cannot be written is not told: the
+// lines are compared by whoever runs this.
 fn opening(
     rt: &impl Print,
-    words: &mut [u32; BOOK_WORDS],
+    words: &mut Book,
     seats: u8,
     faults: u8,
     first: u32,
     second: u32,
 ) {
-    let mut balances: [u32; 32] = [0; 32];
+    let mut balances = [0; 32];
     balances[0] = first;
     balances[1] = second;
     let page = Opening {
-        seats: seats,
-        faults: faults,
+        seats,
+        faults,
         accounts: 2,
-        balances: balances,
+        balances,
     };
-    let reply = ledger::open(words, page);
-    put(rt, b'O');
-    match reply {
-        OpenReply::Opened => number(rt, 0),
-        OpenReply::OpenRefused(r) => small(rt, code_of(r)),
-    }
-    put(rt, b'\n');
+    let code = ledger::open(words, page).map_or_else(u8::from, |()| 0);
+    let _ = println!(rt; "O {code:02}");
 }
 
 // One message, its reply written.
-fn play(rt: &impl Print, words: &mut [u32; BOOK_WORDS], m: Message) {
-    let reply = ledger::call(words, m);
-    show(rt, reply);
+fn play(rt: &impl Print, words: &mut Book, m: Message) {
+    let _ = println!(rt; "{}", Line(ledger::call(words, m)));
 }
 
-fn ack(rt: &impl Print, words: &mut [u32; BOOK_WORDS], seat: u8, t: Transfer) {
+fn ack(rt: &impl Print, words: &mut Book, seat: u8, t: Transfer) {
     play(rt, words, Message::Ack(Seat(seat), t));
 }
 
-fn question(rt: &impl Print, words: &mut [u32; BOOK_WORDS], account: u8) {
+fn question(rt: &impl Print, words: &mut Book, account: u8) {
     play(rt, words, Message::Inquiry(Account(account)));
 }
 
 // The waiting list: how many, and the first byte of the buffer.
-fn waiting(rt: &impl Print, words: &[u32; BOOK_WORDS]) {
-    let mut buffer = [99u8; 32];
-    put(rt, b'W');
-    match ledger::list_waiting(words, &mut buffer) {
-        ListReply::Listed(count) => number(rt, count),
-        ListReply::ListRefused(r) => small(rt, code_of(r)),
-    }
-    small(rt, buffer[0]);
-    put(rt, b'\n');
+fn waiting(rt: &impl Print, words: &Book) {
+    let mut buffer = [99; 32];
+    let told = ledger::list_waiting(words, &mut buffer).unwrap_or_else(|r| u8::from(r) as u32);
+    let _ = println!(rt; "W {told:02} {:02}", buffer[0]);
 }
 
 // "n 5, f 1 and n 17, f 0 are refused with 1."
 fn openings(rt: &impl Print) {
-    let mut book = [0u32; BOOK_WORDS];
+    let mut book = [0; BOOK_WORDS];
     opening(rt, &mut book, 5, 1, 10, 5);
     opening(rt, &mut book, 17, 0, 10, 5);
 }
@@ -122,7 +90,7 @@ fn openings(rt: &impl Print) {
 fn split_three_two(rt: &impl Print) {
     let t = transfer(0, 1, 4, 1);
     let u = transfer(0, 1, 5, 1);
-    let mut book = [0u32; BOOK_WORDS];
+    let mut book = [0; BOOK_WORDS];
     opening(rt, &mut book, 6, 1, 10, 3);
     ack(rt, &mut book, 0, t);
     ack(rt, &mut book, 1, t);
@@ -136,7 +104,7 @@ fn split_three_two(rt: &impl Print) {
 // "Same, but t from 0 to 3 and u from 4: P t, then seat 5 for t gives K."
 fn split_four_one(rt: &impl Print) {
     let t = transfer(0, 1, 4, 1);
-    let mut book = [0u32; BOOK_WORDS];
+    let mut book = [0; BOOK_WORDS];
     opening(rt, &mut book, 6, 1, 10, 3);
     ack(rt, &mut book, 0, t);
     ack(rt, &mut book, 1, t);
@@ -151,7 +119,7 @@ fn split_four_one(rt: &impl Print) {
 fn split_three_three(rt: &impl Print) {
     let t = transfer(0, 1, 4, 1);
     let u = transfer(0, 1, 5, 1);
-    let mut book = [0u32; BOOK_WORDS];
+    let mut book = [0; BOOK_WORDS];
     opening(rt, &mut book, 8, 1, 10, 3);
     let mut other = book;
     ack(rt, &mut book, 0, t);
@@ -174,7 +142,7 @@ fn split_three_three(rt: &impl Print) {
 // slip are taken, and it is booked.
 fn self_payment(rt: &impl Print) {
     let t = transfer(0, 1, 4, 0);
-    let mut book = [0u32; BOOK_WORDS];
+    let mut book = [0; BOOK_WORDS];
     opening(rt, &mut book, 6, 1, 10, 5);
     play(rt, &mut book, Message::Request(t));
     play(rt, &mut book, Message::Circulated(t));
@@ -197,7 +165,7 @@ fn self_payment(rt: &impl Print) {
 fn late_proposal(rt: &impl Print) {
     let t = transfer(0, 1, 4, 1);
     let u = transfer(0, 1, 5, 1);
-    let mut book = [0u32; BOOK_WORDS];
+    let mut book = [0; BOOK_WORDS];
     opening(rt, &mut book, 1, 0, 10, 3);
     ack(rt, &mut book, 0, t);
     ack(rt, &mut book, 0, t);
@@ -216,7 +184,7 @@ fn late_proposal(rt: &impl Print) {
 // "Balances 10 and 5, just opened: a first slip from account 0 of 10 gives A; one of 11 in its
 // place gives 11; one of 16 gives 5."
 fn funds(rt: &impl Print) {
-    let mut book = [0u32; BOOK_WORDS];
+    let mut book = [0; BOOK_WORDS];
     opening(rt, &mut book, 6, 1, 10, 5);
     let mut other = book;
     play(rt, &mut other, Message::Circulated(transfer(0, 1, 10, 1)));
@@ -227,7 +195,7 @@ fn funds(rt: &impl Print) {
 
 // "Balances 0 and 5: ruling (0, 1, 5, 1) gives K 0; then ruling (1, 1, 5, 0) gives K 2, balances 0 and 5."
 fn rulings(rt: &impl Print) {
-    let mut book = [0u32; BOOK_WORDS];
+    let mut book = [0; BOOK_WORDS];
     opening(rt, &mut book, 6, 1, 0, 5);
     play(rt, &mut book, Message::Decision(transfer(0, 1, 5, 1)));
     waiting(rt, &book);
@@ -240,7 +208,7 @@ fn rulings(rt: &impl Print) {
 // The case of document 01's whole output: a slip, its acks from seats 0 to 4, a question.
 fn whole_case(rt: &impl Print) {
     let t = transfer(0, 1, 4, 1);
-    let mut book = [0u32; BOOK_WORDS];
+    let mut book = [0; BOOK_WORDS];
     opening(rt, &mut book, 6, 1, 10, 3);
     play(rt, &mut book, Message::Circulated(t));
     ack(rt, &mut book, 0, t);

@@ -6,5 +6,5 @@ returns c =
     record {
       reply = c.write_records.result;
       wrote = rw c.opening_of.ensures at c.write_records.ensures;
-      told = c.number_of_write.ensures;
+      told = c.number_of_bundle.ensures;
     }

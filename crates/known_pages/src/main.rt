@@ -19,7 +19,11 @@ impl Display for Line {
             Reply::Accept(value) | Reply::Balance(value) => write!(f, " {value:02}"),
             Reply::Propose(t) => {
                 let (account, recipient) = (t.account.0, t.recipient.0);
-                write!(f, " {account:02} {:02} {:02} {recipient:02}", t.number, t.value)
+                write!(
+                    f,
+                    " {account:02} {:02} {:02} {recipient:02}",
+                    t.number, t.value
+                )
             }
             Reply::Refuse(refusal) => write!(f, " {:02}", u8::from(refusal)),
             Reply::Circulate | Reply::Acknowledge | Reply::Note => Ok(()),
@@ -38,14 +42,7 @@ fn transfer(account: u8, number: u32, value: u32, recipient: u8) -> Transfer {
 
 // The opening of two accounts: its code, 0 where it opens. Here and below, what cannot be written is not told: the
 // lines are compared by whoever runs this.
-fn opening(
-    rt: &impl Print,
-    words: &mut Book,
-    seats: u8,
-    faults: u8,
-    first: u32,
-    second: u32,
-) {
+fn opening(rt: &impl Print, words: &mut Book, seats: u8, faults: u8, first: u32, second: u32) {
     let mut balances = [0; 32];
     balances[0] = first;
     balances[1] = second;
@@ -66,6 +63,13 @@ fn play(rt: &impl Print, words: &mut Book, m: Message) {
 
 fn ack(rt: &impl Print, words: &mut Book, seat: u8, t: Transfer) {
     play(rt, words, Message::Ack(Seat(seat), t));
+}
+
+// Acks, each of a seat, one after another.
+fn acks(rt: &impl Print, words: &mut Book, given: &[(u8, Transfer)]) {
+    for (seat, t) in given {
+        ack(rt, words, *seat, *t);
+    }
 }
 
 fn question(rt: &impl Print, words: &mut Book, account: u8) {
@@ -92,13 +96,11 @@ fn split_three_two(rt: &impl Print) {
     let u = transfer(0, 1, 5, 1);
     let mut book = [0; BOOK_WORDS];
     opening(rt, &mut book, 6, 1, 10, 3);
-    ack(rt, &mut book, 0, t);
-    ack(rt, &mut book, 1, t);
-    ack(rt, &mut book, 2, t);
-    ack(rt, &mut book, 3, u);
-    ack(rt, &mut book, 4, u);
-    ack(rt, &mut book, 5, t);
-    ack(rt, &mut book, 5, u);
+    acks(
+        rt,
+        &mut book,
+        &[(0, t), (1, t), (2, t), (3, u), (4, u), (5, t), (5, u)],
+    );
 }
 
 // "Same, but t from 0 to 3 and u from 4: P t, then seat 5 for t gives K."
@@ -106,12 +108,18 @@ fn split_four_one(rt: &impl Print) {
     let t = transfer(0, 1, 4, 1);
     let mut book = [0; BOOK_WORDS];
     opening(rt, &mut book, 6, 1, 10, 3);
-    ack(rt, &mut book, 0, t);
-    ack(rt, &mut book, 1, t);
-    ack(rt, &mut book, 2, t);
-    ack(rt, &mut book, 3, t);
-    ack(rt, &mut book, 4, transfer(0, 1, 5, 1));
-    ack(rt, &mut book, 5, t);
+    acks(
+        rt,
+        &mut book,
+        &[
+            (0, t),
+            (1, t),
+            (2, t),
+            (3, t),
+            (4, transfer(0, 1, 5, 1)),
+            (5, t),
+        ],
+    );
 }
 
 // "n 8, f 1, seven acks split 3, 3, 1", twice: by request 2 of document 02 P carries the slip of seats 0 to 2,
@@ -122,20 +130,32 @@ fn split_three_three(rt: &impl Print) {
     let mut book = [0; BOOK_WORDS];
     opening(rt, &mut book, 8, 1, 10, 3);
     let mut other = book;
-    ack(rt, &mut book, 0, t);
-    ack(rt, &mut book, 1, t);
-    ack(rt, &mut book, 2, t);
-    ack(rt, &mut book, 3, u);
-    ack(rt, &mut book, 4, u);
-    ack(rt, &mut book, 5, u);
-    ack(rt, &mut book, 6, transfer(0, 1, 4, 0));
-    ack(rt, &mut other, 3, t);
-    ack(rt, &mut other, 4, t);
-    ack(rt, &mut other, 5, t);
-    ack(rt, &mut other, 0, u);
-    ack(rt, &mut other, 1, u);
-    ack(rt, &mut other, 2, u);
-    ack(rt, &mut other, 6, transfer(0, 1, 4, 0));
+    acks(
+        rt,
+        &mut book,
+        &[
+            (0, t),
+            (1, t),
+            (2, t),
+            (3, u),
+            (4, u),
+            (5, u),
+            (6, transfer(0, 1, 4, 0)),
+        ],
+    );
+    acks(
+        rt,
+        &mut other,
+        &[
+            (3, t),
+            (4, t),
+            (5, t),
+            (0, u),
+            (1, u),
+            (2, u),
+            (6, transfer(0, 1, 4, 0)),
+        ],
+    );
 }
 
 // A home pays itself: its request and slip meet 20, after 5 and before 6, 7 and 11; acks of such a
@@ -149,11 +169,7 @@ fn self_payment(rt: &impl Print) {
     play(rt, &mut book, Message::Circulated(transfer(0, 9, 4, 0)));
     play(rt, &mut book, Message::Circulated(transfer(0, 9, 0, 0)));
     play(rt, &mut book, Message::Circulated(transfer(0, 1, 11, 0)));
-    ack(rt, &mut book, 0, t);
-    ack(rt, &mut book, 1, t);
-    ack(rt, &mut book, 2, t);
-    ack(rt, &mut book, 3, t);
-    ack(rt, &mut book, 4, t);
+    acks(rt, &mut book, &[(0, t), (1, t), (2, t), (3, t), (4, t)]);
     play(rt, &mut book, Message::Circulated(t));
     play(rt, &mut book, Message::Decision(transfer(0, 2, 4, 0)));
     question(rt, &mut book, 0);
@@ -167,16 +183,12 @@ fn late_proposal(rt: &impl Print) {
     let u = transfer(0, 1, 5, 1);
     let mut book = [0; BOOK_WORDS];
     opening(rt, &mut book, 1, 0, 10, 3);
-    ack(rt, &mut book, 0, t);
-    ack(rt, &mut book, 0, t);
+    acks(rt, &mut book, &[(0, t), (0, t)]);
     play(rt, &mut book, Message::Decision(u));
-    ack(rt, &mut book, 0, u);
-    ack(rt, &mut book, 0, u);
+    acks(rt, &mut book, &[(0, u), (0, u)]);
     opening(rt, &mut book, 6, 1, 0, 5);
     play(rt, &mut book, Message::Decision(t));
-    ack(rt, &mut book, 0, t);
-    ack(rt, &mut book, 0, u);
-    ack(rt, &mut book, 0, u);
+    acks(rt, &mut book, &[(0, t), (0, u), (0, u)]);
     play(rt, &mut book, Message::Decision(transfer(1, 1, 5, 0)));
     ack(rt, &mut book, 1, u);
 }
@@ -211,11 +223,7 @@ fn whole_case(rt: &impl Print) {
     let mut book = [0; BOOK_WORDS];
     opening(rt, &mut book, 6, 1, 10, 3);
     play(rt, &mut book, Message::Circulated(t));
-    ack(rt, &mut book, 0, t);
-    ack(rt, &mut book, 1, t);
-    ack(rt, &mut book, 2, t);
-    ack(rt, &mut book, 3, t);
-    ack(rt, &mut book, 4, t);
+    acks(rt, &mut book, &[(0, t), (1, t), (2, t), (3, t), (4, t)]);
     question(rt, &mut book, 1);
     question(rt, &mut book, 0);
 }

@@ -61,10 +61,6 @@ module _ (ws : List ℕ) (m : Message) (in_time : late_in (ledger_in ws) m ≡ f
       let step_is = sym (newest_step (ledger_in ws) m) ∙ not_refused newest (ledger_in ws) m in_time (passed (first_refusal rules) (sym clear)) in
       answered ws m r after (rw step_is x.reply) (rw step_is x.ledger) (λ code e. absurd (x.not_refused code e))
 
--- a message that its rules let pass has a place for its account, and an ack for its seat
-pub ack_account : (ws : List ℕ) (s : Seat) (t : Transfer) → Ok tt ≡ check_of (first_refusal (ack_rules (ledger_in ws) (entry_in ws t.account) s t)) → t.account.0 < 32
-ack_account ws s t clear = (ack_fits ws t s (passed _ (sym clear))).0.range.account
-
 -- An entry that is stored is overwritten where a turn is finished.
 finished_again : (l : Ledger) (a : Account) (e : Entry) (x : Effect) → finished (with_entry l a e) a x ≡ finished l a x
 finished_again l a e x = go x.due x.entry
@@ -132,20 +128,15 @@ module _ (ws : List ℕ) (s : Seat) (t : Transfer) (p : Slot) (p_is : p ≡ late
       let step_is = sym (newest_step (ledger_in ws) (Ack s t)) ∙ joins_in_lem newest (ledger_in ws) (Ack s t) is.0 in
       answered ws (Ack s t) (Propose u) after (rw (step_is, is.1)) (rw step_is marked) (λ code e. impossible (cc))
 
-  -- such an ack is of an account that there is
-  pub late_account : (u : Transfer) → p ≡ Some u → t.account.0 < 32
-  late_account u found =
-      omega (arith, (joining (ledger_in ws) s t (due u found).0).account_known, accounts_fit ws)
-
 -- A slip is retained, and then it waits.
-pub retained_waits : (before mid after : List ℕ) (t : Transfer) → t.account.0 < 32
+pub retained_waits : (before mid after : List ℕ) (t : Transfer)
     → ledger_in mid ≡ with_entry (ledger_in before) t.account (with_retained (entry_in before t.account) t)
     → ledger_in after ≡ with_entry (ledger_in mid) t.account (with_pending (entry_in mid t.account) t)
     → ledger_in after ≡ with_entry (ledger_in before) t.account (with_pending (with_retained (entry_in before t.account) t) t)
-retained_waits before mid after t account kept waits =
+retained_waits before mid after t kept waits =
     waits
     ∙ rw kept
-    (with_entry_again (ledger_in before) t.account (with_retained (entry_in before t.account) t) (λ e. with_pending e t) (omega (arith, entries_length before)))
+    (with_entry_again (ledger_in before) t.account (with_retained (entry_in before t.account) t) (λ e. with_pending e t))
 
 -- A slip that waits is settled: K.
 pub settled : (before mid after : List ℕ) (t : Transfer) (n : ℕ)

@@ -52,7 +52,6 @@ pub fn receive_ack(words: &mut Book, s: Seat, t: Transfer) -> Reply
 
 // A seat's ack of a transfer, beside lines 35 to 37 of Algorithm 1 in document 000, with
 // document 01's threshold in line 37.
-#[tactic(auto, using(crate::proofs::Taking::ack_account))]
 fn record_ack(words: &mut Book, s: Seat, t: Transfer) -> Reply
     ensures { NotLate words.old s t result words.new }
 {
@@ -94,7 +93,6 @@ pub fn inquire(words: &Book, a: Account) -> Reply
 
 // What follows from the ack that was just recorded, where those equal to it are not enough: P or N.
 fn propose_or_note(words: &mut Book, t: Transfer, tally: Tally) -> Reply
-    requires { t.account.0 < 32 }
     ensures { NotEnough words.old t tally result words.new }
 {
     if must_propose(words, t.account, tally) {
@@ -107,7 +105,6 @@ fn propose_or_note(words: &mut Book, t: Transfer, tally: Tally) -> Reply
 
 // The accepted transfer is retained, it waits, and settling begins: K carries how many transfers it applied.
 fn accept(words: &mut Book, t: Transfer) -> Reply
-    requires { t.account.0 < 32 }
     ensures { Accepted words.old t result words.new }
 {
     put_retained(words, t);

@@ -1,5 +1,4 @@
 -- The slip is retained and waits, and what settling leaves is what the model says.
-use native.Mathlib.Omega.{arith}
 use Rattle.calls.proofs.Taking.{retained_waits, settled}
 use Rattle.calls.proofs.messages.accept.Goals as goal
 
@@ -11,6 +10,6 @@ returns c =
       settled =
           λ value.
           settled c.args.words.now _ _ c.args.t _
-          (retained_waits c.args.words.now _ _ c.args.t (omega arith) (kept.ensures.retained value) (waits.ensures.waits value))
+          (retained_waits c.args.words.now _ _ c.args.t (kept.ensures.retained value) (waits.ensures.waits value))
           c.settle_all.ensures;
     }

@@ -1,14 +1,9 @@
 -- Refused by its rules, or marked.
-use mathlib.Core.Path.{refl, sym}
-use Rattle.basics.proofs.ReadBack.{passed}
+use mathlib.Core.Path.{refl}
 use Rattle.model.specs.declared.Message.TheVariants.{Circulated}
 use Rattle.laws.proofs.Sums.{impossible}
-use Rattle.checks.proofs.Ranges.{circulated_fits}
 use Rattle.calls.proofs.Taking.{refused, served}
 use Rattle.calls.proofs.messages.acknowledge.Goals as goal
-
-pub put_acked-requires : goal.put_acked-requires
-put_acked-requires c = (circulated_fits c.args.words.now c.args.t (passed _ (sym c.in_default.ensures))).range.account
 
 pub returns-in-Err : goal.returns-in-Err
 returns-in-Err c = refused c.args.words.now (Circulated c.args.t) refl _ c.in-Err.ensures

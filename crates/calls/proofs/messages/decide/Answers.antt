@@ -2,12 +2,9 @@
 use mathlib.Core.Path.{refl, sym}
 use Rattle.basics.proofs.ReadBack.{passed}
 use Rattle.model.specs.declared.Message.TheVariants.{Decision}
-use Rattle.checks.proofs.Ranges.{fits, transfer_place}
+use Rattle.checks.proofs.Ranges.{fits}
 use Rattle.calls.proofs.Taking.{refused, served}
 use Rattle.calls.proofs.messages.decide.Goals as goal
-
-pub accept-requires : goal.accept-requires
-accept-requires c = transfer_place c.args.words.now c.args.t c.in-Ok.ensures
 
 pub returns-in-Err : goal.returns-in-Err
 returns-in-Err c = refused c.args.words.now (Decision c.args.t) refl _ c.in-Err.ensures

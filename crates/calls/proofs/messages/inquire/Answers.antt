@@ -7,17 +7,12 @@ use Rattle.model.specs.declared.Reply.TheVariants.{Balance}
 use Rattle.laws.proofs.Sums.{impossible}
 use Rattle.laws.proofs.Access.{with_entry_read}
 use Rattle.layout.specs.Layout.{ledger_in}
-use Rattle.checks.proofs.Ranges.{account_place}
 use Rattle.calls.proofs.Taking.{refused, served}
 use Rattle.calls.proofs.messages.inquire.Goals as goal
 
 pub returns-then-accounts_of-a : goal.returns-then-accounts_of-a
 returns-then-accounts_of-a c =
     refused c.args.words.now (Inquiry c.args.a) refl OutOfRange (rw (← c.accounts_of.ensures, le-leb _ _ c.if-accounts_of-a.true))
-
-pub balance_of-requires : goal.balance_of-requires
-balance_of-requires c =
-    account_place c.args.words.now c.args.a (rw (← c.accounts_of.ensures, lt-leb _ _ c.if-accounts_of-a.false))
 
 pub returns : goal.returns
 returns c =

@@ -12,5 +12,5 @@ returns-then-must_propose c =
       decided = λ next among tally few.
           tally_proposes ws t c.args.tally tally few _ _
           (sym (c.must_propose.ensures.decided t refl next.number tally (rw tally among)) ∙ c.if-must_propose.true)
-          (most_next ws t _ c.requires next.number among c.most_acked-most.ensures) c.put_proposed.ensures;
+          (most_next ws t _ next.number among c.most_acked-most.ensures) c.put_proposed.ensures;
     }

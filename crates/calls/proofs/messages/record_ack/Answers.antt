@@ -46,7 +46,7 @@ module _ (ws : List ℕ) (s : Seat) (t : Transfer) (clear : Ok tt ≡ check_of (
     next = record { number = still_next ws mid s t account in_words fits.0.next; value = fits.0.range.value }
 
     among : 0 < acks_for t (entry_in mid t.account).acks
-    among = recorded ws mid s t account in_words (omega (arith, fits.1, acks_length ws t.account account))
+    among = recorded ws mid s t account in_words (omega (arith, fits.1, acks_length ws t.account))
 
     -- what follows from it in the words is what the message does
     follows : (r : Reply) (after : List ℕ) → Taken (finished (ledger_in mid) t.account (tallied (ledger_in mid) (entry_in mid t.account) t)) r after
@@ -87,9 +87,7 @@ refused_as_it_was : (ws : List ℕ) (s : Seat) (t : Transfer) (r : Refusal) → 
 refused_as_it_was ws s t r found = record { answered = λ in_time. refused ws (Ack s t) in_time r found }
 
 pub put_ack-requires : goal.put_ack-requires
-put_ack-requires c =
-    let fit = fits c.args.words.now c.args.s c.args.t c.in_default.ensures in
-    (fit.0.range.account, fit.1)
+put_ack-requires c = (fits c.args.words.now c.args.s c.args.t c.in_default.ensures).1
 
 pub returns-in-Err : goal.returns-in-Err
 returns-in-Err c = search (rules, refused_as_it_was)

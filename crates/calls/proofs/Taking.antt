@@ -31,7 +31,6 @@ use Rattle.model.specs.Switches.{newest}
 use Rattle.laws.proofs.Refusing.{effect_in, refuses, not_refused, joins_in_lem, newest_step}
 use Rattle.layout.specs.Layout.{ledger_in, entry_in}
 use Rattle.layout.proofs.Blocks.{entries_length}
-use Rattle.layout.proofs.Ranges.{accounts_fit}
 use Rattle.basics.proofs.ReadBack.{passed, failed}
 use Rattle.settling.specs.Results.{Settles}
 use Rattle.tally.specs.declared.Tally.{Tally}
@@ -60,6 +59,10 @@ module _ (ws : List ℕ) (m : Message) (in_time : late_in (ledger_in ws) m ≡ f
   served r after clear x =
       let step_is = sym (newest_step (ledger_in ws) m) ∙ not_refused newest (ledger_in ws) m in_time (passed (first_refusal rules) (sym clear)) in
       answered ws m r after (rw step_is x.reply) (rw step_is x.ledger) (λ code e. absurd (x.not_refused code e))
+
+-- a message that its rules let pass has a place for its account, and an ack for its seat
+pub ack_account : (ws : List ℕ) (s : Seat) (t : Transfer) → Ok tt ≡ check_of (first_refusal (ack_rules (ledger_in ws) (entry_in ws t.account) s t)) → t.account.0 < 32
+ack_account ws s t clear = (ack_fits ws t s (passed _ (sym clear))).0.range.account
 
 -- An entry that is stored is overwritten where a turn is finished.
 finished_again : (l : Ledger) (a : Account) (e : Entry) (x : Effect) → finished (with_entry l a e) a x ≡ finished l a x

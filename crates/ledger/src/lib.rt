@@ -9,14 +9,14 @@ ghost use Rattle.layout.specs.Layout.{ledger_in};
 ghost use Rattle.ledger.specs.Promises.{Answered, OpenedAs, SwitchedAs, ListedAs};
 
 use calls::messages;
-use layout::{BOOK_WORDS, HELD_WORDS};
+use layout::{Book, HeldBook};
 use listing;
-use model::{Account, ListReply, Message, OpenReply, Opening, Reply, Seat, Transfer};
+use model::{Account, Message, Opening, Refusal, Reply, Seat, Transfer};
 use opening::open_page;
 use switching::take_over;
 
 // The opening: the words are the page's ledger, whatever they were; or it is refused, and they are as they were.
-pub fn open(words: &mut [u32; BOOK_WORDS], page: Opening) -> OpenReply
+pub fn open(words: &mut Book, page: Opening) -> Result<(), Refusal>
     ensures { OpenedAs words.old page result words.new }
 {
     open_page(words, page)
@@ -24,14 +24,14 @@ pub fn open(words: &mut [u32; BOOK_WORDS], page: Opening) -> OpenReply
 
 // The switch of a book held from before request 5 of document 02: the words are the ledger that the held
 // one becomes, whatever they were.
-pub fn switch(held: &[u32; HELD_WORDS], words: &mut [u32; BOOK_WORDS])
+pub fn switch(held: &HeldBook, words: &mut Book)
     ensures { SwitchedAs held.now words.new }
 {
     take_over(held, words);
 }
 
 // Any message.
-pub fn call(words: &mut [u32; BOOK_WORDS], m: Message) -> Reply
+pub fn call(words: &mut Book, m: Message) -> Reply
     ensures { Answered words.old m result words.new }
 {
     match m {
@@ -44,35 +44,35 @@ pub fn call(words: &mut [u32; BOOK_WORDS], m: Message) -> Reply
 }
 
 // A home's new transfer: circulate it. The words stay the same.
-pub fn request(words: &[u32; BOOK_WORDS], t: Transfer) -> Reply
+pub fn request(words: &Book, t: Transfer) -> Reply
     ensures { Answered words.now (Request t) result words.now }
 {
     messages::request(words, t)
 }
 
 // A circulated transfer (document 01: slip): this seat acks it.
-pub fn acknowledge(words: &mut [u32; BOOK_WORDS], t: Transfer) -> Reply
+pub fn acknowledge(words: &mut Book, t: Transfer) -> Reply
     ensures { Answered words.old (Circulated t) result words.new }
 {
     messages::acknowledge(words, t)
 }
 
 // A seat's ack of a transfer: it is recorded, and the tally decides; or it brings a late proposal.
-pub fn receive_ack(words: &mut [u32; BOOK_WORDS], s: Seat, t: Transfer) -> Reply
+pub fn receive_ack(words: &mut Book, s: Seat, t: Transfer) -> Reply
     ensures { Answered words.old (Ack s t) result words.new }
 {
     messages::receive_ack(words, s, t)
 }
 
 // The council's decision (document 01: ruling): its transfer is accepted.
-pub fn decide(words: &mut [u32; BOOK_WORDS], t: Transfer) -> Reply
+pub fn decide(words: &mut Book, t: Transfer) -> Reply
     ensures { Answered words.old (Decision t) result words.new }
 {
     messages::decide(words, t)
 }
 
 // A balance question. The words stay the same.
-pub fn inquire(words: &[u32; BOOK_WORDS], a: Account) -> Reply
+pub fn inquire(words: &Book, a: Account) -> Reply
     ensures { Answered words.now (Inquiry a) result words.now }
 {
     messages::inquire(words, a)
@@ -80,7 +80,7 @@ pub fn inquire(words: &[u32; BOOK_WORDS], a: Account) -> Reply
 
 // The waiting list: the accounts at which a transfer waits, lowest first, into the front of the
 // buffer. The words stay the same.
-pub fn list_waiting(words: &[u32; BOOK_WORDS], buffer: &mut [u8]) -> ListReply
+pub fn list_waiting(words: &Book, buffer: &mut [u8]) -> Result<u32, Refusal>
     ensures { ListedAs (ledger_in words.now) buffer.old result buffer.new }
 {
     listing::list_waiting(words, buffer)

@@ -1,5 +1,5 @@
 -- What is saved is loaded, and what is loaded was saved. The statements are in specs/RoundTrips.antt.
-use Rattle.std.specs.Prelude.{Ok}
+use Rattle.std.specs.Prelude.{Ok, Err}
 use Prim.Native.Nat.{ℕ, ◌+◌, ◌*◌, ◌<◌}
 use native.Mathlib.Omega.{arith}
 use mathlib.Core.Path.{◌≡◌, refl, ap, sym, ◌∙◌}
@@ -14,14 +14,13 @@ use Rattle.laws.proofs.Numbers.{number_read, number_written, number_bytes_lem, m
 use Rattle.laws.proofs.Sums.{impossible}
 use Rattle.bundle.proofs.Longest.{no_difference}
 use Rattle.layout.specs.Layout.{book_words}
-use Rattle.saving.specs.declared.LoadReply.{LoadReply}
-use Rattle.saving.specs.declared.LoadReply.TheVariants.{WrongMark, UnknownFormat, WrongLength, WrongSum}
-use Rattle.saving.specs.Saved.{mark, format, words_at, sum_at, saved_size, summed, saved, wrong_mark, unknown_format, wrong_length, wrong_sum, load_reply, words_saved}
+use Rattle.saving.specs.declared.LoadError.TheVariants.{WrongMark, UnknownFormat, WrongLength, WrongSum}
+use Rattle.saving.specs.Saved.{mark, format, words_at, sum_at, saved_size, summed, saved, wrong_mark, unknown_format, wrong_length, wrong_sum, LoadReply, load_reply, words_saved}
 use Rattle.saving.specs.RoundTrips.{SaveThenLoad, SavesBack, LoadThenSave, OtherSum}
 
 -- the answer by its four tests
 abbrev pub reply_by : Bool → Bool → Bool → Bool → LoadReply
-reply_by m f l s = cond m WrongMark (cond f UnknownFormat (cond l WrongLength (cond s WrongSum Loaded)))
+reply_by m f l s = cond m (Err WrongMark) (cond f (Err UnknownFormat) (cond l (Err WrongLength) (cond s (Err WrongSum) (Ok tt))))
 
 pub summed_length : (words : List ℕ) → length words ≡ book_words → length (summed words) ≡ sum_at
 summed_length words size = omega (arith, words_length words)

@@ -1,5 +1,6 @@
 -- The definitions on small inputs: a book whose words are all 0, and each answer of a load
 -- where a later test would hold too.
+use Rattle.std.specs.Prelude.{Err}
 use Prim.Native.Nat.{ℕ, zero, suc, ◌<◌}
 use native.Mathlib.Omega.{arith}
 use mathlib.Core.Path.{◌≡◌, refl}
@@ -7,7 +8,7 @@ use mathlib.Core.List.{[], ◌∷◌, ◌++◌}
 use lib.ListN.{take, drop, get_or, replicate}
 use Rattle.model.specs.Writing.{number_bytes}
 use Rattle.layout.specs.Layout.{book_words}
-use Rattle.saving.specs.declared.LoadReply.TheVariants.{WrongMark, UnknownFormat, WrongLength, WrongSum}
+use Rattle.saving.specs.declared.LoadError.TheVariants.{WrongMark, UnknownFormat, WrongLength, WrongSum}
 use Rattle.saving.specs.Saved.{mark, format, saved, load_reply, words_saved}
 use Rattle.saving.specs.RoundTrips.{BookWords}
 
@@ -21,17 +22,17 @@ pub zeros_book : BookWords (replicate book_words 0)
 zeros_book = record { size = refl; small = small_zeros book_words }
 
 -- "in this order": the bytes of each row have every fault from its own on
-pub in_order : (load_reply (1 ∷ []) ≡ WrongMark)
-    × (load_reply mark ≡ UnknownFormat)
-    × (load_reply (mark ++ number_bytes 4 2) ≡ UnknownFormat)
-    × (load_reply (mark ++ number_bytes 4 format) ≡ WrongLength)
-    × (load_reply (mark ++ number_bytes 4 format ++ replicate 5_525 0) ≡ WrongLength)
-    × (load_reply (mark ++ number_bytes 4 format ++ replicate 5_524 0) ≡ WrongSum)
+pub in_order : (load_reply (1 ∷ []) ≡ Err WrongMark)
+    × (load_reply mark ≡ Err UnknownFormat)
+    × (load_reply (mark ++ number_bytes 4 2) ≡ Err UnknownFormat)
+    × (load_reply (mark ++ number_bytes 4 format) ≡ Err WrongLength)
+    × (load_reply (mark ++ number_bytes 4 format ++ replicate 5_525 0) ≡ Err WrongLength)
+    × (load_reply (mark ++ number_bytes 4 format ++ replicate 5_524 0) ≡ Err WrongSum)
 unfolding load_reply
 in_order = (refl, refl, refl, refl, refl, refl)
 
 -- a byte that is missing is no byte of the mark
-pub no_mark : (load_reply [] ≡ WrongMark) × (load_reply (83 ∷ 65 ∷ 80 ∷ []) ≡ WrongMark)
+pub no_mark : (load_reply [] ≡ Err WrongMark) × (load_reply (83 ∷ 65 ∷ 80 ∷ []) ≡ Err WrongMark)
 unfolding load_reply
 no_mark = (refl, refl)
 

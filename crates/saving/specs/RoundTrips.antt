@@ -1,9 +1,9 @@
 -- What is saved is loaded, and nothing else is.
-use Rattle.std.specs.Prelude.{ℕ, ◌<◌, ◌≡◌, ◌≢◌, List, ◌++◌, length, get_or, Ok}
+use Rattle.std.specs.Prelude.{ℕ, ◌<◌, ◌≡◌, ◌≢◌, List, ◌++◌, length, get_or, Ok, Err}
 use Rattle.model.specs.Bundles.{body_sum}
 use Rattle.model.specs.Writing.{number_bytes, Bytes}
 use Rattle.layout.specs.Layout.{book_words}
-use Rattle.saving.specs.declared.LoadReply.TheVariants.{WrongSum}
+use Rattle.saving.specs.declared.LoadError.TheVariants.{WrongSum}
 use Rattle.saving.specs.Saved.{saved_size, summed, saved, load_reply, words_saved, words_after}
 
 -- the words of a book: so many numbers of 4 bytes
@@ -34,4 +34,4 @@ LoadThenSave = (bytes : List ℕ) → Bytes bytes → load_reply bytes ≡ Ok tt
 abbrev pub OtherSum : Type 0
 OtherSum =
     (words : List ℕ) → BookWords words → (s : ℕ) → s < 4_294_967_296 → s ≢ body_sum (summed words)
-    → load_reply (summed words ++ number_bytes 4 s) ≡ WrongSum
+    → load_reply (summed words ++ number_bytes 4 s) ≡ Err WrongSum

@@ -1,11 +1,11 @@
 -- A book as bytes that its host keeps: "a mark, the number of its format, the words, and document 01's sum over all
 -- bytes before it", little-endian.
-use Rattle.std.specs.Prelude.{ℕ, ◌+◌, ◌*◌, ◌≡◌, Bool, not, cond, List, [], ◌∷◌, ◌++◌, eqb, length, take}
+use Rattle.std.specs.Prelude.{ℕ, ◌+◌, ◌*◌, ◌≡◌, Bool, not, cond, List, [], ◌∷◌, ◌++◌, eqb, length, take, Result, Ok, Err}
 use Rattle.model.specs.Bundles.{number4, words_from, body_sum}
 use Rattle.model.specs.Writing.{number_bytes, word_bytes}
 use Rattle.layout.specs.Layout.{book_words}
-use Rattle.saving.specs.declared.LoadReply.{LoadReply}
-use Rattle.saving.specs.declared.LoadReply.TheVariants.{WrongMark, UnknownFormat, WrongLength, WrongSum}
+use Rattle.saving.specs.declared.LoadError.{LoadError}
+use Rattle.saving.specs.declared.LoadError.TheVariants.{WrongMark, UnknownFormat, WrongLength, WrongSum}
 
 -- the mark: the letters S, A, P, L
 abbrev pub mark : List ℕ
@@ -47,14 +47,18 @@ wrong_length bytes = not (eqb (length bytes) saved_size)
 abbrev pub wrong_sum : List ℕ → Bool
 wrong_sum bytes = not (eqb (number4 bytes sum_at) (body_sum (take sum_at bytes)))
 
+-- What a load is answered: nothing more, or why the bytes are not loaded.
+abbrev pub LoadReply : Type 0
+LoadReply = Result (Unit {0}) LoadError
+
 -- "a wrong mark, an unknown format, a length that is not that format's, a wrong sum, in this
 -- order, each with its own answer"
 unfoldable pub load_reply : List ℕ → LoadReply
 load_reply bytes =
-    cond (wrong_mark bytes) WrongMark
-    (cond (unknown_format bytes) UnknownFormat
-    (cond (wrong_length bytes) WrongLength
-    (cond (wrong_sum bytes) WrongSum Loaded)))
+    cond (wrong_mark bytes) (Err WrongMark)
+    (cond (unknown_format bytes) (Err UnknownFormat)
+    (cond (wrong_length bytes) (Err WrongLength)
+    (cond (wrong_sum bytes) (Err WrongSum) (Ok tt))))
 
 -- the words that the bytes hold
 unfoldable pub words_saved : List ℕ → List ℕ
@@ -62,11 +66,8 @@ words_saved bytes = words_from book_words words_at bytes
 
 -- the words after a load: those that the bytes hold; "a refusal leaves the store as it was"
 abbrev pub words_after : LoadReply → List ℕ → List ℕ → List ℕ
-words_after Loaded bytes before = words_saved bytes
-words_after WrongMark bytes before = before
-words_after UnknownFormat bytes before = before
-words_after WrongLength bytes before = before
-words_after WrongSum bytes before = before
+words_after (Ok done) bytes before = words_saved bytes
+words_after (Err e) bytes before = before
 
 -- A load: the reply, and the words after it.
 pub record LoadedAs (before bytes : List ℕ) (r : LoadReply) (after : List ℕ) : Type 0 where

@@ -4,16 +4,17 @@
 
 #![tactic(auto)]
 
-ghost use Rattle.std.specs.Prelude.{◌≡◌, length};
-ghost use Rattle.layout.specs.Layout.{book_words};
-ghost use Rattle.saving.specs.Saved.{saved_size, saved, load_reply, words_saved, LoadedAs};
+ghost use Rattle.std.specs.Prelude.{◌≡◌};
+ghost use Rattle.saving.specs.Saved.{summed, saved, load_reply, words_saved, LoadedAs};
 
+use basics::output::Output;
 use bundle::sums::body_sum;
-use layout::BOOK_WORDS;
+use layout::{BOOK_WORDS, Book};
 use pages::numbers::number4_at;
-use writer::numbers::{put_number4, put_words};
+use std::array;
+use writer::sinks::{Sink, Sum, put_words};
 
-// The mark: the letters S, A, P, L.
+// The mark: the letters S, A, P, L. As a number, since no call may make a constant.
 const MARK: u32 = 1_280_328_019;
 // The number of the format. A request that changes the layout of the words counts it up.
 const FORMAT: u32 = 1;
@@ -22,80 +23,72 @@ const FORMAT_AT: u32 = 4;
 
 const WORDS_AT: u32 = 8;
 
-const SUM_AT: usize = (WORDS_AT as usize) + 4 * BOOK_WORDS;
+const SUM_AT: usize = WORDS_AT as usize + 4 * BOOK_WORDS;
 
 pub const SAVED_SIZE: usize = SUM_AT + 4;
 
-// What a load replies.
+// Why bytes are not loaded.
 #[derive(Clone, Copy)]
-pub enum LoadReply {
-    Loaded,
+pub enum LoadError {
     WrongMark,
     UnknownFormat,
     WrongLength,
     WrongSum,
 }
 
-// All of it, and at its end the sum of what stands before.
-fn put_saved(words: &[u32], out: &mut [u8])
-    requires words_len { length words.now ≡ book_words }
-    requires out_len { length out.old ≡ saved_size }
-    ensures { out.new ≡ saved words.now }
+// All before the sum: mark, format and words.
+fn put_summed<S: Sink>(to: &mut S, words: &Book)
+    ensures { S.takes to.old (summed words.now) to.new }
 {
-    let format_at = put_number4(out, 0, MARK);
-    let words_at = put_number4(out, format_at, FORMAT);
-    let sum_at = put_words(out, words_at, words);
-    let sum = body_sum(&out[0..sum_at]);
-    put_number4(out, sum_at, sum);
+    to.put_all(&MARK.to_le_bytes());
+    to.put_all(&FORMAT.to_le_bytes());
+    put_words(to, words);
 }
 
 // Saves a book: the buffer is the saved form, whatever it was.
-pub fn save(words: &[u32; BOOK_WORDS], out: &mut [u8; SAVED_SIZE])
+pub fn save(words: &Book, out: &mut [u8; SAVED_SIZE])
     ensures { out.new ≡ saved words.now }
 {
-    put_saved(words, out);
+    let mut sum = Sum(0);
+    put_summed(&mut sum, words);
+    let mut output = Output::new(out);
+    put_summed(&mut output, words);
+    output.put_all(&sum.0.to_le_bytes());
 }
 
 // Whether the bytes are a saved book: mark, format, length and sum are tried in this order.
-fn check(bytes: &[u8]) -> LoadReply
+#[tactic(auto, using(std::proofs::Common::tests), unfolding(crate::specs::Saved::load_reply))]
+fn check(bytes: &[u8]) -> Result<(), LoadError>
     ensures { result ≡ load_reply bytes.now }
 {
     if number4_at(bytes, 0) != MARK {
-        return LoadReply::WrongMark;
+        return Err(LoadError::WrongMark);
     }
     if number4_at(bytes, FORMAT_AT) != FORMAT {
-        return LoadReply::UnknownFormat;
+        return Err(LoadError::UnknownFormat);
     }
     if bytes.len() != SAVED_SIZE {
-        return LoadReply::WrongLength;
+        return Err(LoadError::WrongLength);
     }
-    let end = SUM_AT;
-    if number4_at(bytes, SUM_AT as u32) != body_sum(&bytes[0..end]) {
-        return LoadReply::WrongSum;
+    if number4_at(bytes, SUM_AT as u32) != body_sum(&bytes[0..SUM_AT]) {
+        return Err(LoadError::WrongSum);
     }
-    LoadReply::Loaded
+    Ok(())
 }
 
 // The words of a saved book.
-fn take_words(bytes: &[u8], words: &mut [u32])
-    requires { length words.old ≡ book_words }
-    ensures { words.new ≡ words_saved bytes.now }
+fn words_in(bytes: &[u8]) -> Book
+    ensures { result ≡ words_saved bytes.now }
 {
-    let mut i: u32 = 0;
-    while i < (BOOK_WORDS as u32) {
-        words[i as usize] = number4_at(bytes, WORDS_AT + 4 * i);
-        i += 1;
-    }
+    array::from_fn(|i| number4_at(bytes, WORDS_AT + 4 * i as u32))
 }
 
 // Loads a saved book: the words are those that were saved, whatever they were; or it is
 // refused, and they are as they were.
-pub fn load(words: &mut [u32; BOOK_WORDS], bytes: &[u8]) -> LoadReply
+pub fn load(words: &mut Book, bytes: &[u8]) -> Result<(), LoadError>
     ensures { LoadedAs words.old bytes.now result words.new }
 {
-    let reply = check(bytes);
-    if let LoadReply::Loaded = reply {
-        take_words(bytes, words);
-    }
-    reply
+    check(bytes)?;
+    *words = words_in(bytes);
+    Ok(())
 }

@@ -1,26 +1,23 @@
 -- That keys tell pairs: the heads of two acks are equal exactly if seat, account and number are, and then their tails
 -- exactly if the slips are.
-use Prim.Native.Nat.{ℕ, ◌+◌, ◌*◌, ◌≤◌, ◌<◌}
-use native.Mathlib.Decide.{ℕ_discrete}
+use Prim.Native.Nat.{ℕ, ◌+◌, ◌*◌, ◌<◌}
 use native.Mathlib.Omega.{arith}
-use mathlib.Core.Path.{◌≡◌, refl, ap, sym, ◌∙◌}
-use mathlib.Core.Bool.{Bool, true, false, cond, not, ◌&&◌}
+use mathlib.Core.Path.{◌≡◌, refl, ap, sym}
+use mathlib.Core.Bool.{Bool, true, false, not, ◌&&◌}
 use mathlib.Core.List.{List}
 use lib.Dec.{ltb, eqb}
-use lib.ListN.{length, get_or, drop, set, length-set}
-use lib.Seq.{get_or-set_same, get_or-set_other}
+use lib.ListN.{drop}
 use borrow.Author.Tests.{ltb-true, eqb-true, eqb-false, not-true, eq-eqb, ne_eqb}
 use Rattle.model.specs.declared.Account.{Account}
 use Rattle.model.specs.declared.Transfer.{Transfer}
-use Rattle.model.specs.declared.ContentsEntry.{ContentsEntry}
-use Rattle.model.specs.Bundles.{entry_count, body_length, contents_at, Page, page_of, page_at, transfer_of}
+use Rattle.model.specs.Bundles.{body_length, contents_at, Page, page_at}
 use Rattle.model.specs.Writing.{Bytes}
 use Rattle.model.specs.Joins.{is_ack, slip_on, conflicting_acks}
 use Rattle.laws.proofs.Sums.{same_test, both}
 use Rattle.laws.proofs.Access.{same_account_lem}
 use Rattle.laws.proofs.Joins.{acks_sound, acks_complete}
 use Rattle.laws.proofs.Numbers.{number_small, taken_bytes, dropped_bytes}
-use Rattle.pairs.specs.Keys.{head_of, tail_of, no_head, page_head, page_tail, Keys}
+use Rattle.pairs.specs.Keys.{head_of, tail_of, no_head, page_head, page_tail}
 
 -- the numbers of a page that is read from bytes are small
 pub record Small (p : Page) : Type 0 where
@@ -102,55 +99,3 @@ module _ (n : ℕ) (p q : Page) (small : Small p) (too : Small q) (ack : is_ack 
 
   pub tells : told ≡ conflicting_acks n p q
   tells = same_test told (conflicting_acks n p q) told_pair pair_told
-
--- the slip of an entry's page, as it is read
-pub slip_read : (bytes body : List ℕ) (i : ℕ) (c : ContentsEntry) (t : Transfer) → c ≡ contents_at bytes i → body ≡ (page_of bytes c).body → t ≡ transfer_of body
-    → t ≡ slip_on (page_at bytes i)
-slip_read bytes body i c t entry shown read = read ∙ (ap transfer_of shown ∙ ap (λ (e : ContentsEntry). transfer_of (page_of bytes e).body) entry)
-
--- and its head
-pub head_read : (bytes : List ℕ) (i : ℕ) (c : ContentsEntry) (t : Transfer) (x : ℕ) → c ≡ contents_at bytes i → t ≡ slip_on (page_at bytes i)
-    → x ≡ cond (eqb c.kind 3) (head_of c.seat t) no_head → x ≡ page_head (page_at bytes i)
-head_read bytes i c t x entry slip is =
-    is
-    ∙ (ap (λ (e : ContentsEntry). cond (eqb e.kind 3) (head_of e.seat t) no_head) entry
-    ∙ ap (λ (u : Transfer). cond (is_ack (page_at bytes i)) (head_of (page_at bytes i).seat u) no_head) slip)
-
--- What a loop knows that has stored the keys of the entries before j.
-pub record Keying (bytes keys : List ℕ) (j : ℕ) : Type 0 where
-  pub size : length keys ≡ 2_000
-  pub heads : (k : ℕ) → k < j → get_or keys k 0 ≡ page_head (page_at bytes k)
-  pub tails : (k : ℕ) → k < j → get_or keys (1_000 + k) 0 ≡ page_tail (page_at bytes k)
-
-module _ {bytes keys : List ℕ} where
-  pub keying_none : length keys ≡ 2_000 → Keying bytes keys 0
-  keying_none h = record { size = h; heads = λ k below. absurd (omega arith); tails = λ k below. absurd (omega arith) }
-
-  module _ {j x y : ℕ} (s : Keying bytes keys j) (h : j < 1_000) (head : x ≡ page_head (page_at bytes j)) (tail : y ≡ page_tail (page_at bytes j)) where
-    heads_more : (k : ℕ) → k < j + 1 → Dec (k ≡ j) → get_or (set (set keys j x) (1_000 + j) y) k 0 ≡ page_head (page_at bytes k)
-    heads_more k below (yes same) =
-        get_or-set_other (set keys j x) (1_000 + j) k y 0 (λ e. omega arith)
-        ∙ (ap (λ (i : ℕ). get_or (set keys j x) i 0) same ∙ (get_or-set_same keys j x 0 (omega (arith, s.size)) ∙ (head ∙ ap (λ (i : ℕ). page_head (page_at bytes i)) (sym same))))
-    heads_more k below (no other) =
-        get_or-set_other (set keys j x) (1_000 + j) k y 0 (λ e. omega arith)
-        ∙ (get_or-set_other keys j k x 0 other ∙ s.heads k (omega arith))
-
-    tails_more : (k : ℕ) → k < j + 1 → Dec (k ≡ j) → get_or (set (set keys j x) (1_000 + j) y) (1_000 + k) 0 ≡ page_tail (page_at bytes k)
-    tails_more k below (yes same) =
-        ap (λ (i : ℕ). get_or (set (set keys j x) (1_000 + j) y) (1_000 + i) 0) same
-        ∙ (get_or-set_same (set keys j x) (1_000 + j) y 0 (rw (length-set keys j x, s.size) (omega arith)) ∙ (tail ∙ ap (λ (i : ℕ). page_tail (page_at bytes i)) (sym same)))
-    tails_more k below (no other) =
-        get_or-set_other (set keys j x) (1_000 + j) (1_000 + k) y 0 (λ e. other (omega arith))
-        ∙ (get_or-set_other keys j (1_000 + k) x 0 (λ e. omega arith) ∙ s.tails k (omega arith))
-
-    pub keying_more : Keying bytes (set (set keys j x) (1_000 + j) y) (j + 1)
-    keying_more =
-        record {
-          size = rw (length-set (set keys j x) (1_000 + j) y, length-set keys j x) s.size;
-          heads = λ k below. heads_more k below (ℕ_discrete k j);
-          tails = λ k below. tails_more k below (ℕ_discrete k j);
-        }
-
-  pub keying_all : {j : ℕ} → Keying bytes keys j → entry_count bytes ≤ j → entry_count bytes ≤ 1_000 → Keys bytes keys
-  keying_all s all few =
-      record { size = s.size; few = few; heads = λ k below. s.heads k (omega arith); tails = λ k below. s.tails k (omega arith) }

@@ -1,249 +1,213 @@
 -- How the links are made, from the last entry to the first, and what a walk along them passes over.
-use Prim.Native.Nat.{ℕ, zero, suc, ◌+◌, ◌-◌, ◌≤◌, ◌<◌}
-use native.Mathlib.Nat.{add-zero, mod-lt}
-use native.Mathlib.Numerals.{add-one}
+use Rattle.std.proofs.Common.{◌≡◌, ℕ, zero, suc, ◌+◌, ◌-◌, ◌≤◌, ◌<◌, Bool, true, false, not, ◌&&◌, List, length, get_or, set, length-set, replicate, Option, Some, None, IfSome, cond, eqb, refl, ap, sym, ◌∙◌, arith, eq-eqb, ne_eqb, get_or-set_same, get_or-set_other}
+use Rattle.std.proofs.lemmas.List.{get_or-replicate}
+use native.Mathlib.Nat.{add-zero, sub-zero, mod-lt}
 use native.Mathlib.Decide.{ℕ_discrete, dec_lt}
-use native.Mathlib.Omega.{arith}
-use mathlib.Core.Path.{◌≡◌, refl, ap, sym, ◌∙◌}
-use mathlib.Core.Logic.{◌⊎◌, inl, inr}
-use mathlib.Core.Bool.{Bool, true, false, cond, not, ◌&&◌, and-false}
-use mathlib.Core.List.{List}
-use lib.Dec.{ltb, eqb, lit<}
-use lib.ListN.{get_or, set, length-set, replicate, get_or-replicate}
-use lib.Seq.{get_or-set_same, get_or-set_other}
-use borrow.Author.Tests.{ltb-true, ltb-false, eqb-true, eqb-false, eq-eqb, ne_eqb}
-use Rattle.laws.proofs.Sums.{impossible, both}
-use Rattle.basics.proofs.Counting.{Searched, searched_more}
-use Rattle.pairs.specs.Keys.{meets}
-use Rattle.pairs.specs.Links.{bucket_of, in_bucket, same_keys, follows, follower_of, LowestFrom, Links}
+use mathlib.Core.Bool.{and-false}
+use lib.Dec.{lit<}
+use borrow.Author.Tests.{eqb-true, eqb-false}
+use Rattle.model.specs.Basics.{first_where}
+use Rattle.laws.proofs.Sums.{impossible, both, Found, first_found, first_none}
+use Rattle.pairs.specs.declared.keys.Key.{Key}
+use Rattle.pairs.specs.Keys.{key_at, meets}
+use Rattle.pairs.specs.Links.{bucket_of, in_bucket, same_key, follows, follower_of, lowest_from, Linked}
 
--- what two entries with the same keys have
-keys_same : (keys : List ℕ) (j k : ℕ) → same_keys keys j k ≡ true
-    → (get_or keys j 0 ≡ get_or keys k 0) × (get_or keys (1_000 + j) 0 ≡ get_or keys (1_000 + k) 0)
-keys_same keys j k e =
-    let parts = both (eqb (get_or keys j 0) (get_or keys k 0)) (eqb (get_or keys (1_000 + j) 0) (get_or keys (1_000 + k) 0)) e in
-    (eqb-true (get_or keys j 0) (get_or keys k 0) parts.0, eqb-true (get_or keys (1_000 + j) 0) (get_or keys (1_000 + k) 0) parts.1)
+module _ (p : ℕ → Bool) (m : ℕ) where
+  -- the lowest from a place on is the one there, if it passes, and else the lowest from the next place on
+  one_on : (i : ℕ) → i < m → lowest_from p i m ≡ cond (p i) (Some i) (lowest_from p (suc i) m)
+  one_on i below = let one : m - i ≡ suc (m - suc i) = omega arith in ap (λ (left : ℕ). first_where p left i) one
 
-module _ {p : ℕ → Bool} {m : ℕ} where
-  -- the lowest from a place on that passes, one place lower: this one if it passes, and else that
-  lowest_here : {j : ℕ} → p j ≡ true → j < m → LowestFrom p j m j
-  lowest_here passes below = record { is = inr (omega arith, below, passes); before = λ k from to inside. absurd (omega arith) }
+  -- from the end on there is none
+  past_end : (i : ℕ) → m ≤ i → lowest_from p i m ≡ None
+  past_end i over = let none_left : m - i ≡ 0 = omega arith in ap (λ (left : ℕ). first_where p left i) none_left
 
-  lowest_back : {j x : ℕ} → p j ≡ false → LowestFrom p (suc j) m x → LowestFrom p j m x
-  lowest_back {j} {x} fails l = record { is = go l.is; before = λ k from to inside. one k from to inside (ℕ_discrete k j) }
+  pub from_start : lowest_from p 0 m ≡ first_where p m 0
+  from_start = ap (λ (left : ℕ). first_where p left 0) (sub-zero m)
+
+  -- numbers that do not pass are passed over
+  passed_over : (i x : ℕ) → i ≤ x → ((k : ℕ) → i ≤ k → k < x → k < m → p k ≡ false) → lowest_from p i m ≡ lowest_from p x m
+  passed_over i x up fail = let way : x ≡ i + (x - i) = omega arith in rw way (go (x - i) (λ k from to inside. fail k from (omega arith) inside))
     where
-      go : (x ≡ 1_000) ⊎ ((suc j ≤ x) × (x < m) × (p x ≡ true)) → (x ≡ 1_000) ⊎ ((j ≤ x) × (x < m) × (p x ≡ true))
-      go (inl e) = inl e
-      go (inr (a, b, c)) = inr (omega arith, b, c)
+      go : (d : ℕ) → ((k : ℕ) → i ≤ k → k < i + d → k < m → p k ≡ false) → lowest_from p i m ≡ lowest_from p (i + d) m
+      go zero fail = rw (add-zero i)
+      go (suc d) fail = go d (λ k from to inside. fail k from (omega arith) inside) ∙ one (dec_lt (i + d) m)
+        where
+          same : i + suc d ≡ suc (i + d)
+          same = omega arith
 
-      one : (k : ℕ) → j ≤ k → k < x → k < m → Dec (k ≡ j) → p k ≡ false
-      one k from to inside (yes same) = rw same fails
-      one k from to inside (no other) = l.before k (omega arith) to inside
+          one : Dec (i + d < m) → lowest_from p (i + d) m ≡ lowest_from p (i + suc d) m
+          one (yes below) = one_on (i + d) below ∙ rw (fail (i + d) (omega arith) (omega arith) below, same) refl
+          one (no over) = past_end (i + d) (omega arith) ∙ sym (past_end (i + suc d) (omega arith))
 
-module _ (keys links : List ℕ) (m j next : ℕ) (few : m ≤ 1_000) (l : LowestFrom (in_bucket keys (bucket_of (get_or keys j 0))) (suc j) m next) where
+  -- what passes is the lowest if nothing before it does,
+  pub lowest_is : (i x : ℕ) → i ≤ x → x < m → p x ≡ true → ((k : ℕ) → i ≤ k → k < x → p k ≡ false) → lowest_from p i m ≡ Some x
+  lowest_is i x up below passes fail = passed_over i x up (λ k from to inside. fail k from to) ∙ (one_on x below ∙ rw passes refl)
+
+  -- and there is none if nothing does
+  pub no_lowest : (i : ℕ) → i ≤ m → ((k : ℕ) → i ≤ k → k < m → p k ≡ false) → lowest_from p i m ≡ None
+  no_lowest i up fail = passed_over i m up (λ k from to inside. fail k from inside) ∙ past_end m (omega arith)
+
+-- an entry's number is small
+pub lowest_small : (p : ℕ → Bool) (m i : ℕ) → m ≤ 1_000 → (x : Option ℕ) → x ≡ lowest_from p i m → IfSome x (λ k. k < 1_000)
+lowest_small p m i few None e = tt
+lowest_small p m i few (Some x) e = let found = first_found p (m - i) i x (sym e) in omega (arith, found.above, found.below)
+
+-- two keys that are the same
+same_key_lem : (a b : Key) → same_key a b ≡ true → a ≡ b
+same_key_lem a b e =
+    let parts = both (eqb a.head b.head) (eqb a.tail b.tail) e in
+    let heads : a.head ≡ b.head = eqb-true a.head b.head parts.0 in
+    let tails : a.tail ≡ b.tail = eqb-true a.tail b.tail parts.1 in
+    λ i. record { head = heads i; tail = tails i }
+
+-- what follows entry j, given what follows the entries behind it
+module _ (keys : List Key) (followers : List (Option ℕ)) (m j : ℕ) (here : j < m)
+    (nexts : (k : ℕ) → suc j ≤ k → k < m → get_or followers k None ≡ lowest_from (follows keys k) (suc k) m) where
+  abbrev beside : ℕ → Bool
+  beside = in_bucket keys (bucket_of (key_at keys j).head)
+
   -- what is not in the bucket does not follow
-  not_there : (k : ℕ) → suc j ≤ k → k < next → k < m → follows keys j k ≡ false
-  not_there k from to inside = rw (l.before k from to inside) refl
+  elsewhere : (k : ℕ) → beside k ≡ false → follows keys j k ≡ false
+  elsewhere k out = rw out refl
 
-  -- the next of the bucket follows, unless it has the same keys
-  follows_next : (next < 1_000 → same_keys keys j next ≡ false) → LowestFrom (follows keys j) (suc j) m next
-  follows_next other = record { is = go l.is; before = not_there }
+  -- the next of the bucket follows, unless it has the same key; where it has, what follows it does
+  followed_by : (next : ℕ) → Found beside (m - suc j) (suc j) next → (b : Bool) → same_key (key_at keys j) (key_at keys next) ≡ b
+      → cond b (get_or followers next None) (Some next) ≡ lowest_from (follows keys j) (suc j) m
+  followed_by next l false other =
+      sym (lowest_is (follows keys j) m (suc j) next l.above (omega (arith, l.above, l.below)) (rw (l.passes, other) refl) (λ k from to. elsewhere k (l.lowest k from to)))
+  followed_by next l true same =
+      let alike : key_at keys next ≡ key_at keys j = sym (same_key_lem (key_at keys j) (key_at keys next) same) in
+      nexts next l.above (omega (arith, l.above, l.below))
+      ∙ ap (λ (key : Key). lowest_from (λ k. eqb (bucket_of (key_at keys k).head) (bucket_of key.head) && not (same_key key (key_at keys k))) (suc next) m) alike
+      ∙ sym (passed_over (follows keys j) m (suc j) (suc next) (omega (arith, l.above)) (λ k from to inside. one k from to (ℕ_discrete k next)))
     where
-      go : (next ≡ 1_000) ⊎ ((suc j ≤ next) × (next < m) × (in_bucket keys (bucket_of (get_or keys j 0)) next ≡ true))
-          → (next ≡ 1_000) ⊎ ((suc j ≤ next) × (next < m) × (follows keys j next ≡ true))
-      go (inl e) = inl e
-      go (inr (a, b, c)) = inr (a, b, rw (c, other (omega arith)) refl)
+      one : (k : ℕ) → suc j ≤ k → k < suc next → Dec (k ≡ next) → follows keys j k ≡ false
+      one k from to (yes at) = rw (at, same) (and-false (beside next))
+      one k from to (no other) = elsewhere k (l.lowest k from (omega arith))
 
-  -- where it has, what follows it does
-  module _ (within : next < 1_000) (same : same_keys keys j next ≡ true) where
-    alike : (k : ℕ) → follows keys j k ≡ follows keys next k
-    alike k = let both_keys = keys_same keys j next same in rw (both_keys.0, both_keys.1) refl
+  followed : (next : Option ℕ) → next ≡ lowest_from beside (suc j) m → follower_of keys followers j next ≡ lowest_from (follows keys j) (suc j) m
+  followed None e =
+      sym (no_lowest (follows keys j) m (suc j) here (λ k from inside. elsewhere k (first_none beside (m - suc j) (suc j) (sym e) k from (omega arith))))
+  followed (Some next) e = followed_by next (first_found beside (m - suc j) (suc j) next (sym e)) (same_key (key_at keys j) (key_at keys next)) refl
 
-    below_m : (suc j ≤ next) × (next < m)
-    below_m = go l.is
-      where
-        go : (next ≡ 1_000) ⊎ ((suc j ≤ next) × (next < m) × (in_bucket keys (bucket_of (get_or keys j 0)) next ≡ true)) → (suc j ≤ next) × (next < m)
-        go (inl e) = absurd (omega arith)
-        go (inr (a, b, c)) = (a, b)
-
-    follows_behind : {x : ℕ} → LowestFrom (follows keys next) (suc next) m x → LowestFrom (follows keys j) (suc j) m x
-    follows_behind {x} n = record { is = go n.is; before = λ k from to inside. one k from to inside (dec_lt k next) (ℕ_discrete k next) }
-      where
-        go : (x ≡ 1_000) ⊎ ((suc next ≤ x) × (x < m) × (follows keys next x ≡ true)) → (x ≡ 1_000) ⊎ ((suc j ≤ x) × (x < m) × (follows keys j x ≡ true))
-        go (inl e) = inl e
-        go (inr (a, b, c)) = inr (omega (arith, below_m.0), b, alike x ∙ c)
-
-        one : (k : ℕ) → suc j ≤ k → k < x → k < m → Dec (k < next) → Dec (k ≡ next) → follows keys j k ≡ false
-        one k from to inside (yes lower) at = not_there k from lower inside
-        one k from to inside (no higher) (yes at) = rw (at, same) (and-false (in_bucket keys (bucket_of (get_or keys j 0)) next))
-        one k from to inside (no higher) (no other) = alike k ∙ n.before k (omega arith) to inside
-
-  pub followed : ((k : ℕ) → suc j ≤ k → k < m → LowestFrom (follows keys k) (suc k) m (get_or links (1_021 + k) 0))
-      → LowestFrom (follows keys j) (suc j) m (follower_of keys links j next)
-  followed nexts = go (ltb next 1_000) (same_keys keys j next) refl refl
-    where
-      go : (a b : Bool) → ltb next 1_000 ≡ a → same_keys keys j next ≡ b
-          → LowestFrom (follows keys j) (suc j) m (cond (a && b) (get_or links (1_021 + next) 0) next)
-      go false b over keyed = follows_next (λ below. absurd (omega (arith, ltb-false next 1_000 over)))
-      go true false under keyed = follows_next (λ below. keyed)
-      go true true under keyed =
-          let within = ltb-true next 1_000 under in
-          let inside = below_m within keyed in
-          follows_behind within keyed (nexts next inside.0 inside.1)
-
--- no link is above 1,000
-pub few_links : {p : ℕ → Bool} {from m x : ℕ} → m ≤ 1_000 → LowestFrom p from m x → x ≤ 1_000
-few_links {p} {from} {m} {x} few l = go l.is
-  where
-    go : (x ≡ 1_000) ⊎ ((from ≤ x) × (x < m) × (p x ≡ true)) → x ≤ 1_000
-    go (inl e) = omega arith
-    go (inr (a, b, c)) = omega arith
-
-module _ (keys : List ℕ) (m : ℕ) (few : m ≤ 1_000) where
-  -- of no entry
-  pub linking_none : Links keys m m (replicate 2_021 1_000)
-  linking_none =
+module _ (keys : List Key) (m : ℕ) where
+  -- the links of no entry, and of one more
+  pub linked_none : (followers : List (Option ℕ)) → length followers ≡ 1_000 → Linked keys m m (replicate 1_021 None) followers
+  linked_none followers count =
       record {
-        size = refl;
-        starts = λ b below. record { is = inl (get_or-replicate 2_021 b 1_000 0 (omega arith)); before = λ k from to inside. absurd (omega arith) };
+        bucket_count = refl;
+        follower_count = count;
+        starts = λ b below. get_or-replicate 1_021 b None None below ∙ sym (past_end (in_bucket keys b) m m (omega arith));
         nexts = λ j from below. absurd (omega arith);
       }
 
-  -- of one more
-  module _ (links : List ℕ) (j : ℕ) (s : Links keys m (suc j) links) (here : j < m) where
+  module _ (few : m ≤ 1_000) (buckets followers : List (Option ℕ)) (j : ℕ) (s : Linked keys m (suc j) buckets followers) (here : j < m) where
     abbrev b : ℕ
-    b = bucket_of (get_or keys j 0)
+    b = bucket_of (key_at keys j).head
 
-    abbrev next : ℕ
-    next = get_or links (bucket_of (get_or keys j 0)) 0
+    abbrev after : Option ℕ
+    after = follower_of keys followers j (get_or buckets b None)
 
-    abbrev after : List ℕ
-    after = set (set links (1_021 + j) (follower_of keys links j next)) b j
+    low : bucket_of (key_at keys j).head < 1_021
+    low = mod-lt (key_at keys j).head (lit< tt)
 
-    low : bucket_of (get_or keys j 0) < 1_021
-    low = mod-lt (get_or keys j 0) (lit< tt)
-
-    pub next_few : next ≤ 1_000
-    next_few = few_links few (s.starts b low)
-
-    starts_more : (c : ℕ) → c < 1_021 → Dec (c ≡ b) → LowestFrom (in_bucket keys c) j m (get_or after c 0)
+    starts_more : (c : ℕ) → c < 1_021 → Dec (c ≡ b) → get_or (set buckets b (Some j)) c None ≡ lowest_from (in_bucket keys c) j m
     starts_more c below (yes same) =
-        rw (same, get_or-set_same (set links (1_021 + j) (follower_of keys links j next)) b j 0 (rw (length-set links (1_021 + j) (follower_of keys links j next), s.size) (omega (arith, low))))
-        (lowest_here (eq-eqb (bucket_of (get_or keys j 0)) b refl) here)
+        rw (same, get_or-set_same buckets b (Some j) None (omega (arith, low, s.bucket_count)))
+        (sym (lowest_is (in_bucket keys b) m j j (omega arith) here (eq-eqb b b refl) (λ k from to. absurd (omega arith))))
     starts_more c below (no other) =
-        rw (
-          get_or-set_other (set links (1_021 + j) (follower_of keys links j next)) b c j 0 other,
-          get_or-set_other links (1_021 + j) c (follower_of keys links j next) 0 (λ e. omega arith),
-        )
-        (lowest_back (ne_eqb (bucket_of (get_or keys j 0)) c (λ e. other (sym e))) (s.starts c below))
+        get_or-set_other buckets b c (Some j) None other
+        ∙ (s.starts c below ∙ sym (one_on (in_bucket keys c) m j here ∙ rw (ne_eqb b c (λ e. other (sym e))) refl))
 
-    nexts_more : (i : ℕ) → j ≤ i → i < m → Dec (i ≡ j) → LowestFrom (follows keys i) (suc i) m (get_or after (1_021 + i) 0)
+    nexts_more : (i : ℕ) → j ≤ i → i < m → Dec (i ≡ j) → get_or (set followers j after) i None ≡ lowest_from (follows keys i) (suc i) m
     nexts_more i from below (yes same) =
-        rw (
-          same,
-          get_or-set_other (set links (1_021 + j) (follower_of keys links j next)) b (1_021 + j) j 0 (λ e. omega (arith, low)),
-          get_or-set_same links (1_021 + j) (follower_of keys links j next) 0 (omega (arith, s.size)),
-        )
-        (followed keys links m j next few (s.starts b low) s.nexts)
-    nexts_more i from below (no other) =
-        rw (
-          get_or-set_other (set links (1_021 + j) (follower_of keys links j next)) b (1_021 + i) j 0 (λ e. omega (arith, low)),
-          get_or-set_other links (1_021 + j) (1_021 + i) (follower_of keys links j next) 0 (λ e. other (omega arith)),
-        )
-        (s.nexts i (omega arith) below)
+        rw (same, get_or-set_same followers j after None (omega (arith, s.follower_count)))
+        (followed keys followers m j here s.nexts (get_or buckets b None) (s.starts b low))
+    nexts_more i from below (no other) = get_or-set_other followers j i after None other ∙ s.nexts i (omega arith) below
 
-    pub linking_more : Links keys m j (set (set links (1_021 + j) (follower_of keys links j next)) b j)
-    linking_more =
+    pub linked_more : Linked keys m j (set buckets b (Some j)) (set followers j after)
+    linked_more =
         record {
-          size = rw (length-set (set links (1_021 + j) (follower_of keys links j next)) b j, length-set links (1_021 + j) (follower_of keys links j next)) s.size;
+          bucket_count = length-set buckets b (Some j) ∙ s.bucket_count;
+          follower_count = length-set followers j after ∙ s.follower_count;
           starts = λ c below. starts_more c below (ℕ_discrete c b);
           nexts = λ i from below. nexts_more i from below (ℕ_discrete i j);
         }
 
--- a search that passes over numbers of which none passes the test
-module _ {p : ℕ → Bool} {m : ℕ} where
-  skip : (d i : ℕ) → Searched p m i → ((k : ℕ) → i ≤ k → k < i + d → k < m → p k ≡ false) → Searched p m (i + d)
-  skip zero i s none_there = rw (add-zero i) s
-  skip (suc d) i s none_there = go (dec_lt (i + d) m) (skip d i s (λ k from to inside. none_there k from (omega arith) inside))
-    where
-      same : i + suc d ≡ i + d + 1
-      same = omega arith
+-- A walk along the links of a key's bucket has come to an entry of the bucket, or to its end: nothing before it was
+-- missed.
+abbrev pub Walks : List Key → ℕ → Key → Option ℕ → Type 0
+Walks keys m key None = first_where (meets keys key) m 0 ≡ None
+Walks keys m key (Some j) =
+    (j < m) × (in_bucket keys (bucket_of key.head) j ≡ true) × (lowest_from (meets keys key) j m ≡ first_where (meets keys key) m 0)
 
-      go : Dec (i + d < m) → Searched p m (i + d) → Searched p m (i + suc d)
-      go (yes below) so_far = rw same (searched_more so_far refl below (none_there (i + d) (omega arith) (omega arith) below))
-      go (no over) so_far =
-          let none_left : m - (i + d) ≡ 0 = omega arith in
-          let none_then : m - (i + suc d) ≡ 0 = omega arith in
-          record { rest = rw none_then (rw none_left at so_far.rest) }
+-- how many entries are left to it at most
+abbrev pub left_at : ℕ → Option ℕ → ℕ
+left_at m None = 0
+left_at m (Some j) = suc (m - j)
 
-  pub searched_to : (i x : ℕ) → i ≤ x → Searched p m i → ((k : ℕ) → i ≤ k → k < x → k < m → p k ≡ false) → Searched p m x
-  searched_to i x up s none_there =
-      let way : i + (x - i) ≡ x = omega arith in
-      rw way at (skip (x - i) i s (λ k from to inside. none_there k from (omega arith) inside))
-
--- A walk along the links of a head's bucket: at entry j nothing before it was missed, and it lies in the bucket, if it
--- is an entry.
-pub record Walks (keys : List ℕ) (m head tail j : ℕ) : Type 0 where
-  pub searched : Searched (meets keys head tail) m j
-  pub there : j < m → bucket_of (get_or keys j 0) ≡ bucket_of head
-
-module _ (keys links : List ℕ) (m head tail : ℕ) (few : m ≤ 1_000) (s : Links keys m 0 links) where
+module _ (keys : List Key) (m : ℕ) (key : Key) where
   -- what lies in another bucket has another head
-  elsewhere : (k : ℕ) → in_bucket keys (bucket_of head) k ≡ false → meets keys head tail k ≡ false
-  elsewhere k other =
-      rw (ne_eqb (get_or keys k 0) head (λ same. eqb-false (bucket_of (get_or keys k 0)) (bucket_of head) other (ap bucket_of same))) refl
+  missed : (k : ℕ) → in_bucket keys (bucket_of key.head) k ≡ false → meets keys key k ≡ false
+  missed k out =
+      rw (ne_eqb (key_at keys k).head key.head (λ same. eqb-false (bucket_of (key_at keys k).head) (bucket_of key.head) out (ap bucket_of same))) refl
 
-  pub low_bucket : bucket_of head < 1_021
-  low_bucket = mod-lt head (lit< tt)
+  -- a walk that has come to the place i goes on to the lowest from there on that passes a test, where what makes a pair
+  -- passes it, and what passes it lies in the bucket
+  goes_to : (p : ℕ → Bool) (i : ℕ) → i ≤ m → ((k : ℕ) → p k ≡ false → meets keys key k ≡ false) → ((k : ℕ) → p k ≡ true → in_bucket keys (bucket_of key.head) k ≡ true)
+      → lowest_from (meets keys key) i m ≡ first_where (meets keys key) m 0 → (x : Option ℕ) → x ≡ lowest_from p i m → Walks keys m key x
+  goes_to p i up fails there so_far None e =
+      sym so_far ∙ no_lowest (meets keys key) m i up (λ k from inside. fails k (first_none p (m - i) i (sym e) k from (omega arith)))
+  goes_to p i up fails there so_far (Some x) e =
+      let l = first_found p (m - i) i x (sym e) in (
+        omega (arith, l.above, l.below),
+        there x l.passes,
+        sym (passed_over (meets keys key) m i x l.above (λ k from to inside. fails k (l.lowest k from to))) ∙ so_far,
+      )
 
-  -- a link leads to an entry of the bucket, if it leads to one
-  leads : {p : ℕ → Bool} {from x : ℕ} → ((k : ℕ) → p k ≡ true → bucket_of (get_or keys k 0) ≡ bucket_of head) → LowestFrom p from m x
-      → x < m → bucket_of (get_or keys x 0) ≡ bucket_of head
-  leads {p} {from} {x} tells l below = go l.is
-    where
-      go : (x ≡ 1_000) ⊎ ((from ≤ x) × (x < m) × (p x ≡ true)) → bucket_of (get_or keys x 0) ≡ bucket_of head
-      go (inl e) = absurd (omega arith)
-      go (inr (a, b, c)) = tells x c
+  module _ (buckets followers : List (Option ℕ)) (s : Linked keys m 0 buckets followers) where
+    pub walk_starts : Walks keys m key (get_or buckets (bucket_of key.head) None)
+    walk_starts =
+        goes_to (in_bucket keys (bucket_of key.head)) 0 (omega arith) missed (λ k h. h) (from_start (meets keys key) m)
+        (get_or buckets (bucket_of key.head) None) (s.starts (bucket_of key.head) (mod-lt key.head (lit< tt)))
 
-  pub walk_starts : Searched (meets keys head tail) m 0 → Walks keys m head tail (get_or links (bucket_of head) 0)
-  walk_starts none_yet =
-      let l = s.starts (bucket_of head) low_bucket in
-      record {
-        searched = searched_to 0 (get_or links (bucket_of head) 0) (omega arith) none_yet (λ k from to inside. elsewhere k (l.before k from to inside));
-        there = leads (λ k h. eqb-true (bucket_of (get_or keys k 0)) (bucket_of head) h) l;
-      }
+    -- and goes on from an entry
+    module _ (at : Option ℕ) (j : ℕ) (is : at ≡ Some j) (so_far : Walks keys m key at) where
+      w : Walks keys m key (Some j)
+      w = rw is at so_far
 
-  module _ {j : ℕ} (w : Walks keys m head tail j) (here : j < m) (missed : meets keys head tail j ≡ false) where
-    abbrev to_next : ℕ
-    to_next = get_or links (1_021 + j) 0
+      same_bucket : bucket_of (key_at keys j).head ≡ bucket_of key.head
+      same_bucket = eqb-true (bucket_of (key_at keys j).head) (bucket_of key.head) w.1
 
-    -- what does not follow makes no pair either
-    passed_over : (k : ℕ) → follows keys j k ≡ false → meets keys head tail k ≡ false
-    passed_over k none_there = go (in_bucket keys (bucket_of (get_or keys j 0)) k) refl (same_keys keys j k) refl
-      where
-        go : (a : Bool) → in_bucket keys (bucket_of (get_or keys j 0)) k ≡ a → (b : Bool) → same_keys keys j k ≡ b → meets keys head tail k ≡ false
-        go false out b keyed = elsewhere k (rw (w.there here) at out)
-        go true inside false keyed = impossible (cc (rw (inside, keyed) at none_there))
-        go true inside true keyed =
-            let both_keys = keys_same keys j k keyed in rw (both_keys.0, both_keys.1) at missed
+      pub walk_nearer : left_at m (get_or followers j None) < left_at m at
+      walk_nearer = rw is (go (get_or followers j None) refl)
+        where
+          go : (x : Option ℕ) → get_or followers j None ≡ x → left_at m x < left_at m (Some j)
+          go None e = omega arith
+          go (Some x) e =
+              let l = first_found (follows keys j) (m - suc j) (suc j) x (sym (s.nexts j (omega arith) w.0) ∙ e) in omega (arith, l.above, l.below)
 
-    pub walk_higher : (j < get_or links (1_021 + j) 0) × (get_or links (1_021 + j) 0 ≤ 1_000)
-    walk_higher = (go (s.nexts j (omega arith) here).is, few_links few (s.nexts j (omega arith) here))
-      where
-        go : (to_next ≡ 1_000) ⊎ ((suc j ≤ to_next) × (to_next < m) × (follows keys j to_next ≡ true)) → j < to_next
-        go (inl e) = omega arith
-        go (inr (a, b, c)) = a
+      -- that makes no pair
+      module _ (no : meets keys key j ≡ false) where
+        -- what does not follow makes none either
+        fails : (k : ℕ) → follows keys j k ≡ false → meets keys key k ≡ false
+        fails k none_there = go (in_bucket keys (bucket_of (key_at keys j).head) k) refl (same_key (key_at keys j) (key_at keys k)) refl
+          where
+            go : (a : Bool) → in_bucket keys (bucket_of (key_at keys j).head) k ≡ a → (b : Bool) → same_key (key_at keys j) (key_at keys k) ≡ b → meets keys key k ≡ false
+            go false out b same = missed k (rw same_bucket at out)
+            go true inside false same = impossible (cc (rw (inside, same) at none_there))
+            go true inside true same =
+                let alike : key_at keys j ≡ key_at keys k = same_key_lem (key_at keys j) (key_at keys k) same in
+                ap (λ (x : Key). eqb x.head key.head && not (eqb x.tail key.tail)) (sym alike) ∙ no
 
-    pub walk_goes : Walks keys m head tail (get_or links (1_021 + j) 0)
-    walk_goes =
-        let l = s.nexts j (omega arith) here in
-        let behind = rw (add-one j) at (searched_more w.searched refl here missed) in
-        record {
-          searched = searched_to (suc j) to_next walk_higher.0 behind (λ k from to inside. passed_over k (l.before k from to inside));
-          there = leads
-              (λ k h.
-              eqb-true (bucket_of (get_or keys k 0)) (bucket_of (get_or keys j 0))
-              (both (in_bucket keys (bucket_of (get_or keys j 0)) k) (not (same_keys keys j k)) h).0
-              ∙ w.there here)
-              l;
-        }
+        pub walk_goes : Walks keys m key (get_or followers j None)
+        walk_goes =
+            goes_to (follows keys j) (suc j) w.0 fails
+            (λ k h. rw same_bucket at (both (in_bucket keys (bucket_of (key_at keys j).head) k) (not (same_key (key_at keys j) (key_at keys k))) h).0)
+            (sym (one_on (meets keys key) m j w.0 ∙ rw no refl) ∙ w.2)
+            (get_or followers j None) (s.nexts j (omega arith) w.0)
+
+  -- it finds an entry that makes one
+  pub walk_found : (at : Option ℕ) (j : ℕ) → at ≡ Some j → Walks keys m key at → meets keys key j ≡ true → first_where (meets keys key) m 0 ≡ Some j
+  walk_found at j is so_far passes =
+      let w = rw is at so_far in sym w.2 ∙ lowest_is (meets keys key) m j j (omega arith) w.0 passes (λ k from to. absurd (omega arith))

@@ -1,9 +1,11 @@
 -- An ack as two numbers, so that a pair is told by comparing these: with equal heads its two acks have one seat,
 -- account and number; with different tails their slips differ.
-use Rattle.std.specs.Prelude.{ℕ, ◌+◌, ◌*◌, ◌<◌, ◌≤◌, ◌≡◌, Bool, cond, not, ◌&&◌, List, eqb, length, get_or, Option, Some, None}
+use Rattle.std.specs.Prelude.{ℕ, ◌+◌, ◌*◌, ◌<◌, ◌≤◌, ◌≡◌, Bool, cond, not, ◌&&◌, List, eqb, get_or}
 use Rattle.model.specs.declared.Transfer.{Transfer}
 use Rattle.model.specs.Bundles.{entry_count, Page, page_at}
+use Rattle.model.specs.Writing.{Bytes}
 use Rattle.model.specs.Joins.{is_ack, slip_on}
+use Rattle.pairs.specs.declared.keys.Key.{Key}
 
 -- the seat (1 byte), account (1) and number (4)
 abbrev pub head_of : ℕ → Transfer → ℕ
@@ -12,6 +14,9 @@ head_of seat t = seat + 256 * (t.account.0 + 256 * t.number)
 -- the value (4) and recipient (1)
 abbrev pub tail_of : Transfer → ℕ
 tail_of t = t.value + 4_294_967_296 * t.recipient.0
+
+abbrev pub key_of : ℕ → Transfer → Key
+key_of seat t = record { head = head_of seat t; tail = tail_of t }
 
 -- 2^48, which is above the head of every ack
 abbrev pub no_head : ℕ
@@ -24,18 +29,19 @@ page_head p = cond (is_ack p) (head_of p.seat (slip_on p)) no_head
 abbrev pub page_tail : Page → ℕ
 page_tail p = tail_of (slip_on p)
 
--- The keys of a bundle: from 0 on the heads of its pages, from 1,000 on the tails.
-pub record Keys (bytes keys : List ℕ) : Type 0 where
-  pub size : length keys ≡ 2_000
+abbrev pub page_key : Page → Key
+page_key p = record { head = page_head p; tail = page_tail p }
+
+-- entry j's key
+abbrev pub key_at : List Key → ℕ → Key
+key_at keys j = get_or keys j (record { head = 0; tail = 0 })
+
+-- The keys of a bundle, which is bytes: each entry has that of its page.
+pub record Keys (bytes : List ℕ) (keys : List Key) : Type 0 where
+  pub small : Bytes bytes
   pub few : entry_count bytes ≤ 1_000
-  pub heads : (j : ℕ) → j < entry_count bytes → get_or keys j 0 ≡ page_head (page_at bytes j)
-  pub tails : (j : ℕ) → j < entry_count bytes → get_or keys (1_000 + j) 0 ≡ page_tail (page_at bytes j)
+  pub each : (j : ℕ) → j < entry_count bytes → key_at keys j ≡ page_key (page_at bytes j)
 
--- the page with entry j's keys makes a pair with an ack that has this head and tail
-abbrev pub meets : List ℕ → ℕ → ℕ → ℕ → Bool
-meets keys head tail j = eqb (get_or keys j 0) head && not (eqb (get_or keys (1_000 + j) 0) tail)
-
--- what a search for a pair finds
-abbrev pub pair_search_of : Option (ℕ × ℕ) → PairSearch
-pair_search_of None = NoneFound
-pair_search_of (Some (i, j)) = PairAt i j
+-- the page with entry j's key makes a pair with an ack that has this key
+abbrev pub meets : List Key → Key → ℕ → Bool
+meets keys key j = eqb (key_at keys j).head key.head && not (eqb (key_at keys j).tail key.tail)

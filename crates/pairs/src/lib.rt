@@ -4,90 +4,81 @@
 
 #![tactic(auto)]
 
-ghost use Rattle.std.specs.Prelude.{◌≡◌, ◌≤◌, length};
+ghost use Rattle.std.specs.Prelude.{◌≡◌, ◌≤◌};
 ghost use Rattle.model.specs.Basics.{first_where};
 ghost use Rattle.model.specs.Bundles.{entry_count};
 ghost use Rattle.model.specs.Joins.{seats_of, partner_of, earliest_pair};
-ghost use Rattle.basics.specs.Results.{search_of};
-ghost use Rattle.pairs.specs.Keys.{Keys, meets, pair_search_of};
-ghost use Rattle.pairs.specs.Links.{Links};
+ghost use Rattle.pairs.specs.Keys.{Keys, meets};
+ghost use Rattle.pairs.specs.Links.{Linked};
 
-use crate::keys::{head_of, keys_of, tail_of};
-use crate::links::{bucket_of, links_of};
-use basics::results::Search;
+use crate::keys::{Key, MOST_ENTRIES, NO_KEY, key_of, store_keys};
+use crate::links::{Links, NO_LINKS, bucket_of};
 use pages::contents::{body, contents_at, entry_count};
+use pages::kinds::Kind;
 use pages::messages::transfer_of;
 use pages::numbers::byte_at;
 
 pub mod keys;
 pub mod links;
 
-// What a search for a pair finds: the entry in the first bundle and that in the second.
-#[derive(Clone, Copy)]
-pub enum PairSearch {
-    PairAt(u16, u16),
-    NoneFound,
+// A bundle with the keys of its pages, and their links.
+#[derive(Drop)]
+struct Index<'a> {
+    bundle: &'a [u8],
+    keys: &'a [Key; MOST_ENTRIES],
+    links: &'a Links,
+    ghost keyed: { Keys bundle.now keys.now },
+    ghost linked: { Linked keys.now (entry_count bundle.now) 0 links.now.buckets links.now.followers },
 }
 
-// The lowest of the first m entries whose head is this one, and whose tail is another: found along the links of the
-// head's bucket.
-fn first_meeting(keys: &[u64], links: &[u16], m: u16, head: u64, tail: u64) -> Search
-    requires keys_len { (length keys.now ≡ 2_000) × (m ≤ 1_000) }
-    requires links { Links keys.now m 0 links.now }
-    ensures { result ≡ search_of (first_where (meets keys.now head tail) m 0) }
-{
-    let mut j = links[bucket_of(head)];
-    while j < m {
-        let at = j as usize;
-        if keys[at] == head {
-            if keys[1_000 + at] != tail {
-                return Search::At(j);
+impl<'a> Index<'a> {
+    // The lowest entry that makes a pair with an ack of this key: found along the links of its bucket.
+    fn first_meeting(&self, key: Key) -> Option<u16>
+        ensures { result ≡ first_where (meets self.now.keys.now key) (entry_count self.now.bundle.now) 0 }
+    {
+        let mut next = self.links.buckets[bucket_of(key.head)];
+        while let Some(j) = next {
+            let other = self.keys[usize::from(j)];
+            if other.head == key.head && other.tail != key.tail {
+                return Some(j);
             }
+            next = self.links.followers[usize::from(j)];
         }
-        j = links[1_021 + at];
+        None
     }
-    Search::Nowhere
-}
 
-// The earliest entry of the second bundle, given its keys and their links, that makes a pair with entry i of the first,
-// in which there are n seats.
-fn partner(first: &[u8], i: u16, n: u8, second: &[u8], keys: &[u64], links: &[u16]) -> Search
-    requires n_value { n ≡ seats_of first.now }
-    requires keys { Keys second.now keys.now × Links keys.now (entry_count second.now) 0 links.now }
-    ensures { result ≡ search_of (partner_of first.now second.now i) }
-{
-    let c = contents_at(first, i);
-    if c.kind != 3 {
-        return Search::Nowhere;
+    // The lowest entry that makes a pair with entry i of the first bundle, in which there are so many seats.
+    fn partner(&self, first: &[u8], seats: u8, i: u16) -> Option<u16>
+        requires { seats ≡ seats_of first.now }
+        ensures { result ≡ partner_of first.now self.now.bundle.now i }
+    {
+        let c = contents_at(first, i);
+        if c.kind != u8::from(Kind::Ack) || seats <= c.seat {
+            return None;
+        }
+        self.first_meeting(key_of(c.seat, transfer_of(body(first, c))))
     }
-    if n <= c.seat {
-        return Search::Nowhere;
-    }
-    let t = transfer_of(body(first, c));
-    first_meeting(
-        keys,
-        links,
-        entry_count(second),
-        head_of(c.seat, t),
-        tail_of(t),
-    )
 }
 
 // The pair with the earliest entry in the first bundle, and of those with the earliest in the second.
-pub fn earliest_pair(first: &[u8], second: &[u8]) -> PairSearch
+pub fn earliest_pair(first: &[u8], second: &[u8]) -> Option<(u16, u16)>
     requires { entry_count second.now ≤ 1_000 }
-    ensures { result ≡ pair_search_of (earliest_pair first.now second.now) }
+    ensures { result ≡ earliest_pair first.now second.now }
 {
-    let n = byte_at(body(first, contents_at(first, 0)), 0);
-    let keys = keys_of(second);
-    let links = links_of(&keys, entry_count(second));
-    let m = entry_count(first);
-    let mut i: u16 = 0;
-    while i < m {
-        match partner(first, i, n, second, &keys, &links) {
-            Search::At(j) => return PairSearch::PairAt(i, j),
-            Search::Nowhere => i += 1,
+    let seats = byte_at(body(first, contents_at(first, 0)), 0);
+    let mut keys = [NO_KEY; MOST_ENTRIES];
+    store_keys(second, &mut keys);
+    let mut links = NO_LINKS;
+    links.link(&keys, entry_count(second));
+    let index = Index {
+        bundle: second,
+        keys: &keys,
+        links: &links,
+    };
+    for i in 0..entry_count(first) {
+        if let Some(j) = index.partner(first, seats, i) {
+            return Some((i, j));
         }
     }
-    PairSearch::NoneFound
+    None
 }

@@ -21,7 +21,7 @@ use Rattle.model.specs.Basics.{bit}
 use Rattle.model.specs.Records.{with_ack, with_pending, with_proposed, with_retained, with_retained_proposed, with_entry}
 use Rattle.model.specs.Acks.{holds, acks_for, acks_recorded, enough, must_propose, most_acked}
 use Rattle.model.specs.Replies.{letter_of, values_of}
-use Rattle.model.specs.Refusals.{Rule, first_refusal, check_of, ack_rules}
+use Rattle.model.specs.Refusals.{Rule, first_refusal, check_of}
 use Rattle.model.specs.Calls.{Due, replied, accepts, Effect, tallied, waits, finished_by, finished, late_in, step, rules_in}
 use Rattle.laws.proofs.Equality.{equal_refl}
 use Rattle.laws.proofs.Sums.{impossible, sum_at_least}
@@ -36,7 +36,6 @@ use Rattle.settling.specs.Results.{Settles}
 use Rattle.tally.specs.declared.Tally.{Tally}
 use Rattle.tally.specs.Results.{tally_of}
 use Rattle.checks.specs.Promises.{late_slip}
-use Rattle.checks.proofs.Ranges.{ack_fits}
 use Rattle.calls.specs.Promises.{Answered, Taken}
 
 -- what is replied is told by its letter and its values
@@ -59,10 +58,6 @@ module _ (ws : List ℕ) (m : Message) (in_time : late_in (ledger_in ws) m ≡ f
   served r after clear x =
       let step_is = sym (newest_step (ledger_in ws) m) ∙ not_refused newest (ledger_in ws) m in_time (passed (first_refusal rules) (sym clear)) in
       answered ws m r after (rw step_is x.reply) (rw step_is x.ledger) (λ code e. absurd (x.not_refused code e))
-
--- a message that its rules let pass has a place for its account, and an ack for its seat
-pub ack_account : (ws : List ℕ) (s : Seat) (t : Transfer) → Ok tt ≡ check_of (first_refusal (ack_rules (ledger_in ws) (entry_in ws t.account) s t)) → t.account.0 < 32
-ack_account ws s t clear = (ack_fits ws t s (passed _ (sym clear))).0.range.account
 
 -- An entry that is stored is overwritten where a turn is finished.
 finished_again : (l : Ledger) (a : Account) (e : Entry) (x : Effect) → finished (with_entry l a e) a x ≡ finished l a x
@@ -136,10 +131,8 @@ pub retained_waits : (before mid after : List ℕ) (t : Transfer)
     → ledger_in mid ≡ with_entry (ledger_in before) t.account (with_retained (entry_in before t.account) t)
     → ledger_in after ≡ with_entry (ledger_in mid) t.account (with_pending (entry_in mid t.account) t)
     → ledger_in after ≡ with_entry (ledger_in before) t.account (with_pending (with_retained (entry_in before t.account) t) t)
-retained_waits before mid after t kept waits =
-    waits
-    ∙ rw kept
-    (with_entry_again (ledger_in before) t.account (with_retained (entry_in before t.account) t) (λ e. with_pending e t))
+retained_waits before mid after t kept waiting =
+    waiting ∙ rw kept (with_entry_again (ledger_in before) t.account (with_retained (entry_in before t.account) t) (λ e. with_pending e t))
 
 -- A slip that waits is settled: K.
 pub settled : (before mid after : List ℕ) (t : Transfer) (n : ℕ)

@@ -1,5 +1,4 @@
 // The five kinds of message, each where the ledger lies. What a function promises is in specs/Promises.antt.
-ghost use Rattle.std.specs.Prelude.{◌<◌};
 ghost use Rattle.model.specs.declared.Message.TheVariants.{Request, Circulated, Ack, Decision, Inquiry};
 ghost use Rattle.calls.specs.Promises.{Answered, NotLate, NotEnough, Accepted};
 

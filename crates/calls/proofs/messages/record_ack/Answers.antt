@@ -25,7 +25,7 @@ use Rattle.tally.specs.Results.{tally_of, at_next}
 use Rattle.tally.proofs.Nexts.{tally_next}
 use Rattle.calls.specs.Promises.{Next, Taken, NotLate, Accepted, NotEnough}
 use Rattle.checks.proofs.Ranges.{Fits, ack_fits}
-use Rattle.calls.proofs.Taking.{ack_account, refused, served, still_next, recorded, whole, tally_accepts}
+use Rattle.calls.proofs.Taking.{refused, served, still_next, recorded, whole, tally_accepts}
 use borrow.Author.Rules.{rules}
 use Rattle.calls.proofs.messages.record_ack.Goals as goal
 
@@ -35,7 +35,7 @@ module _ (ws : List ℕ) (s : Seat) (t : Transfer) (clear : Ok tt ≡ check_of (
   fits = ack_fits ws t s (passed _ (sym clear))
 
   account : t.account.0 < 32
-  account = ack_account ws s t clear
+  account = fits.0.range.account
 
   -- and is recorded
   module _ (mid : List ℕ) (stored : AckStored ws s t mid) where

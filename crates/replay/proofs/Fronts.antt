@@ -1,10 +1,13 @@
 -- As much of an input as the longest bundle has, and one byte more, gives the text of the whole: a longer
 -- bundle is refused, and by its front.
 use Rattle.std.specs.Prelude.{Ok, Err}
-use Prim.Native.Nat.{ℕ, ◌<◌}
+use Prim.Native.Nat.{ℕ, ◌<◌, min}
+use native.Mathlib.Decide.{dec_lt}
+use native.Mathlib.Omega.{arith}
 use mathlib.Core.Path.{◌≡◌, refl, ap, sym, ◌∙◌}
 use mathlib.Core.List.{List}
 use lib.ListN.{length, take}
+use lib.Seq.{take_all}
 use Rattle.model.specs.Types.{BundleReply}
 use Rattle.model.specs.Bundles.{check_bundle}
 use Rattle.bundle.proofs.Longest.{front, read_front}
@@ -24,3 +27,11 @@ pub text_of_input : (input : List ℕ) (read n : ℕ) {before after : List ℕ} 
     → Replayed (text_of (take n input)) before after r → ReplayedInput input read before after r
 text_of_input input read n large all w =
     record { replayed = rw all at w; whole = λ bytes first. sym (same_text (length input) large bytes) ∙ ap text_of first }
+
+-- as many bytes as were read, or the whole
+pub first_of_input : (input : List ℕ) (read n : ℕ) {size : ℕ} → length input ≡ size → n ≡ min read size → take n input ≡ take read input
+first_of_input input read n {size} long is = go (dec_lt read size)
+  where
+    go : Dec (read < size) → take n input ≡ take read input
+    go (yes l) = ap (λ (k : ℕ). take k input) (omega (arith, is))
+    go (no l) = take_all n input (omega (arith, is, long)) ∙ sym (take_all read input (omega (arith, long)))

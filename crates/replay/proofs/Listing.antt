@@ -3,7 +3,8 @@ use Rattle.std.specs.Prelude.{Some, Result, Ok, Err}
 use Prim.Native.Nat.{ℕ}
 use mathlib.Core.Path.{◌≡◌, refl, ap, subst}
 use mathlib.Core.List.{List}
-use Rattle.model.specs.Types.{Ledger, ListReply, OpenReply, BundleReply, BundleError}
+use Rattle.model.specs.Types.{Ledger, ListReply, OpenReply, BundleReply}
+use Rattle.model.specs.declared.BundleError.{BundleError}
 use Rattle.model.specs.declared.Refusal.{Refusal}
 use Rattle.model.specs.Records.{fresh_ledger}
 use Rattle.model.specs.Refusals.{list_refusal}
@@ -25,7 +26,7 @@ pub list_played : {before after : List ℕ} {r : ListReply} (l k : Ledger) → l
 list_played {before = before} {after = after} {r = r} l k same h = subst (λ (x : Ledger). ListedAs x before r after) same h
 
 -- the refusal that a list meets, by what keeps page 0 from opening, if anything does
-Meets : List ℕ → List ℕ → Result (Unit {0}) BundleError → Type 0
+abbrev Meets : List ℕ → List ℕ → Result (Unit {0}) BundleError → Type 0
 Meets bytes before (Err e) = refusal_behind bytes before ≡ Some e.refusal
 Meets bytes before (Ok u) = refusal_behind bytes before ≡ list_refusal before
 

@@ -5,7 +5,8 @@ use native.Mathlib.Omega.{arith}
 use mathlib.Core.Path.{◌≡◌, refl, ap, sym, subst, ◌∙◌}
 use mathlib.Core.List.{List}
 use lib.ListN.{length}
-use Rattle.model.specs.Types.{OpenReply, BundleReply, BundleError}
+use Rattle.model.specs.Types.{OpenReply, BundleReply}
+use Rattle.model.specs.declared.BundleError.{BundleError}
 use Rattle.model.specs.Records.{fresh_ledger}
 use Rattle.model.specs.Bundles.{entry_count, check_bundle}
 use Rattle.model.specs.Replies.{code_of}
@@ -19,7 +20,7 @@ use Rattle.replay.specs.Promises.{closing_most, text_most, opened_by, OpensBook,
 use Rattle.replay.proofs.Sound.{sound_count}
 
 -- what the text is, by what keeps page 0 from opening, if anything does
-Told : List ℕ → Result (Unit {0}) BundleError → Type 0
+abbrev Told : List ℕ → Result (Unit {0}) BundleError → Type 0
 Told bytes (Err e) = text_of bytes ≡ refusal_line (code_of e.refusal) e.entry
 Told bytes (Ok u) =
     (text_of bytes ≡ played_text bytes (entry_count bytes - 1) (fresh_ledger (opening_page bytes))) × (entry_count bytes ≤ 1_000)
@@ -32,7 +33,7 @@ told bytes = go (check_bundle bytes) (opened bytes) refl refl
     go (Ok m) (Err r) checked answer = rw (checked, answer) refl
     go (Ok m) (Ok u) checked answer =
         let count = sound_count bytes m checked in
-        (rw (checked, answer, count.0) refl, count.2.1)
+        (rw (checked, answer, count.0) refl, count.2)
 
 module _ (bytes : List ℕ) {r : Result (List ℕ) BundleError} (opens : OpensBook bytes r) where
   module _ {words : List ℕ} (is : r ≡ Ok words) where

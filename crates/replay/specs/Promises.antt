@@ -1,7 +1,8 @@
 -- What replaying promises.
 use Rattle.std.specs.Prelude.{ℕ, ◌+◌, ◌-◌, ◌*◌, ◌≤◌, ◌<◌, ◌≡◌, List, ◌++◌, length, take, drop, MatchResult, Result, Ok, Err}
 use Rattle.model.specs.Bundles.{entry_count, check_bundle}
-use Rattle.model.specs.Types.{OpenReply, BundleReply, BundleError}
+use Rattle.model.specs.Types.{OpenReply, BundleReply}
+use Rattle.model.specs.declared.BundleError.{BundleError}
 use Rattle.model.specs.Records.{fresh_ledger}
 use Rattle.basics.specs.declared.output.Output.{Output}
 use Rattle.basics.specs.Outputs.{Appends}

@@ -33,9 +33,10 @@ fn open_bundle(bytes: &[u8]) -> Result<Book, BundleError>
 {
     check(bytes)?;
     let mut words = [0; BOOK_WORDS];
-    let page = opening_of(opening_body(bytes));
-    open(&mut words, page).map_err(|refusal| BundleError { refusal, entry: 0 })?;
-    Ok(words)
+    match open(&mut words, opening_of(opening_body(bytes))) {
+        Ok(()) => Ok(words),
+        Err(refusal) => Err(BundleError { refusal, entry: 0 }),
+    }
 }
 
 // The entries behind the opening page, in their order, as messages to the book, each with its line.
@@ -63,7 +64,12 @@ fn put_closing(words: &Book, out: &mut Output)
 {
     for a in 0..accounts_of(words) {
         let account = Account(a);
-        put_account(out, a, balance_of(words, account), current_of(words, account));
+        put_account(
+            out,
+            a,
+            balance_of(words, account),
+            current_of(words, account),
+        );
     }
 }
 
@@ -95,8 +101,12 @@ pub fn replay_input(input: &[u8; INPUT_SIZE], read: usize, out: &mut [u8; TEXT_S
 pub fn list_after(bytes: &[u8], buffer: &mut [u8]) -> Result<u32, Refusal>
     ensures { ListOf bytes.now buffer.old result buffer.new }
 {
-    let mut words = open_bundle(bytes).map_err(|e| e.refusal)?;
-    let mut nowhere = [0; 1];
-    play(bytes, &mut words, &mut Output::new(&mut nowhere));
-    list_waiting(&words, buffer)
+    match open_bundle(bytes) {
+        Ok(mut words) => {
+            let mut nowhere = [0; 1];
+            play(bytes, &mut words, &mut Output::new(&mut nowhere));
+            list_waiting(&words, buffer)
+        }
+        Err(e) => Err(e.refusal),
+    }
 }

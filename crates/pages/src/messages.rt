@@ -44,15 +44,14 @@ pub fn transfer_of(body: &[u8]) -> Transfer
 pub fn message_from(kind: u8, seat: u8, body: &[u8]) -> Option<Message>
     ensures { result ≡ message_of (record { kind = kind; seat = seat; body = body.now }) }
 {
-    let message = match Kind::try_from(kind).ok()? {
-        Kind::Opening => return None,
-        Kind::Request => Message::Request(transfer_of(body)),
-        Kind::Circulated => Message::Circulated(transfer_of(body)),
-        Kind::Ack => Message::Ack(Seat(seat), transfer_of(body)),
-        Kind::Decision => Message::Decision(transfer_of(body)),
-        Kind::Inquiry => Message::Inquiry(Account(byte_at(body, 0))),
-    };
-    Some(message)
+    match Kind::try_from(kind).ok()? {
+        Kind::Opening => None,
+        Kind::Request => Some(Message::Request(transfer_of(body))),
+        Kind::Circulated => Some(Message::Circulated(transfer_of(body))),
+        Kind::Ack => Some(Message::Ack(Seat(seat), transfer_of(body))),
+        Kind::Decision => Some(Message::Decision(transfer_of(body))),
+        Kind::Inquiry => Some(Message::Inquiry(Account(byte_at(body, 0)))),
+    }
 }
 
 // The message of an entry's page, if it is one.

@@ -5,6 +5,7 @@
 #![tactic(auto)]
 
 ghost use Rattle.std.specs.Prelude.{◌≡◌};
+ghost use Rattle.model.specs.Bundles.{body_sum};
 ghost use Rattle.saving.specs.Saved.{summed, saved, load_reply, words_saved, LoadedAs};
 
 use basics::output::Output;
@@ -45,15 +46,22 @@ fn put_summed<S: Sink>(to: &mut S, words: &Book)
     put_words(to, words);
 }
 
+// The sum of it.
+fn sum_of(words: &Book) -> u32
+    ensures { result ≡ body_sum (summed words.now) }
+{
+    let mut sum = Sum(0);
+    put_summed(&mut sum, words);
+    sum.0
+}
+
 // Saves a book: the buffer is the saved form, whatever it was.
 pub fn save(words: &Book, out: &mut [u8; SAVED_SIZE])
     ensures { out.new ≡ saved words.now }
 {
-    let mut sum = Sum(0);
-    put_summed(&mut sum, words);
     let mut output = Output::new(out);
     put_summed(&mut output, words);
-    output.put_all(&sum.0.to_le_bytes());
+    output.put_all(&sum_of(words).to_le_bytes());
 }
 
 // Whether the bytes are a saved book: mark, format, length and sum are tried in this order.

@@ -8,4 +8,4 @@ pub returns : goal.returns
 returns c =
     let empty = c.new-output.ensures.content in
     let last = rw (c.to_le_bytes.ensures, number_bytes_4) at c.put_all.ensures in
-    all_saved c.args.words.now c.args.out.now (omega arith) (omega arith) empty c.put_summed-2.ensures c.put_summed.ensures last
+    all_saved c.args.words.now c.args.out.now (omega arith) (omega arith) empty c.put_summed.ensures c.sum_of.ensures last

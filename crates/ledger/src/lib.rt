@@ -16,6 +16,7 @@ use opening::open_page;
 use switching::take_over;
 
 // The opening: the words are the page's ledger, whatever they were; or it is refused, and they are as they were.
+#[tactic(auto, unfolding(model::specs::Openings::open_reply))]
 pub fn open(words: &mut Book, page: Opening) -> Result<(), Refusal>
     ensures { OpenedAs words.old page result words.new }
 {

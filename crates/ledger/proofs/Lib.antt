@@ -1,2 +1,0 @@
--- From what a call promises to what the operation promises.
-pub mod Promising

@@ -6,13 +6,14 @@
 
 use layout::{BOOK_WORDS, Book};
 use model::{Account, Message, Opening, Reply, Seat, Transfer};
-use std::fmt::{self, Display, Formatter};
+use std::fmt::{self, Display, Formatter, Write};
 
 // A reply as a line: its letter, and what it carries, each value in two digits.
+#[derive(Clone, Copy)]
 struct Line(Reply);
 
 impl Display for Line {
-    fn fmt(&self, f: &mut Formatter) -> fmt::Result {
+    fn fmt<W: Write>(&self, f: &mut Formatter<W>) -> fmt::Result {
         let Line(reply) = *self;
         write!(f, "{}", reply.letter() as char)?;
         match reply {

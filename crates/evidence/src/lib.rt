@@ -2,44 +2,34 @@
 
 #![tactic(auto)]
 
-ghost use Rattle.std.specs.Prelude.{◌≡◌, ◌≤◌};
-ghost use Rattle.std.proofs.Math.Option.{some};
+ghost use Rattle.std.specs.Prelude.{◌≡◌, MatchResult};
 ghost use Rattle.model.specs.Basics.{same};
-ghost use Rattle.model.specs.Bundles.{entry_count};
-ghost use Rattle.model.specs.Joins.{shown_by, answer_of, earliest_pair, bundle_named, entry_named, shown_start};
+ghost use Rattle.model.specs.Types.{refused_at};
+ghost use Rattle.model.specs.Bundles.{check_bundle};
+ghost use Rattle.model.specs.Joins.{shown_by, answer_of, bundle_named, entry_named, shown_start};
 ghost use Rattle.evidence.specs.Promises.{JoinedAs, ShownAs};
 
-use basics::transfers::is_equal;
 use bundle::check;
-use model::{BundleReply, Evidence, Refusal, Seat, Transfer, Which};
+use model::{FoundPair, JoinError, Refusal, Seat, Transfer, Which};
 use pages::contents::{body, contents_at};
 use pages::messages::transfer_of;
-use pairs::{PairSearch, earliest_pair};
+use pairs::earliest_pair;
 use reader::opening_body;
 
 // Two slices hold the same bytes.
 fn is_same(a: &[u8], b: &[u8]) -> bool
     ensures { result ≡ same a.now b.now }
 {
-    if a.len() != b.len() {
-        return false;
-    }
-    let mut i: usize = 0;
-    while i < a.len() {
-        if a[i] != b[i] {
-            return false;
-        }
-        i += 1;
-    }
-    true
+    a == b
 }
 
 // "of the two bodies, the one that differs from a ruled slip": the first bundle's, unless its transfer is the ruled
 // one, and then the second's.
+#[tactic(auto, unfolding(model::specs::Transfers::equal))]
 fn shown_by(ruled: Transfer, t: Transfer) -> Which
     ensures { result ≡ shown_by ruled t }
 {
-    if is_equal(t, ruled) {
+    if t == ruled {
         Which::Second
     } else {
         Which::First
@@ -47,46 +37,45 @@ fn shown_by(ruled: Transfer, t: Transfer) -> Which
 }
 
 // What is told of a pair: the seat, both entries, and which body is shown.
-fn told(first: &[u8], ruled: Transfer, i: u16, j: u16) -> Evidence
-    ensures { result ≡ answer_of first.now ruled (some (i, j)) }
+fn told(first: &[u8], ruled: Transfer, i: u16, j: u16) -> FoundPair
+    ensures { Ok (Some result) ≡ answer_of first.now ruled (Some (i, j)) }
 {
     let c = contents_at(first, i);
-    Evidence::FoundPair(
-        Seat(c.seat),
-        i,
-        j,
-        shown_by(ruled, transfer_of(body(first, c))),
-    )
+    FoundPair {
+        seat: Seat(c.seat),
+        first: i,
+        second: j,
+        shown: shown_by(ruled, transfer_of(body(first, c))),
+    }
 }
 
-// What is told of two bundles that are sound and open alike.
-fn joined(first: &[u8], second: &[u8], ruled: Transfer) -> Evidence
-    requires { entry_count second.now ≤ 1_000 }
-    ensures { result ≡ answer_of first.now ruled (earliest_pair first.now second.now) }
+// The check of a bundle, of which a refusal names the bundle too.
+fn checked(bytes: &[u8], bundle: Which) -> Result<u16, JoinError>
+    ensures { MatchResult result (λ m. check_bundle bytes.now ≡ Ok m)
+        (λ e. (e.bundle ≡ bundle) × (check_bundle bytes.now ≡ refused_at e.refusal e.entry)) }
 {
-    match earliest_pair(first, second) {
-        PairSearch::PairAt(i, j) => told(first, ruled, i, j),
-        PairSearch::NoneFound => Evidence::NoPair,
-    }
+    check(bytes).map_err(|e| JoinError {
+        refusal: e.refusal,
+        bundle,
+        entry: e.entry,
+    })
 }
 
 // The join: "the first bundle's 13 to 16, then the second's, then 21 if the two opening pages differ", and then the
 // earliest pair, if there is one.
-pub fn join(first: &[u8], second: &[u8], ruled: Transfer) -> Evidence
+pub fn join(first: &[u8], second: &[u8], ruled: Transfer) -> Result<Option<FoundPair>, JoinError>
     ensures { JoinedAs first.now second.now ruled result }
 {
-    match check(first) {
-        BundleReply::BundleRefused(r, i) => return Evidence::JoinRefused(r, Which::First, i),
-        BundleReply::Sound(_) => {}
+    checked(first, Which::First)?;
+    checked(second, Which::Second)?;
+    if !is_same(opening_body(first), opening_body(second)) {
+        return Err(JoinError {
+            refusal: Refusal::PagesDiffer,
+            bundle: Which::Neither,
+            entry: 0,
+        });
     }
-    match check(second) {
-        BundleReply::BundleRefused(r, i) => return Evidence::JoinRefused(r, Which::Second, i),
-        BundleReply::Sound(_) => {}
-    }
-    if is_same(opening_body(first), opening_body(second)) {
-        return joined(first, second, ruled);
-    }
-    Evidence::JoinRefused(Refusal::PagesDiffer, Which::Neither, 0)
+    Ok(earliest_pair(first, second).map(|(i, j)| told(first, ruled, i, j)))
 }
 
 // The bundle that is meant; of neither, no bytes.
@@ -96,46 +85,44 @@ fn bundle_named<'a>(which: Which, first: &'a [u8], second: &'a [u8]) -> &'a [u8]
     match which {
         Which::First => first,
         Which::Second => second,
-        Which::Neither => &first[0..0],
+        Which::Neither => &[],
     }
 }
 
-// Of a pair's entries the one in that bundle.
-fn entry_named(which: Which, i: u16, j: u16) -> u16
-    ensures { result ≡ entry_named which i j }
+// Of a pair's entries the one in the bundle whose body is shown.
+fn entry_named(pair: FoundPair) -> u16
+    ensures { result ≡ entry_named pair.shown pair.first pair.second }
 {
-    match which {
-        Which::First => i,
-        Which::Second => j,
+    match pair.shown {
+        Which::First => pair.first,
+        Which::Second => pair.second,
         Which::Neither => 0,
     }
 }
 
 // The body that is shown by an answer, "as that body's bytes in whichever bundle holds it": a part of the first or of
 // the second slice. Without a pair, and where the join is refused, it is empty.
-pub fn shown<'a>(first: &'a [u8], second: &'a [u8], found: Evidence) -> &'a [u8]
+pub fn shown<'a>(
+    first: &'a [u8],
+    second: &'a [u8],
+    found: Result<Option<FoundPair>, JoinError>,
+) -> &'a [u8]
     ensures { ShownAs first.now second.now found result.now }
 {
-    match found {
-        Evidence::FoundPair(_, i, j, which) => {
-            let held = bundle_named(which, first, second);
-            body(held, contents_at(held, entry_named(which, i, j)))
-        }
-        Evidence::NoPair => &first[0..0],
-        Evidence::JoinRefused(_, _, _) => &first[0..0],
-    }
+    let Ok(Some(pair)) = found else {
+        return &[];
+    };
+    let held = bundle_named(pair.shown, first, second);
+    body(held, contents_at(held, entry_named(pair)))
 }
 
 // Where it starts in that bundle, for hosts to which no slice can be handed; 0 where it is empty.
-pub fn shown_start<'a>(first: &'a [u8], second: &'a [u8], found: Evidence) -> u16
+pub fn shown_start(first: &[u8], second: &[u8], found: Result<Option<FoundPair>, JoinError>) -> u16
     ensures { result ≡ shown_start first.now second.now found }
 {
-    match found {
-        Evidence::FoundPair(_, i, j, which) => {
-            let c = contents_at(bundle_named(which, first, second), entry_named(which, i, j));
-            c.start
-        }
-        Evidence::NoPair => 0,
-        Evidence::JoinRefused(_, _, _) => 0,
-    }
+    let Ok(Some(pair)) = found else {
+        return 0;
+    };
+    let held = bundle_named(pair.shown, first, second);
+    contents_at(held, entry_named(pair)).start
 }

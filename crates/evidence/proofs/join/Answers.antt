@@ -1,35 +1,31 @@
 -- Each answer is the definition's next, the checks before it being passed.
-use Rattle.std.proofs.Common.{◌≡◌, sym, ◌∙◌}
+use Rattle.std.proofs.Common.{◌≡◌, true, false, rules}
+use Rattle.std.proofs.lemmas.Result.{err_from_is_err_and}
 use Rattle.model.specs.Basics.{same}
 use Rattle.reader.specs.Promises.{opening_body}
-use Rattle.evidence.proofs.Joining.{first_refused, second_refused, pages_differ, pages_agree}
+use Rattle.evidence.proofs.Joining.{few, first_refused, second_refused, pages_differ, pages_agree, all_told}
 use Rattle.evidence.proofs.join.Goals as goal
 
-pub returns-in-Err : goal.returns-in-Err
-returns-in-Err c =
-    first_refused c.args.first.now c.args.second.now c.args.ruled (sym c.check.ensures.meets ∙ c.in-Err.is)
+pub returns-in_err-checked : goal.returns-in_err-checked
+returns-in_err-checked c =
+    let e = err_from_is_err_and c.from_residual.result c.from_residual.ensures.1 in
+    rw (e.1, e.2) (first_refused c.args.first.now c.args.second.now c.args.ruled c.in_err-checked.ensures)
 
-pub returns-in-Err-check : goal.returns-in-Err-check
-returns-in-Err-check c =
-    second_refused c.args.first.now c.args.second.now c.args.ruled (sym c.check.ensures.meets ∙ c.in-Ok.is)
-    (sym c.check-2.ensures.meets ∙ c.in-Err-check.is)
+pub returns-in_err-checked-2 : goal.returns-in_err-checked-2
+returns-in_err-checked-2 c =
+    let e = err_from_is_err_and c.from_residual-in_err-checked-2.result c.from_residual-in_err-checked-2.ensures.1 in
+    rw (e.1, e.2) (second_refused c.args.first.now c.args.second.now c.args.ruled c.in_ok-checked.ensures c.in_err-checked-2.ensures)
 
-pub returns-then-is_same : goal.returns-then-is_same
-returns-then-is_same c =
-    let first = c.args.first.now in
-    let second = c.args.second.now in
-    -- the two opening pages, compared
-    let alike : same (opening_body first) (opening_body second) ≡ c.is_same.result =
-    rw (← c.opening_body.ensures, ← c.opening_body-2.ensures) (sym c.is_same.ensures) in
-    pages_agree first second c.args.ruled (sym c.check.ensures.meets ∙ c.in-Ok.is) (sym c.check-2.ensures.meets ∙ c.in-Ok-check.is)
-    (alike ∙ c.if-is_same.true)
-    c.joined.ensures
+pub returns-then-not-is_same : goal.returns-then-not-is_same
+returns-then-not-is_same c =
+    let apart : same (opening_body c.args.first.now) (opening_body c.args.second.now) ≡ false = cc in
+    pages_differ c.args.first.now c.args.second.now c.args.ruled c.in_ok-checked.ensures c.in_ok-checked-2.ensures apart
+
+pub earliest_pair-requires : goal.earliest_pair-requires
+earliest_pair-requires c = few c.args.second.now _ c.in_ok-checked-2.ensures
 
 pub returns : goal.returns
 returns c =
-    let first = c.args.first.now in
-    let second = c.args.second.now in
-    let alike : same (opening_body first) (opening_body second) ≡ c.is_same.result =
-    rw (← c.opening_body.ensures, ← c.opening_body-2.ensures) (sym c.is_same.ensures) in
-    pages_differ first second c.args.ruled (sym c.check.ensures.meets ∙ c.in-Ok.is) (sym c.check-2.ensures.meets ∙ c.in-Ok-check.is)
-    (alike ∙ c.if-is_same.false)
+    let alike : same (opening_body c.args.first.now) (opening_body c.args.second.now) ≡ true = cc in
+    pages_agree c.args.first.now c.args.second.now c.args.ruled c.in_ok-checked.ensures c.in_ok-checked-2.ensures alike
+    (rw (← c.earliest_pair.ensures) (all_told _ _ _ _ (search rules)))

@@ -4,9 +4,8 @@ use mathlib.Core.Path.{◌≡◌, refl}
 use mathlib.Core.Bool.{Bool, true, false}
 use mathlib.Core.List.{List, [], ◌∷◌, ◌++◌}
 use Rattle.model.specs.declared.Refusal.{Refusal}
-use Rattle.model.specs.Refusals.{Rule, first_refusal}
+use Rattle.model.specs.Refusals.{Rule, first_refusal, check_of}
 use Rattle.laws.proofs.Sums.{impossible}
-use Rattle.model.specs.Refusals.{check_of}
 
 -- where none of the first rules holds, those after them decide
 pub passes : (rules more : List Rule) (q : Result (Unit {0}) Refusal) → Ok tt ≡ check_of (first_refusal rules)

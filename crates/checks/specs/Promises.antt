@@ -2,9 +2,8 @@
 use Rattle.std.specs.Prelude.{cond, None}
 use Rattle.model.specs.declared.Seat.{Seat}
 use Rattle.model.specs.declared.Transfer.{Transfer}
-use Rattle.model.specs.Types.{Slot}
 use Rattle.model.specs.declared.Message.TheVariants.{Ack}
-use Rattle.model.specs.Types.{Entry, Ledger}
+use Rattle.model.specs.Types.{Slot, Entry, Ledger}
 use Rattle.model.specs.Calls.{must_join}
 
 -- The slip that an ack's late P carries, if it brings one: the retained one.

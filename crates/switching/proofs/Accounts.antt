@@ -9,8 +9,7 @@ use lib.ListN.{length}
 use lib.Seq.{set_out}
 use Rattle.model.specs.declared.Account.{Account}
 use Rattle.model.specs.declared.Transfer.{Transfer}
-use Rattle.model.specs.Types.{Slot}
-use Rattle.model.specs.Types.{Entry}
+use Rattle.model.specs.Types.{Slot, Entry}
 use Rattle.model.specs.Records.{account_of, entry_of, with_none_retained, with_retained_of, with_retained, with_entries, with_entry}
 use Rattle.model.specs.Switches.{since_request3, retains_from, retains_waiting, switched}
 use Rattle.laws.proofs.Access.{with_entry_same, with_entry_again}

@@ -3,6 +3,7 @@ use Rattle.std.specs.Prelude.{Some, Result, Ok, Err}
 use Prim.Native.Nat.{ℕ}
 use mathlib.Core.Path.{◌≡◌, refl, ap, subst}
 use mathlib.Core.List.{List}
+use Rattle.laws.proofs.Sums.{impossible}
 use Rattle.model.specs.Types.{Ledger, ListReply, OpenReply, BundleReply}
 use Rattle.model.specs.declared.BundleError.{BundleError}
 use Rattle.model.specs.declared.Refusal.{Refusal}
@@ -25,27 +26,39 @@ refused_list q accounts before r after told kept = record { lists = record { rep
 pub list_played : {before after : List ℕ} {r : ListReply} (l k : Ledger) → l ≡ k → ListedAs l before r after → ListedAs k before r after
 list_played {before = before} {after = after} {r = r} l k same h = subst (λ (x : Ledger). ListedAs x before r after) same h
 
--- the refusal that a list meets, by what keeps page 0 from opening, if anything does
-abbrev Meets : List ℕ → List ℕ → Result (Unit {0}) BundleError → Type 0
-Meets bytes before (Err e) = refusal_behind bytes before ≡ Some e.refusal
-Meets bytes before (Ok u) = refusal_behind bytes before ≡ list_refusal before
+-- the refusal that a list meets: the bundle's, else the opening's, else the list's own
+module _ (bytes before : List ℕ) where
+  met_bundle : {e : BundleError} → check_bundle bytes ≡ Err e → refusal_behind bytes before ≡ Some e.refusal
+  unfolding refusal_behind
+  met_bundle checked = rw checked refl
 
-meets : (bytes before : List ℕ) → Meets bytes before (opened_by (check_bundle bytes) (opened bytes))
-unfolding refusal_behind
-meets bytes before = go (check_bundle bytes) (opened bytes) refl refl
-  where
-    go : (c : BundleReply) (o : OpenReply) → check_bundle bytes ≡ c → opened bytes ≡ o → Meets bytes before (opened_by c o)
-    go (Err e) o checked answer = rw checked refl
-    go (Ok m) (Err r) checked answer = rw (checked, answer) refl
-    go (Ok m) (Ok u) checked answer = rw (checked, answer) refl
+  met_opening : {m : ℕ} {q : Refusal} → check_bundle bytes ≡ Ok m → opened bytes ≡ Err q → refusal_behind bytes before ≡ Some q
+  unfolding refusal_behind
+  met_opening checked answer = rw (checked, answer) refl
+
+  met_list : {m : ℕ} → check_bundle bytes ≡ Ok m → opened bytes ≡ Ok tt → refusal_behind bytes before ≡ list_refusal before
+  unfolding refusal_behind
+  met_list checked answer = rw (checked, answer) refl
+
+-- what opens is sound, and so is its opening
+both_sound : (c : BundleReply) (o : OpenReply) → opened_by c o ≡ Ok tt → (m : ℕ) × (c ≡ Ok m) × (o ≡ Ok tt)
+both_sound (Err e) o h = impossible (cc)
+both_sound (Ok m) (Err r) h = impossible (cc)
+both_sound (Ok m) (Ok u) h = (m, refl, refl)
 
 module _ (bytes before : List ℕ) {opening : Result (List ℕ) BundleError} (opens : OpensBook bytes opening) where
   -- behind a bundle, or an opening, that is refused
   pub list_refused : {e : BundleError} → opening ≡ Err e → ListOf bytes before (Err e.refusal) before
   list_refused {e} is =
       let refused : opened_by (check_bundle bytes) (opened bytes) ≡ Err e = rw is at opens in
-      let met : refusal_behind bytes before ≡ Some e.refusal = subst (λ x. Meets bytes before x) refused (meets bytes before) in
-      rw met (refused_list e.refusal (accounts_behind bytes) before (Err e.refusal) before refl refl)
+      rw (go (check_bundle bytes) (opened bytes) refl refl refused)
+      (refused_list e.refusal (accounts_behind bytes) before (Err e.refusal) before refl refl)
+    where
+      go : (c : BundleReply) (o : OpenReply) → check_bundle bytes ≡ c → opened bytes ≡ o → opened_by c o ≡ Err e → refusal_behind bytes before ≡ Some e.refusal
+      go (Err x) o checked answer h = let same : x ≡ e = cc in rw (← same) (met_bundle bytes before checked)
+      go (Ok m) (Err q) checked answer h =
+          let same : record { refusal = q; entry = 0 } ≡ e = cc in rw (← same) (met_opening bytes before checked answer)
+      go (Ok m) (Ok u) checked answer h = impossible (cc)
 
   -- behind one that opens: of the ledger that its entries leave
   pub list_opened : {words left after : List ℕ} {r : ListReply} {from to : Output} → opening ≡ Ok words → PlayedAll bytes words left from to
@@ -53,5 +66,5 @@ module _ (bytes before : List ℕ) {opening : Result (List ℕ) BundleError} (op
   unfolding accounts_behind
   list_opened {words} is played h =
       let fact : (opened_by (check_bundle bytes) (opened bytes) ≡ Ok tt) × (ledger_in words ≡ fresh_ledger (opening_page bytes)) = rw is at opens in
-      let met : refusal_behind bytes before ≡ list_refusal before = subst (λ x. Meets bytes before x) fact.0 (meets bytes before) in
-      rw (met, ← fact.1) (list_played _ _ played.ledger h)
+      let sound = both_sound (check_bundle bytes) (opened bytes) fact.0 in
+      rw (met_list bytes before sound.1 sound.2, ← fact.1) (list_played _ _ played.ledger h)

@@ -8,7 +8,7 @@ ghost use Rattle.basics.specs.Outputs.{Appends};
 ghost use Rattle.layout.specs.Layout.{ledger_in};
 ghost use Rattle.replay.specs.Text.{closing, text_of};
 ghost use Rattle.replay.specs.Lists.{ListOf};
-ghost use Rattle.replay.specs.Promises.{closing_most, Replayed, ReplayedInput, PlayedAll, OpensBook};
+ghost use Rattle.replay.specs.Promises.{closing_most, text_most, Replayed, ReplayedInput, PlayedAll, OpensBook};
 
 use basics::output::Output;
 use bundle::{Cursor, check};
@@ -73,18 +73,25 @@ fn put_closing(words: &Book, out: &mut Output)
     }
 }
 
-// The text that `daybook` writes for these bytes, at the buffer's front; its length is replied.
+// The text that `daybook` writes for these bytes.
+fn put_text(bytes: &[u8], out: &mut Output)
+    ensures { Appends out.old (text_of bytes.now) text_most out.new }
+{
+    match open_bundle(bytes) {
+        Ok(mut words) => {
+            play(bytes, &mut words, out);
+            put_closing(&words, out);
+        }
+        Err(e) => put_refusal(out, u8::from(e.refusal), e.entry),
+    }
+}
+
+// The same, at the buffer's front; its length is replied.
 pub fn replay(bytes: &[u8], out: &mut [u8; TEXT_SIZE]) -> usize
     ensures { Replayed (text_of bytes.now) out.old out.new result }
 {
     let mut text = Output::new(out);
-    match open_bundle(bytes) {
-        Ok(mut words) => {
-            play(bytes, &mut words, &mut text);
-            put_closing(&words, &mut text);
-        }
-        Err(e) => put_refusal(&mut text, u8::from(e.refusal), e.entry),
-    }
+    put_text(bytes, &mut text);
     text.filled
 }
 

@@ -3,11 +3,9 @@
 -- buffer. What a message promises is `Answered`, of crate calls. "Each enum answer has a definition that gives this
 -- paper's number and values for each of its cases. The promises use that definition": the fields `told`.
 use Rattle.std.specs.Prelude.{ℕ, ◌≡◌, List, [], ◌∷◌, length, Option, Some, None}
-use Rattle.model.specs.Types.{Ledger}
+use Rattle.model.specs.Types.{Ledger, OpenReply, ListReply}
 use Rattle.model.specs.declared.Opening.{Opening}
 use Rattle.model.specs.declared.Refusal.{Refusal}
-use Rattle.model.specs.Types.{OpenReply}
-use Rattle.model.specs.Types.{ListReply}
 use Rattle.model.specs.Refusals.{first_refusal, list_refusal}
 use Rattle.model.specs.Replies.{code_of, values_of_open, values_of_list}
 use Rattle.model.specs.Openings.{open_rules}

@@ -10,8 +10,7 @@ use lib.Dec.{ltb}
 use borrow.Author.Tests.{lt-ltb, le-ltb, eq-eqb}
 use Rattle.model.specs.declared.Account.{Account}
 use Rattle.model.specs.declared.Transfer.{Transfer}
-use Rattle.model.specs.Types.{Slot}
-use Rattle.model.specs.Types.{AckSlot}
+use Rattle.model.specs.Types.{Slot, AckSlot}
 use Rattle.model.specs.Basics.{bit, count}
 use Rattle.model.specs.Transfers.{equal, conflict}
 use Rattle.model.specs.Acks.{ack_at, holds, conflicts, acks_for, acks_recorded, two_conflict}

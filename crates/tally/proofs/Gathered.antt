@@ -11,8 +11,7 @@ use lib.ListN.{length, take, set, replicate, length-map, length-append}
 use lib.Seq.{set_at, take_at, append_snoc}
 use Rattle.model.specs.declared.Seat.{Seat}
 use Rattle.model.specs.declared.Transfer.{Transfer}
-use Rattle.model.specs.Types.{Slot}
-use Rattle.model.specs.Types.{AckSlot}
+use Rattle.model.specs.Types.{Slot, AckSlot}
 use Rattle.model.specs.Basics.{bit, all_where}
 use Rattle.model.specs.Records.{seat_of}
 use Rattle.model.specs.Acks.{ack_at, holds, acks_for}

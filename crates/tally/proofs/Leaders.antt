@@ -13,8 +13,7 @@ use borrow.Author.Count.{below_more}
 use borrow.Author.Tests.{lt-ltb, le-ltb, le-leb}
 use Rattle.model.specs.declared.Seat.{Seat}
 use Rattle.model.specs.declared.Transfer.{Transfer}
-use Rattle.model.specs.Types.{Slot}
-use Rattle.model.specs.Types.{AckSlot}
+use Rattle.model.specs.Types.{Slot, AckSlot}
 use Rattle.model.specs.Basics.{bit}
 use Rattle.model.specs.Records.{seat_of}
 use Rattle.model.specs.Acks.{ack_at, holds, acks_for, no_more_than, has_most, slip_in, most_acked}

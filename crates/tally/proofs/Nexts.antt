@@ -5,8 +5,7 @@ use mathlib.Core.Path.{◌≡◌, refl, ap, ◌∙◌}
 use mathlib.Core.Bool.{true}
 use mathlib.Core.List.{List}
 use Rattle.model.specs.declared.Transfer.{Transfer}
-use Rattle.model.specs.Types.{Slot}
-use Rattle.model.specs.Types.{AckSlot, Entry}
+use Rattle.model.specs.Types.{Slot, AckSlot, Entry}
 use Rattle.model.specs.Acks.{ack_at, holds, acks_for, most_acked}
 use Rattle.laws.proofs.Sums.{impossible, some_counted}
 use Rattle.laws.proofs.Proposals.{first_of_most}

@@ -3,8 +3,7 @@ use Rattle.std.specs.Prelude.{ℕ, ◌+◌, ◌-◌, ◌<◌, ◌≡◌, Bool, c
 use Rattle.model.specs.declared.Seat.{Seat}
 use Rattle.model.specs.declared.Account.{Account}
 use Rattle.model.specs.declared.Transfer.{Transfer}
-use Rattle.model.specs.Types.{Slot}
-use Rattle.model.specs.Types.{AckSlot, Entry}
+use Rattle.model.specs.Types.{Slot, AckSlot, Entry}
 use Rattle.model.specs.Basics.{bit}
 use Rattle.model.specs.Records.{seat_of}
 use Rattle.model.specs.Acks.{holds, acks_for, acks_recorded, must_propose}

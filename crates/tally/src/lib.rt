@@ -100,7 +100,8 @@ pub struct Leader {
 // more acks; on a tie the leader.
 fn better(words: &Book, best: Leader, t: Transfer, s: Seat) -> Leader
     requires { s.0 < 16 }
-    ensures { result ≡ leader_of (entry_in words.now t.account).acks t.number best (ack_from (entry_in words.now t.account) s) }
+    ensures { result
+        ≡ leader_of (entry_in words.now t.account).acks t.number best (ack_from (entry_in words.now t.account) s) }
 {
     match ack_from(words, t.account, s, t.number) {
         None => best,

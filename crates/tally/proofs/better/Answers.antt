@@ -9,8 +9,7 @@ use borrow.Author.Tests.{lt-ltb, le-ltb}
 use Rattle.model.specs.declared.Seat.{Seat}
 use Rattle.model.specs.declared.Account.{Account}
 use Rattle.model.specs.declared.Transfer.{Transfer}
-use Rattle.model.specs.Types.{Slot}
-use Rattle.model.specs.Types.{Entry}
+use Rattle.model.specs.Types.{Slot, Entry}
 use Rattle.model.specs.Acks.{acks_for}
 use Rattle.model.specs.Refusals.{ack_from}
 use Rattle.laws.proofs.Sums.{impossible}

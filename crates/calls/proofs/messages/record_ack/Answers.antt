@@ -13,11 +13,10 @@ use Rattle.model.specs.declared.Reply.{Reply}
 use Rattle.model.specs.declared.Reply.TheVariants.{Refuse}
 use Rattle.model.specs.Records.{with_ack, with_entry}
 use Rattle.model.specs.Acks.{acks_for, enough}
-use Rattle.model.specs.Refusals.{first_refusal}
+use Rattle.model.specs.Refusals.{first_refusal, check_of}
 use Rattle.model.specs.Calls.{tallied, finished, rules_in}
 use Rattle.layout.specs.Layout.{ledger_in, entry_in}
 use Rattle.layout.proofs.Entries.{acks_length}
-use Rattle.model.specs.Refusals.{check_of}
 use Rattle.basics.proofs.ReadBack.{passed}
 use Rattle.store.specs.Stores.{AckStored}
 use Rattle.tally.specs.declared.Tally.{Tally}

@@ -17,7 +17,7 @@ use Rattle.model.specs.declared.Seat.{Seat}
 use Rattle.model.specs.declared.Account.{Account}
 use Rattle.model.specs.declared.Transfer.{Transfer}
 use Rattle.model.specs.Types.{AckSlot, Entry}
-use Rattle.model.specs.Records.{account_of, entry_of, with_entry, with_entries, with_balance, with_acked, with_ack, with_proposed, with_pending, with_retained_as, with_retained_proposed}
+use Rattle.model.specs.Records.{account_of, entry_of, with_entry, with_entries, with_ack, with_pending, with_retained_as}
 use Rattle.model.specs.Refusals.{ack_from}
 use Rattle.laws.proofs.Sums.{impossible}
 use Rattle.layout.specs.Layout.{block_words, group_place, book_words, Block, block, current_place, as_read, mark, slot_by, ack_in, table_from, up_to, entry_by, entries_in, ledger_in}
@@ -54,24 +54,6 @@ pub current_read : (ws : List ℕ) (a : Account) → (entry_of (ledger_in ws) a)
 unfolding entry_by
 current_read ws a = ap (λ e. e.current) (entry_read ws a)
 
--- one word of a block
-module _ (a : ℕ) (w : Block) where
-  pub balance_put : (b : ℕ) → entry_by a (put w 0 b) ≡ with_balance (entry_by a w) b
-  unfolding entry_by
-  balance_put b = refl
-
-  pub acked_put : entry_by a (put w 2 1) ≡ with_acked (entry_by a w)
-  unfolding entry_by
-  acked_put = refl
-
-  pub proposed_put : entry_by a (put w 3 1) ≡ with_proposed (entry_by a w)
-  unfolding entry_by
-  proposed_put = refl
-
-  pub late_put : entry_by a (put w 42 1) ≡ with_retained_proposed (entry_by a w)
-  unfolding entry_by
-  late_put = refl
-
 -- the words of a slip are a place with that slip
 pub slip_by : (t : Transfer) → 0 < t.value → t.recipient.0 < 256 → slot_by t.account.0 t.value t.number t.recipient.0 ≡ Some t
 slip_by t v r = rw (ne_eqb t.value 0 (λ e. absurd (omega arith)), mod-eq_of_lt r)
@@ -94,12 +76,9 @@ ack_in_lem : (a : ℕ) (w : Block) (s : Seat) → s.0 < 16 → ack_from (entry_b
 unfolding entry_by
 ack_in_lem a w s h = ap (λ k. k.slot) (table_at (ack_in a w) 16 0 s.0 (record { slot = None }) h ∙ ap (ack_in a w) (omega arith))
 
-pub ack_read : (ws : List ℕ) (a : Account) (s : Seat) (value number recipient : ℕ) → s.0 < 16
-    → value ≡ as_read a.0 (block ws a.0) (7 + s.0) → recipient ≡ as_read a.0 (block ws a.0) (23 + s.0) → number ≡ (entry_of (ledger_in ws) a).current + 1
-    → slot_by a.0 value number recipient ≡ ack_from (entry_of (ledger_in ws) a) s
-ack_read ws a s value number recipient seat v r n =
-    let w = as_read a.0 (block ws a.0) in
-    rw (v, r, n, current_read ws a) (sym (ap (λ e. ack_from e s) (entry_read ws a) ∙ ack_in_lem a.0 w s seat))
+pub ack_read : (ws : List ℕ) (a : Account) (s : Seat) → s.0 < 16
+    → ack_from (entry_of (ledger_in ws) a) s ≡ (ack_in a.0 (as_read a.0 (block ws a.0)) s.0).slot
+ack_read ws a s seat = ap (λ e. ack_from e s) (entry_read ws a) ∙ ack_in_lem a.0 (as_read a.0 (block ws a.0)) s seat
 
 -- each of the 16 seats has a place, and an ack in it is of the account and its next number
 pub acks_length : (ws : List ℕ) (a : Account) → length (entry_of (ledger_in ws) a).acks ≡ 16

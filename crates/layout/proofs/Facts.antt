@@ -7,8 +7,7 @@ use mathlib.Core.List.{List, [], ◌∷◌, ◌++◌}
 use lib.ListN.{length, set, replicate}
 use Rattle.model.specs.declared.Message.{Message}
 use Rattle.model.specs.declared.Refusal.{Refusal}
-use Rattle.model.specs.Types.{Slot}
-use Rattle.model.specs.Types.{Entry, Ledger}
+use Rattle.model.specs.Types.{Slot, Entry, Ledger}
 use Rattle.model.specs.Records.{account_of, no_acks, no_ledger, with_none_retained, entry_of}
 use Rattle.model.specs.Switches.{since_request3, switched}
 use Rattle.model.specs.Calls.{step}

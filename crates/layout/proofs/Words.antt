@@ -11,8 +11,7 @@ use lib.ListN.{length, get_or}
 use borrow.Author.Tests.{lt-ltb, le-ltb, le-leb}
 use Rattle.model.specs.declared.Account.{Account}
 use Rattle.model.specs.declared.Transfer.{Transfer}
-use Rattle.model.specs.Types.{Slot}
-use Rattle.model.specs.Types.{Entry, Ledger}
+use Rattle.model.specs.Types.{Slot, Entry, Ledger}
 use Rattle.model.specs.Basics.{bit}
 use Rattle.model.specs.Records.{seat_of, account_of, fresh_entry, RetainsNothing, entry_of}
 use Rattle.model.specs.Refusals.{ack_from}

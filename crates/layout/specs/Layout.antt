@@ -3,9 +3,8 @@
 -- stands in its account's block, and its number is that account's next; a slip that was taken never has
 -- value 0, so a value of 0 is an empty place.
 use Rattle.std.specs.Prelude.{ℕ, zero, suc, ◌+◌, ◌*◌, ◌%◌, Bool, not, cond, List, [], ◌∷◌, eqb, leb, ltb, get_or, Some, None}
-use Rattle.model.specs.Types.{Slot}
+use Rattle.model.specs.Types.{Slot, AckSlot, Entry, Ledger}
 use Rattle.model.specs.declared.Account.{Account}
-use Rattle.model.specs.Types.{AckSlot, Entry, Ledger}
 use Rattle.model.specs.Records.{account_of, entry_of}
 
 -- The layout, by the names of the constants in src/lib.rt. Each of the 32 accounts has a block of so many words;

@@ -4,8 +4,7 @@ use Rattle.std.specs.Prelude.{ℕ, ◌+◌, ◌-◌, ◌*◌, ◌/◌, ◌%◌, 
 use Rattle.model.specs.declared.Seat.{Seat}
 use Rattle.model.specs.declared.Account.{Account}
 use Rattle.model.specs.declared.Transfer.{Transfer}
-use Rattle.model.specs.Types.{Slot}
-use Rattle.model.specs.Types.{Entry, Ledger}
+use Rattle.model.specs.Types.{Slot, Entry, Ledger}
 use Rattle.model.specs.Basics.{bit}
 use Rattle.model.specs.Records.{seat_of, account_of, RetainsNothing, entry_of}
 use Rattle.model.specs.Refusals.{ack_from}

@@ -4,3 +4,5 @@ pub mod Clearing
 pub mod Reading
 pub mod Taking
 pub mod Entering
+pub mod Storing
+mod Parts

@@ -1,13 +1,15 @@
 // The ledger's words, read and stored. No other crate computes where a thing stands in them. A public function asks for
-// a seat below 16 where it has one, and for nothing else. What it promises is said of the ledger that the words are; of a transfer that is stored, also of the words,
-// since a value of 0 is an empty place.
+// a seat below 16 where it has one, and for nothing else. What it promises is said of the ledger that the words are; of
+// a transfer that is stored, also of the words, since a value of 0 is an empty place. Each mark and each place has
+// functions of its own, since their contracts name a field of the entry; what they share is `word`, `put_word` and
+// `slot_of`.
 
-#![tactic(auto)]
+#![tactic(auto, using(crate::proofs::Storing::reads_and_stores), unfolding(layout::specs::Layout::ledger_in, layout::specs::Layout::entry_by))]
 
-ghost use Rattle.std.specs.Prelude.{◌≡◌, ◌+◌, ◌≤◌, ◌<◌, length};
+ghost use Rattle.std.specs.Prelude.{◌≡◌, ◌≤◌, ◌<◌};
 ghost use Rattle.model.specs.Records.{entry_of, with_entry, with_balance, with_acked, with_proposed, with_booked, with_retained_of, with_retained_proposed, with_none_retained, with_entries};
 ghost use Rattle.model.specs.Refusals.{ack_from};
-ghost use Rattle.layout.specs.Layout.{block_words, book_words, held_block_words, held_book_words, block, held_block, as_read, slot_by, up_to, ledger_in, entry_in, held_in};
+ghost use Rattle.layout.specs.Layout.{block_words, held_block_words, block, held_block, as_read, slot_by, up_to, ledger_in, entry_in, held_in};
 ghost use Rattle.layout.specs.Blocks.{put, Stores};
 ghost use Rattle.store.specs.Stores.{cleared, numbered, AckStored, PendingStored, RetainedStored, GroupStored, copied};
 
@@ -47,10 +49,9 @@ fn put_word(words: &mut Book, a: Account, at: usize, value: u32)
 fn up_to(limit: u8, value: u32) -> u8
     ensures { result ≡ up_to limit value }
 {
-    if value <= (limit as u32) {
-        value as u8
-    } else {
-        0
+    match u8::try_from(value) {
+        Ok(number) if number <= limit => number,
+        _ => 0,
     }
 }
 
@@ -202,30 +203,32 @@ pub fn put_ack(words: &mut Book, s: Seat, t: Transfer)
     ensures { AckStored words.old s t words.new }
 {
     let seat = s.0 as usize;
-    let recipient = t.recipient;
     put_word(words, t.account, ACK_VALUES + seat, t.value);
-    put_word(words, t.account, ACK_RECIPIENTS + seat, recipient.0 as u32);
+    put_word(
+        words,
+        t.account,
+        ACK_RECIPIENTS + seat,
+        t.recipient.0 as u32,
+    );
 }
 
 // An accepted transfer waits.
 pub fn put_pending(words: &mut Book, t: Transfer)
     ensures { PendingStored words.old t words.new }
 {
-    let recipient = t.recipient;
     put_word(words, t.account, PENDING_VALUE, t.value);
     put_word(words, t.account, PENDING_NUMBER, t.number);
-    put_word(words, t.account, PENDING_RECIPIENT, recipient.0 as u32);
+    put_word(words, t.account, PENDING_RECIPIENT, t.recipient.0 as u32);
 }
 
 // A transfer of the account's next number is retained, with the mark that this number has.
 pub fn put_retained(words: &mut Book, t: Transfer)
     ensures { RetainedStored words.old t words.new }
 {
-    let recipient = t.recipient;
     let proposed = word(words, t.account, PROPOSED);
     put_word(words, t.account, RETAINED_VALUE, t.value);
     put_word(words, t.account, RETAINED_NUMBER, t.number);
-    put_word(words, t.account, RETAINED_RECIPIENT, recipient.0 as u32);
+    put_word(words, t.account, RETAINED_RECIPIENT, t.recipient.0 as u32);
     put_word(words, t.account, RETAINED_PROPOSED, proposed);
 }
 
@@ -240,8 +243,10 @@ fn clear(words: &mut Book, a: Account, from: usize, to: usize)
     requires { (from ≤ to) × (to ≤ block_words) }
     ensures { Stores words.old a.0 (cleared (block words.old a.0) from to) words.new }
 {
-    for at in from..to {
-        put_word(words, a, at, 0);
+    let account = a.0 as usize;
+    if account < BLOCKS {
+        let start = account * BLOCK;
+        words[start + from..start + to].fill(0);
     }
 }
 
@@ -267,12 +272,10 @@ fn copy_block(held: &HeldBook, words: &mut Book, a: Account)
     ensures { Stores words.old a.0 (copied (held_block held.now a.0) (block words.old a.0) held_block_words) words.new }
 {
     let account = a.0 as usize;
-    if BLOCKS <= account {
-        return;
-    }
-    let start = account * HELD_BLOCK;
-    for at in 0..HELD_BLOCK {
-        put_word(words, a, at, held[start + at]);
+    if account < BLOCKS {
+        let from = account * HELD_BLOCK;
+        let to = account * BLOCK;
+        words[to..to + HELD_BLOCK].copy_from_slice(&held[from..from + HELD_BLOCK]);
     }
 }
 

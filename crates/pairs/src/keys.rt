@@ -18,7 +18,7 @@ pub struct Key {
     pub tail: u64,
 }
 
-// 2^48, the head of a page that is no ack: above the head of every ack.
+// 2^48, the head of a page that is no ack: above the head of every ack. An Option<Key> would be half as large again.
 const NO_HEAD: u64 = 281_474_976_710_656;
 
 // The key of no page.

@@ -1,6 +1,6 @@
 // The pairs of two bundles: a seat's acks of two transfers that conflict. They are found by an index over the second
 // bundle's pages, so that for an ack of the first only those of one bucket are looked at, and of those that follow one
-// another with the same keys one.
+// another with the same key one.
 
 #![tactic(auto)]
 

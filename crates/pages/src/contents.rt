@@ -2,7 +2,7 @@
 ghost use Rattle.std.specs.Prelude.{◌≡◌};
 ghost use Rattle.model.specs.Bundles.{entry_count, contents_at, body_length, page_of};
 
-use crate::numbers::{byte_at, number2_at, number4_at};
+use crate::numbers::{byte_at, number2_at, number4_at, rest_at};
 use model::ContentsEntry;
 
 // "Body lengths for kinds 0 to 5 are 131, 10, 10, 10, 10 and 1 bytes."
@@ -40,6 +40,6 @@ pub fn contents_at(bytes: &[u8], i: u16) -> ContentsEntry
 pub fn body(bytes: &[u8], c: ContentsEntry) -> &[u8]
     ensures { result.now ≡ (page_of bytes.now c).body }
 {
-    let rest = bytes.get(c.start as usize..).unwrap_or(&[]);
+    let rest = rest_at(bytes, c.start as usize);
     rest.get(..body_length(c.kind)).unwrap_or(rest)
 }

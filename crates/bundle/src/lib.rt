@@ -26,6 +26,7 @@ pub struct Read {
     pub next: Cursor,
 }
 
+// A refusal and the entry at fault.
 fn refused(refusal: Refusal, entry: u16) -> BundleError
     ensures { result ≡ record { refusal = refusal; entry = entry } }
 {

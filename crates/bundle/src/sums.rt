@@ -9,7 +9,8 @@ fn twice(s: u32) -> u32
     s.wrapping_add(s)
 }
 
-// 31 times a number, modulo 2^32: 32 times it, by doubling, less once.
+// 31 times a number, modulo 2^32: 32 times it, by doubling, less once. Document 01 wants it so, over wrapping add and
+// subtract.
 pub fn times_31(s: u32) -> u32
     ensures { result ≡ (31 * s) % 4_294_967_296 }
 {

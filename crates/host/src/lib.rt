@@ -62,7 +62,7 @@ pub fn ledger_open(words: &mut Book, page: &[u8]) -> u8
     ensures { ToldOpening words.old page.now result words.new }
 {
     match open_handed(words, page) {
-        Ok(()) => 0,
+        Ok(()) => 0, // opened
         Err(r) => u8::from(r),
     }
 }

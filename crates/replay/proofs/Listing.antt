@@ -16,7 +16,7 @@ use Rattle.layout.specs.Layout.{ledger_in}
 use Rattle.ledger.specs.Promises.{ListedBy, ListedAs}
 use Rattle.replay.specs.Text.{opening_page, opened}
 use Rattle.replay.specs.Promises.{opened_by, OpensBook, PlayedAll}
-use Rattle.replay.specs.Lists.{accounts_behind, refusal_behind, ListOf}
+use Rattle.replay.specs.Lists.{accounts_behind, bundle_refusal_or, sound_refusal, refusal_behind, ListOf}
 
 -- a list that meets a refusal tells it, and leaves the buffer
 refused_list : (q : Refusal) (accounts before : List ℕ) (r : ListReply) (after : List ℕ) → r ≡ Err q → after ≡ before → ListedBy (Some q) accounts before r after
@@ -30,7 +30,7 @@ list_played {before = before} {after = after} {r = r} l k same h = subst (λ (x 
 module _ (bytes before : List ℕ) where
   met_bundle : {e : BundleError} → check_bundle bytes ≡ Err e → refusal_behind bytes before ≡ Some e.refusal
   unfolding refusal_behind
-  met_bundle checked = rw checked refl
+  met_bundle checked = ap (bundle_refusal_or (sound_refusal bytes before)) checked
 
   met_opening : {m : ℕ} {q : Refusal} → check_bundle bytes ≡ Ok m → opened bytes ≡ Err q → refusal_behind bytes before ≡ Some q
   unfolding refusal_behind

@@ -19,7 +19,7 @@ use Rattle.model.specs.Gathering.{has_acked, gathered, ExactlyGathered}
 use Rattle.laws.proofs.Sums.{impossible}
 use Rattle.laws.proofs.Searches.{alone, all_more, all_few}
 use Rattle.laws.proofs.Gathering.{gathered_number, gathered_exactly}
-use Rattle.basics.proofs.Counting.{Counts, counts_none, counts_more, counts_all}
+use Rattle.basics.proofs.Counting.{Counts, counts_more, counts_all}
 use Rattle.tally.specs.declared.Tally.{Tally}
 use Rattle.tally.specs.Results.{in_array, tally_of, counted, seats_of}
 
@@ -68,9 +68,6 @@ module _ (t : Transfer) (acks : List AckSlot) where
     pub seats : y.gathered ≡ in_array (before i)
     pub number : y.equal ≡ length (before i)
     pub recorded : Counts (λ a. is_some a.slot) acks i y.recorded
-
-  pub gathers_none : SoFar 0 (record { gathered = replicate 16 (seat_of 0); equal = 0; recorded = 0 })
-  gathers_none = record { seats = refl; number = refl; recorded = counts_none }
 
   before_more : (i : ℕ) → before (i + 1) ≡ before i ++ alone (has_acked t acks i) i
   before_more i = rw (add-one i) (rw (zero-add i) at (all_more (has_acked t acks) i 0))

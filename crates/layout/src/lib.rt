@@ -23,9 +23,11 @@ pub const PENDING_NUMBER: usize = 5;
 
 pub const PENDING_RECIPIENT: usize = 6;
 // for each of 16 seats its ack for the next number: all values, then all recipients. A value of 0 is no ack,
+pub const PLACES: usize = 16;
+
 pub const ACK_VALUES: usize = 7;
 
-pub const ACK_RECIPIENTS: usize = 23;
+pub const ACK_RECIPIENTS: usize = ACK_VALUES + PLACES;
 // and the retained transfer, the latest that was accepted; where its value is 0, none is; and the mark: a
 // transfer was proposed for its number.
 pub const RETAINED_VALUE: usize = 39;

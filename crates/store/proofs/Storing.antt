@@ -1,18 +1,23 @@
 -- Words of an account's block, stored: what that makes of the account's entry.
-use Prim.Native.Nat.{ℕ, ◌+◌, ◌<◌}
+use Rattle.std.specs.Prelude.{None}
+use Prim.Native.Nat.{ℕ, ◌+◌, ◌<◌, ◌≤◌}
+use native.Mathlib.Omega.{arith}
 use mathlib.Core.Path.{◌≡◌, refl, ap, ◌∙◌}
 use mathlib.Core.List.{List}
+use lib.ListN.{length}
+use Rattle.std.proofs.lemmas.List.{get_or_past}
 use borrow.Author.Tests.{lt-ltb}
 use Rattle.model.specs.declared.Seat.{Seat}
 use Rattle.model.specs.declared.Account.{Account}
 use Rattle.model.specs.declared.Transfer.{Transfer}
+use Rattle.model.specs.Types.{AckSlot}
 use Rattle.model.specs.Refusals.{ack_from}
 use Rattle.model.specs.Records.{with_ack, with_pending, with_retained, no_acks, with_entry, with_balance, with_acked, with_proposed, with_booked, with_retained_proposed, with_none_retained}
 use Rattle.layout.specs.Layout.{block_words, Block, block, as_read, slot_by, entry_by, ledger_in, entry_in}
 use Rattle.layout.specs.Blocks.{put, Stores}
 pub use Rattle.layout.proofs.Blocks.{entry_read}
 use Rattle.layout.proofs.Blocks.{stored_more}
-use Rattle.layout.proofs.Entries.{entry_stored, entry_stored_at, current_in, ack_put, ack_read, pending_put, retained_put}
+use Rattle.layout.proofs.Entries.{acks_length, entry_stored, entry_stored_at, current_in, ack_put, ack_read, pending_put, retained_put}
 pub use Rattle.layout.proofs.Entries.{group_put}
 use Rattle.store.specs.Stores.{cleared, numbered, AckStored, PendingStored, RetainedStored}
 use Rattle.store.proofs.Reading.{numbered_slot}
@@ -101,6 +106,12 @@ ack_told ws a s n seat =
     let w : Block = as_read a.0 (block ws a.0) in
     ap (numbered n) (ack_read ws a s seat) ∙ numbered_slot a.0 (w (7 + s.0)) (w 1 + 1) n (w (23 + s.0))
 
+-- behind the last seat's place there is none
+pub no_ack_behind : (ws : List ℕ) (a : Account) (s : Seat) (n : ℕ) → 16 ≤ s.0 → numbered n (ack_from (entry_in ws a) s) ≡ None
+no_ack_behind ws a s n behind =
+    let past : length (entry_in ws a).acks ≤ s.0 = omega (arith, acks_length ws a, behind) in
+    ap (λ (k : AckSlot). numbered n k.slot) (get_or_past (entry_in ws a).acks s.0 (record { slot = None }) past)
+
 pub ruleset reads_and_stores = (
   entry_read,
   balance_stored,
@@ -110,6 +121,7 @@ pub ruleset reads_and_stores = (
   none_retained_stored,
   booked_stored,
   ack_told,
+  no_ack_behind,
   ack_stored,
   pending_stored,
   retained_stored,

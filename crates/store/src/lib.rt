@@ -16,7 +16,7 @@ ghost use Rattle.store.specs.Stores.{cleared, numbered, AckStored, PendingStored
 use layout::{
     ACCOUNTS, ACK_RECIPIENTS, ACK_VALUES, ACKED, BALANCE, BLOCK, BLOCKS, Book, CURRENT, FAULTS,
     HELD_ACCOUNTS, HELD_BLOCK, HELD_FAULTS, HELD_SEATS, HELD_TOTAL, HeldBook, PENDING_NUMBER,
-    PENDING_RECIPIENT, PENDING_VALUE, PROPOSED, RETAINED_NUMBER, RETAINED_PROPOSED,
+    PENDING_RECIPIENT, PENDING_VALUE, PLACES, PROPOSED, RETAINED_NUMBER, RETAINED_PROPOSED,
     RETAINED_RECIPIENT, RETAINED_VALUE, SEATS, TOTAL,
 };
 use model::{Account, Seat, Transfer};
@@ -165,12 +165,14 @@ pub fn is_retained_proposed(words: &Book, a: Account) -> bool
 }
 
 // A seat's ack for the account's next number, if any is recorded, told with a number: the
-// next, as the caller has found it.
+// next, as the caller has found it. There is no place behind the 16th.
 pub fn ack_from(words: &Book, a: Account, s: Seat, next: u32) -> Option<Transfer>
-    requires { s.0 < 16 }
     ensures { result ≡ numbered next (ack_from (entry_in words.now a) s) }
 {
     let seat = s.0 as usize;
+    if PLACES <= seat {
+        return None;
+    }
     slot_of(
         a,
         word(words, a, ACK_VALUES + seat),

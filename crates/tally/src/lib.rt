@@ -99,7 +99,6 @@ pub struct Leader {
 // Of the leader and the transfer that a seat acked for t's account, if any, told with t's number, the one with
 // more acks; on a tie the leader.
 fn better(words: &Book, best: Leader, t: Transfer, s: Seat) -> Leader
-    requires { s.0 < 16 }
     ensures { result
         ≡ leader_of (entry_in words.now t.account).acks t.number best (ack_from (entry_in words.now t.account) s) }
 {

@@ -1,9 +1,6 @@
 -- Laws that the proofs of the crates above share.
 pub mod Loops
-pub mod Filling
 pub mod Counting
 pub mod ReadBack
 pub mod Writing
-pub mod Arrays
-pub mod Comparing
 pub mod Searching

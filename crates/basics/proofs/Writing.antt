@@ -6,7 +6,7 @@ use native.Mathlib.Numerals.{add-one}
 use native.Mathlib.Omega.{arith}
 use mathlib.Core.Path.{◌≡◌, refl, ap, sym, ◌∙◌}
 use mathlib.Core.Bool.{Bool, true, false, cond}
-use mathlib.Core.List.{List, [], ◌∷◌, ◌++◌, append-nil, append_assoc}
+use mathlib.Core.List.{List, [], ◌∷◌, ◌++◌, append_assoc}
 use lib.Dec.{ltb}
 use lib.ListN.{length, set, drop, take, length-append, length-set}
 use lib.Seq.{sets, sets-eq}
@@ -92,18 +92,11 @@ pub record Pieces (before : Output) (all left : List ℕ) (most : ℕ) (after : 
   pub goes_on : done ++ left ≡ all
   pub writes : Appends before done most after
 
-pub pieces_none : {before : Output} {all : List ℕ} → Pieces before all all 0 before
-pieces_none = record { done = []; goes_on = refl; writes = nothing }
-
-module _ {before mid : Output} {all : List ℕ} {most : ℕ} where
-  pub pieces_more : {after : Output} {n : ℕ} (piece left : List ℕ) → Pieces before all (piece ++ left) most mid → Appends mid piece n after
-      → Pieces before all left (most + n) after
-  pieces_more piece left so_far w =
-      record {
-        done = so_far.done ++ piece;
-        goes_on = append_assoc so_far.done piece left ∙ so_far.goes_on;
-        writes = then so_far.writes w;
-      }
-
-  pub pieces_all : Pieces before all [] most mid → Appends before all most mid
-  pieces_all so_far = instead so_far.writes (sym (append-nil so_far.done) ∙ so_far.goes_on)
+pub pieces_more : {before mid after : Output} {all : List ℕ} {most n : ℕ} (piece left : List ℕ) → Pieces before all (piece ++ left) most mid → Appends mid piece n after
+    → Pieces before all left (most + n) after
+pieces_more piece left so_far w =
+    record {
+      done = so_far.done ++ piece;
+      goes_on = append_assoc so_far.done piece left ∙ so_far.goes_on;
+      writes = then so_far.writes w;
+    }

@@ -1,7 +1,8 @@
 -- What is left at a turn is one number, and the others.
 use Rattle.std.proofs.Common.{ap, arith}
+use Rattle.std.proofs.lemmas.List.{drop_all}
 use Rattle.model.specs.Writing.{word_bytes}
-use Rattle.basics.proofs.Loops.{one_left, none_left}
+use Rattle.basics.proofs.Loops.{one_left}
 use Rattle.writer.proofs.Numbers.{number_bytes_4}
 use Rattle.writer.proofs.sinks.put_words.Goals as goal
 
@@ -14,5 +15,5 @@ loop-word-preserved g c = λ final rest.
 
 pub returns : goal.returns
 returns g c =
-    let none = ap word_bytes (none_left c.args.words.now c.loop-word.word-index c.loop-word-test.false) in
+    let none = ap word_bytes (drop_all c.loop-word.word-index c.args.words.now c.loop-word-test.false) in
     c.loop-word.invariant _ (rw none (g.met.S.Sink.nothing _))

@@ -11,6 +11,7 @@ pub fn same_number(t: Transfer, u: Transfer) -> bool
     t.account == u.account && t.number == u.number
 }
 
+// That `==` is document 01's "equal".
 #[tactic(auto, unfolding(model::specs::Transfers::equal))]
 pub fn is_equal(t: Transfer, u: Transfer) -> bool
     ensures { result ≡ equal t u }
@@ -18,9 +19,9 @@ pub fn is_equal(t: Transfer, u: Transfer) -> bool
     t == u
 }
 
-#[tactic(auto, unfolding(model::specs::Transfers::conflict, model::specs::Transfers::equal))]
+#[tactic(auto, unfolding(model::specs::Transfers::conflict))]
 pub fn in_conflict(t: Transfer, u: Transfer) -> bool
     ensures { result ≡ conflict t u }
 {
-    same_number(t, u) && t != u
+    same_number(t, u) && !is_equal(t, u)
 }

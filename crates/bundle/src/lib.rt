@@ -26,13 +26,6 @@ pub struct Read {
     pub next: Cursor,
 }
 
-// A refusal and the entry at fault.
-fn refused(refusal: Refusal, entry: u16) -> BundleError
-    ensures { result ≡ record { refusal = refusal; entry = entry } }
-{
-    BundleError { refusal, entry }
-}
-
 // The check of a bundle: how many entries it has, or the refusal and the entry. Codes 13, 14, 15 and 16 in this
 // order, the lowest entry first.
 #[tactic(auto, unfolding(model::specs::Bundles::check_bundle))]
@@ -40,14 +33,14 @@ pub fn check(bytes: &[u8]) -> Result<u16, BundleError>
     ensures { CheckedAs bytes.now result }
 {
     if is_bad_header(bytes) {
-        return Err(refused(Refusal::BadHeader, 0));
+        return Err(BundleError::new(Refusal::BadHeader, 0));
     }
-    let end = walk_contents(bytes).map_err(|i| refused(Refusal::BadContents, i))?;
+    let end = walk_contents(bytes).map_err(|i| BundleError::new(Refusal::BadContents, i))?;
     if bytes.len() != end as usize {
-        return Err(refused(Refusal::BadEnd, 0));
+        return Err(BundleError::new(Refusal::BadEnd, 0));
     }
     match first_wrong_sum(bytes) {
-        Some(i) => Err(refused(Refusal::BadSum, i)),
+        Some(i) => Err(BundleError::new(Refusal::BadSum, i)),
         None => Ok(entry_count(bytes)),
     }
 }

@@ -43,7 +43,8 @@ answered : (before : List ℕ) (m : Message) (r : Reply) (after : List ℕ) → 
 answered before m r after reply ledger kept =
     record { reply = reply; letter = ap letter_of reply; values = ap values_of reply; ledger = ledger; kept = kept }
 
--- A message that brings no late P, whose rules were tried: refused with the words as they were, or served by its effect.
+-- A message that brings no late P, whose rules were tried: refused with the words as they were, or served by its
+-- effect.
 module _ (ws : List ℕ) (m : Message) (in_time : late_in (ledger_in ws) m ≡ false) where
   abbrev rules : List Rule
   rules = rules_in (ledger_in ws) m

@@ -5,8 +5,8 @@ use Rattle.model.specs.Replies.{code_of}
 use Rattle.model.specs.Bundles.{opening_of}
 use Rattle.writer.specs.Promises.{WroteRecords}
 
--- how many entries a sound bundle has, which is at most 1,000, or how long a bundle is that is written, which is at most
--- 18,123 (`short` in what the writer promises); or the refusal and its entry: 65,536 times the code, and the entry
+-- how many entries a sound bundle has, which is at most 1,000, or how long a bundle is that is written, which is at
+-- most 18,123 (`short` in what the writer promises); or the refusal and its entry: 65,536 times the code, and the entry
 abbrev pub number_of_bundle : BundleReply → ℕ
 number_of_bundle (Ok n) = n
 number_of_bundle (Err e) = 65_536 * code_of e.refusal + e.entry

@@ -202,7 +202,8 @@ pub fn daybook_waiting(bytes: &[u8], list: &mut [u8]) -> u32
     number_of(list_after(bytes, list))
 }
 
-// A reply about a bundle as one number: how many entries it has, or its length; or 65,536 times the code, and the entry.
+// A reply about a bundle as one number: how many entries it has, or its length; or 65,536 times the code, and the
+// entry.
 fn number_of_bundle(reply: Result<u32, BundleError>) -> u32
     ensures { result ≡ number_of_bundle reply }
 {

@@ -4,7 +4,6 @@ use Rattle.std.specs.Prelude.{Option, Some, None, option_map}
 use Prim.Native.Nat.{ℕ, zero, suc, ◌+◌}
 use mathlib.Core.Path.{◌≡◌, refl, ap, sym, ◌∙◌}
 use mathlib.Core.List.{List, [], ◌∷◌, map}
-use mathlib.Core.Option
 use lib.ListN.{length, set, get_or-map, length-map}
 use Rattle.laws.specs.Types.{Account, Slot, Entry}
 use Rattle.model.specs.Basics.{bit, first_where}

@@ -5,7 +5,7 @@ use native.Mathlib.Nat.{le_of_suc-le-suc, not-suc-le-zero}
 use native.Mathlib.Decide.{ℕ_discrete}
 use native.Mathlib.Omega.{arith}
 use mathlib.Core.Path.{◌≡◌, refl, ap, sym, ◌∙◌}
-use mathlib.Core.Bool.{Bool, true, false, not, ◌&&◌, ◌||◌, and-false, or-true}
+use mathlib.Core.Bool.{Bool, true, false, not, ◌&&◌, ◌||◌, or-true}
 use mathlib.Core.List.{List, [], ◌∷◌, map}
 use lib.Dec.{eqb}
 use lib.ListN.{length, get_or, take, set}
@@ -191,10 +191,3 @@ same_sound (x ∷ xs) (y ∷ ys) h =
 pub same_refl : (a : List ℕ) → same a a ≡ true
 same_refl [] = refl
 same_refl (x ∷ xs) = rw (eq-eqb x x refl) (same_refl xs)
-
--- lists of different lengths do not pass it
-pub same_lengths : (a b : List ℕ) → (length a ≡ length b → ⊥) → same a b ≡ false
-same_lengths [] [] differ = absurd (differ refl)
-same_lengths [] (y ∷ ys) differ = refl
-same_lengths (x ∷ xs) [] differ = refl
-same_lengths (x ∷ xs) (y ∷ ys) differ = rw (same_lengths xs ys (λ h. differ (ap suc h))) (and-false (eqb x y))

@@ -1,5 +1,6 @@
 // The types of the credit ledger's calls and of its bundles, with the documents' numbers and letters of them. What they
-// mean is said in specs/, and what a ledger is too: no code holds one. A comment names document 01's word where ours is another.
+// mean is said in specs/, and what a ledger is too: no code holds one. A comment names document 01's word where ours is
+// another.
 
 #![tactic(auto)]
 
@@ -151,6 +152,16 @@ pub struct ContentsEntry {
 pub struct BundleError {
     pub refusal: Refusal,
     pub entry: u16,
+}
+
+impl BundleError {
+    ghost use Rattle.std.specs.Prelude.{◌≡◌};
+
+    pub fn new(refusal: Refusal, entry: u16) -> BundleError
+        ensures { result ≡ record { refusal = refusal; entry = entry } }
+    {
+        BundleError { refusal, entry }
+    }
 }
 
 // Which of two bundles.

@@ -35,7 +35,7 @@ fn open_bundle(bytes: &[u8]) -> Result<Book, BundleError>
     let mut words = [0; BOOK_WORDS];
     match open(&mut words, opening_of(opening_body(bytes))) {
         Ok(()) => Ok(words),
-        Err(refusal) => Err(BundleError { refusal, entry: 0 }),
+        Err(refusal) => Err(BundleError::new(refusal, 0)),
     }
 }
 

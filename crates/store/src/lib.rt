@@ -1,8 +1,8 @@
-// The ledger's words, read and stored. No other crate computes where a thing stands in them. A public function asks for
-// a seat below 16 where it has one, and for nothing else. What it promises is said of the ledger that the words are; of
-// a transfer that is stored, also of the words, since a value of 0 is an empty place. Each mark and each place has
-// functions of its own, since their contracts name a field of the entry; what they share is `word`, `put_word` and
-// `slot_of`.
+// The ledger's words, read and stored. No other crate computes where a thing stands in them. A public function asks
+// for nothing, but that an ack which is stored is of a seat below 16. What it promises is said of the ledger that the
+// words are; of a transfer that is stored, also of the words, since a value of 0 is an empty place. Each mark and each
+// place has functions of its own, since their contracts name a field of the entry; what they share is `word`,
+// `put_word` and `slot_of`.
 
 #![tactic(auto, using(crate::proofs::Storing::reads_and_stores), unfolding(layout::specs::Layout::ledger_in, layout::specs::Layout::entry_by))]
 

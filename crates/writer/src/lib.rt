@@ -94,19 +94,13 @@ pub fn write(page: Opening, messages: &[Message], out: &mut [u8]) -> Result<u32,
     ensures { WroteList page messages.now out.old result out.new }
 {
     if MOST_MESSAGES < messages.len() {
-        return Err(refused(Refusal::TooManyMessages, 0));
+        return Err(BundleError::new(Refusal::TooManyMessages, 0));
     }
     let bundle = Bundle { page, messages };
     let size = bundle.size();
     if out.len() < size {
-        return Err(refused(Refusal::NoRoom, 0));
+        return Err(BundleError::new(Refusal::NoRoom, 0));
     }
     bundle.put(&mut Output::new(out));
     Ok(size as u32)
-}
-
-fn refused(refusal: Refusal, entry: u16) -> BundleError
-    ensures { result ≡ record { refusal = refusal; entry = entry } }
-{
-    BundleError { refusal, entry }
 }

@@ -5,7 +5,7 @@ ghost use Rattle.model.specs.Bundles.{message_or, wrong_page};
 ghost use Rattle.writer.specs.Promises.{WroteRecords};
 ghost use Rattle.writer.specs.RecordLists.{page_in, record_message};
 
-use crate::{MOST_MESSAGES, refused, write};
+use crate::{MOST_MESSAGES, write};
 use bundle::checks::is_wrong_entry;
 use model::{Account, BundleError, ContentsEntry, Message, Opening, Refusal};
 use pages::messages::message_from;
@@ -71,13 +71,13 @@ pub fn write_records(page: Opening, records: &[u8], out: &mut [u8]) -> Result<u3
     let (records, piece) = records.as_chunks::<RECORD_SIZE>();
     let count = records.len();
     if MOST_MESSAGES < count {
-        return Err(refused(Refusal::TooManyMessages, 0));
+        return Err(BundleError::new(Refusal::TooManyMessages, 0));
     }
     if let Some(i) = first_wrong(records) {
-        return Err(refused(Refusal::BadContents, i as u16 + 1));
+        return Err(BundleError::new(Refusal::BadContents, i as u16 + 1));
     }
     if !piece.is_empty() {
-        return Err(refused(Refusal::BadEnd, 0));
+        return Err(BundleError::new(Refusal::BadEnd, 0));
     }
     write(page, &messages_in(records)[..count], out)
 }

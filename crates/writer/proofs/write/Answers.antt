@@ -8,4 +8,4 @@ returns c =
     let size = c.size-size.ensures in
     let few = c.if-messages-gt-MOST_MESSAGES.false in
     let room = rw size at c.if-out-size.false in
-    rw size (all_written (length c.args.messages.now) few room c.new.ensures.content c.put.ensures (search rules))
+    rw size (all_written (length c.args.messages.now) few room c.new-2.ensures.content c.put.ensures (search rules))

@@ -1,4 +1,5 @@
-// The kinds of pages, by their numbers in a bundle.
+// The kinds of pages, by their numbers in a bundle. An entry of the contents holds the bare number, since a bundle that
+// is not sound may have any.
 
 #[derive(Clone, Copy, PartialEq, Eq)]
 pub enum Kind {

@@ -23,37 +23,61 @@ use Rattle.store.specs.Stores.{cleared, numbered, AckStored, PendingStored, Reta
 use Rattle.store.proofs.Reading.{numbered_slot}
 pub use Rattle.store.proofs.Taking.{entry_taken, group_taken}
 
+-- a word of a block, or a part of it, is put: what that makes of its entry
+module _ (a : ℕ) (w : Block) where
+  pub balance_put : (b : ℕ) → entry_by a (put w 0 b) ≡ with_balance (entry_by a w) b
+  unfolding entry_by
+  balance_put b = refl
+
+  pub acked_put : entry_by a (put w 2 1) ≡ with_acked (entry_by a w)
+  unfolding entry_by
+  acked_put = refl
+
+  pub proposed_put : entry_by a (put w 3 1) ≡ with_proposed (entry_by a w)
+  unfolding entry_by
+  proposed_put = refl
+
+  pub late_put : entry_by a (put w 42 1) ≡ with_retained_proposed (entry_by a w)
+  unfolding entry_by
+  late_put = refl
+
+  pub none_retained_put : entry_by a (cleared w 39 block_words) ≡ with_none_retained (entry_by a w)
+  unfolding entry_by
+  none_retained_put = refl
+
+  -- all but the balance and what is retained is cleared, and then the number is put
+  pub booked_put : (number : ℕ) → entry_by a (put (cleared w 1 39) 1 number) ≡ with_booked (entry_by a w) number
+  unfolding no_acks entry_by
+  booked_put number = refl
+
 module _ (ws after : List ℕ) (a : Account) where
+  abbrev was : Block
+  was = block ws a.0
+
   pub balance_stored : (b : ℕ) → Stores ws a.0 (put (block ws a.0) 0 b) after
       → ledger_in after ≡ with_entry (ledger_in ws) a (with_balance (entry_in ws a) b)
-  unfolding entry_by
-  balance_stored b c = entry_stored ws after a _ (λ e. with_balance e b) c refl
+  balance_stored b c = entry_stored ws after a _ (λ e. with_balance e b) c (balance_put a.0 was b)
 
   pub acked_stored : Stores ws a.0 (put (block ws a.0) 2 1) after
       → ledger_in after ≡ with_entry (ledger_in ws) a (with_acked (entry_in ws a))
-  unfolding entry_by
-  acked_stored c = entry_stored ws after a _ with_acked c refl
+  acked_stored c = entry_stored ws after a _ with_acked c (acked_put a.0 was)
 
   pub proposed_stored : Stores ws a.0 (put (block ws a.0) 3 1) after
       → ledger_in after ≡ with_entry (ledger_in ws) a (with_proposed (entry_in ws a))
-  unfolding entry_by
-  proposed_stored c = entry_stored ws after a _ with_proposed c refl
+  proposed_stored c = entry_stored ws after a _ with_proposed c (proposed_put a.0 was)
 
   pub late_stored : Stores ws a.0 (put (block ws a.0) 42 1) after
       → ledger_in after ≡ with_entry (ledger_in ws) a (with_retained_proposed (entry_in ws a))
-  unfolding entry_by
-  late_stored c = entry_stored ws after a _ with_retained_proposed c refl
+  late_stored c = entry_stored ws after a _ with_retained_proposed c (late_put a.0 was)
 
   pub none_retained_stored : Stores ws a.0 (cleared (block ws a.0) 39 block_words) after
       → ledger_in after ≡ with_entry (ledger_in ws) a (with_none_retained (entry_in ws a))
-  unfolding entry_by
-  none_retained_stored c = entry_stored ws after a _ with_none_retained c refl
+  none_retained_stored c = entry_stored ws after a _ with_none_retained c (none_retained_put a.0 was)
 
   pub booked_stored : (mid : List ℕ) (number : ℕ) → Stores ws a.0 (cleared (block ws a.0) 1 39) mid → Stores mid a.0 (put (block mid a.0) 1 number) after
       → ledger_in after ≡ with_entry (ledger_in ws) a (with_booked (entry_in ws a) number)
-  unfolding no_acks entry_by
   booked_stored mid number c d =
-      entry_stored ws after a _ (λ e. with_booked e number) (stored_more (cleared (block ws a.0) 1 39) 1 number c d) refl
+      entry_stored ws after a _ (λ e. with_booked e number) (stored_more (cleared was 1 39) 1 number c d) (booked_put a.0 was number)
 
 -- a slip's words, stored one after another
 module _ (ws after : List ℕ) (t : Transfer) (byte : t.recipient.0 < 256) where

@@ -88,7 +88,7 @@ module _ (acks : List AckSlot) (number : ℕ) where
                 (leads seat v acked refl (no_more_next most (one_slip i u at (omega arith))) first)
 
     -- after the last seat it is the slip that is put forward
-    led_all : length acks ≤ i → Led i best → best.transfer ≡ with_number (most_acked acks) number
+    pub led_all : length acks ≤ i → Led i best → best.transfer ≡ with_number (most_acked acks) number
     unfolding has_most
     led_all all (nobody none is) =
         ap (λ (l : Leader). l.transfer) is

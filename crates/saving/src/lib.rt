@@ -4,16 +4,17 @@
 
 #![tactic(auto)]
 
-ghost use Rattle.std.specs.Prelude.{◌≡◌};
+ghost use Rattle.std.specs.Prelude.{◌≡◌, ◌≤◌, length, take};
 ghost use Rattle.model.specs.Bundles.{body_sum};
-ghost use Rattle.saving.specs.Saved.{summed, saved, load_reply, words_saved, LoadedAs};
+ghost use Rattle.basics.specs.Outputs.{Appends};
+ghost use Rattle.saving.specs.Saved.{sum_at, summed, saved, load_reply, words_saved, LoadedAs};
 
 use basics::output::Output;
 use bundle::sums::body_sum;
 use layout::{BOOK_WORDS, Book};
 use pages::numbers::number4_at;
 use std::array;
-use writer::sinks::{Sink, Sum, put_words};
+use writer::sinks::put_words;
 
 // The mark: the letters S, A, P, L. As a number, since no call may make a constant.
 const MARK: u32 = 1_280_328_019;
@@ -38,21 +39,20 @@ pub enum LoadError {
 }
 
 // All before the sum: mark, format and words.
-fn put_summed<S: Sink>(to: &mut S, words: &Book)
-    ensures { S.takes to.old (summed words.now) to.new }
+fn put_summed(out: &mut Output, words: &Book)
+    ensures { Appends out.old (summed words.now) sum_at out.new }
 {
-    to.put_all(&MARK.to_le_bytes());
-    to.put_all(&FORMAT.to_le_bytes());
-    put_words(to, words);
+    out.put_all(&MARK.to_le_bytes());
+    out.put_all(&FORMAT.to_le_bytes());
+    put_words(out, words);
 }
 
-// The sum of it.
-fn sum_of(words: &Book) -> u32
-    ensures { result ≡ body_sum (summed words.now) }
+// The sum of it, as it stands in the buffer.
+fn sum_of(out: &Output) -> u32
+    requires { sum_at ≤ length out.now.buffer.now }
+    ensures { result ≡ body_sum (take sum_at out.now.buffer.now) }
 {
-    let mut sum = Sum(0);
-    put_summed(&mut sum, words);
-    sum.0
+    body_sum(&out.buffer[..SUM_AT])
 }
 
 // Saves a book: the buffer is the saved form, whatever it was.
@@ -61,7 +61,8 @@ pub fn save(words: &Book, out: &mut [u8; SAVED_SIZE])
 {
     let mut output = Output::new(out);
     put_summed(&mut output, words);
-    output.put_all(&sum_of(words).to_le_bytes());
+    let sum = sum_of(&output);
+    output.put_all(&sum.to_le_bytes());
 }
 
 // Whether the bytes are a saved book: mark, format, length and sum are tried in this order.

@@ -1,9 +1,12 @@
 -- Mark, format and words, one behind another.
+use Rattle.std.proofs.Common.{arith}
+use Rattle.basics.proofs.Writing.{bounded, then}
+use Rattle.saving.proofs.RoundTrips.{summed_length}
 use Rattle.saving.proofs.put_summed.Goals as goal
 
 pub returns : goal.returns
-returns g c =
-    let then = g.met.S.Sink.then in
+returns c =
     let mark = rw c.to_le_bytes.ensures at c.put_all.ensures in
     let format = rw c.to_le_bytes-2.ensures at c.put_all-2.ensures in
-    then _ _ _ _ _ mark (then _ _ _ _ _ format c.put_words.ensures)
+    let size = summed_length c.args.words.now (omega arith) in
+    bounded (then mark (then format c.put_words.ensures)) (omega (arith, size))

@@ -1,4 +1,5 @@
 -- The first point of demand 3: any two accepted slips with equal account and number are equal.
+use Rattle.std.proofs.lemmas.Bool.{and_parts}
 use Rattle.std.specs.Prelude.{Option, Some, None}
 use Prim.Native.Nat.{ℕ}
 use mathlib.Core.Path.{◌≡◌, refl, ap, sym, ◌∙◌}
@@ -18,7 +19,7 @@ use Rattle.agreement.proofs.Acked.{call_from}
 use Rattle.agreement.proofs.Votes.{Quorum, Majority, quorums_agree, quorum_proposed, accept_quorum, propose_majority}
 use Rattle.model.specs.Basics.{every}
 use Rattle.model.specs.Transfers.{same_number, equal, conflict}
-use Rattle.laws.proofs.Sums.{impossible, both}
+use Rattle.laws.proofs.Sums.{impossible}
 use Rattle.laws.proofs.Equality.{same_number_lem, number_same, equal_sound, equal_refl, Conflict, conflict_complete}
 
 -- the first ruling in a run that has a slip's account and number
@@ -80,11 +81,11 @@ proposals_all t u (r ▹ e) h = go (proposed e.call) refl (proposals_all t u r (
 founded_on : (t u : Transfer) (slips : List Transfer) → every (equal t) slips ≡ true → founded u slips ≡ true → u ≡ t
 founded_on t u [] all h = impossible (cc)
 founded_on t u (w ∷ ws) all h =
-    let parts = both (equal t w) (every (equal t) ws) all in
+    let parts = and_parts (equal t w) (every (equal t) ws) all in
     let first = equal_sound t w parts.0 in
     let agreeing : every (equal w) ws ≡ true = rw first at parts.1 in
     let ruling : every (equal u) (w ∷ ws) ≡ true = rw agreeing at h in
-    equal_sound u w (both (equal u w) (every (equal u) ws) ruling).0 ∙ sym first
+    equal_sound u w (and_parts (equal u w) (every (equal u) ws) ruling).0 ∙ sym first
 
 module _ (o : Opening) (bad : Seat → Bool) (run : Run) (opens : Opens o) (few : FewBad o bad) (obeys : Obeys o run) (kept : Premises o bad run) where
   -- an ack answered K: its slip has a quorum
@@ -132,7 +133,7 @@ module _ (o : Opening) (bad : Seat → Bool) (run : Run) (opens : Opens o) (few 
           record { account = sym account; number = sym number; differ = λ same. impossible (cc (other, equal_refl t, same)) } in
           let test : Event → Bool = λ x. passes (conflict u) (ruled x.call) in
           let found : ruled_otherwise u q ≡ true = happened_holds test first (rw ist (conflict_complete u t clash)) in
-          let parts = both (not (ruled_otherwise u q)) _ (ruling_rightful q d u w isu) in
+          let parts = and_parts (not (ruled_otherwise u q)) _ (ruling_rightful q d u w isu) in
           impossible (cc (parts.0, found))
 
   -- all rulings for one account and number carry the same slip
@@ -160,7 +161,7 @@ module _ (o : Opening) (bad : Seat → Bool) (run : Run) (opens : Opens o) (few 
       let same = rulings_agree q first.place d first.event u first.slip w first.within is first.rules alike.0 alike.1 in
       let right = ruling_rightful first.place first.event u first.within (first.rules ∙ ap Some (sym same)) in
       founded_on t u (proposals u first.place) (all_t first.place (before first.within) first.none_sooner)
-      (rw first.none_sooner at (both (not (ruled_otherwise u first.place)) _ right).1)
+      (rw first.none_sooner at (and_parts (not (ruled_otherwise u first.place)) _ right).1)
     where
       ruling : Event → Bool
       ruling e = passes (same_number u) (ruled e.call)

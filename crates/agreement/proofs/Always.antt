@@ -1,5 +1,6 @@
 -- What holds of every run that obeys the definitions, premises or not: the statement is `Always` in Facts.antt of the
 -- crate runs.
+use Rattle.std.proofs.lemmas.Bool.{and_parts}
 use Rattle.std.specs.Prelude.{Some, None}
 use Prim.Native.Nat.{◌+◌, ◌≤◌, ◌<◌}
 use native.Mathlib.Omega.{arith}
@@ -29,7 +30,7 @@ use Rattle.model.specs.Acks.{holds, acks_for, enough}
 use Rattle.model.specs.Basics.{bit}
 use Rattle.model.specs.Settling.{is_waiting, affordable, settle}
 use Rattle.model.specs.Switches.{Rules, since_request5, rank, switched, step_under}
-use Rattle.laws.proofs.Sums.{impossible, both, same_test, sum_set_same, sum_same_each}
+use Rattle.laws.proofs.Sums.{impossible, same_test, sum_set_same, sum_same_each}
 use Rattle.laws.proofs.Equality.{equal_sound, equal_refl}
 use Rattle.laws.proofs.Opened.{Group}
 use Rattle.laws.proofs.Steps.{Happens}
@@ -219,8 +220,8 @@ module _ (o : Opening) (opens : Opens o) (s : Seat) where
   ruled_accepted r obeys t h =
       let found = happened_found (λ e. same_seat e.at s && (passes (equal t) (ruled e.call) && taken e.call)) r h in
       let e = found.1 in
-      let parts = both (same_seat e.at s) _ found.3 in
-      let both_parts = both (passes (equal t) (ruled e.call)) (taken e.call) parts.1 in
+      let parts = and_parts (same_seat e.at s) _ found.3 in
+      let both_parts = and_parts (passes (equal t) (ruled e.call)) (taken e.call) parts.1 in
       let slip = that_slip t (ruled e.call) both_parts.0 in
       let place = obeys_before o obeys (before found.2) in
       let l = ledger_at o e.at found.0 in

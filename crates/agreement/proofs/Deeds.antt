@@ -1,8 +1,10 @@
 -- What a call did, read back: the call and the reply that "acks", "accepts", "puts forward" and "rules" stand for.
+use Rattle.std.proofs.lemmas.Option.{cond_some}
+use Rattle.std.proofs.lemmas.Bool.{and_parts, not-true}
 use Rattle.std.specs.Prelude.{Option, Some, None}
 use Prim.Native.Nat.{ℕ}
 use mathlib.Core.Path.{◌≡◌, refl, ap, sym}
-use mathlib.Core.Bool.{Bool, true, false, cond, not, ◌&&◌}
+use mathlib.Core.Bool.{Bool, true, false, not, ◌&&◌}
 use Rattle.laws.specs.Types.{Seat, Transfer, Message, Request, Circulated, Ack, Decision, Inquiry, Reply, Circulate, Acknowledge, Accept, Propose, Note, Balance, Refuse}
 use Rattle.runs.specs.Runs.{Call, message, waiting_list, switch, Event, Run, ◌▹◌, Within, happened, same_seat, is_acknowledge, is_accept, acked, accepted, proposed, passes}
 use Rattle.runs.proofs.Found.{happened_found, that_slip}
@@ -10,7 +12,7 @@ use Rattle.runs.specs.Undisputed.{too_early, brings}
 use Rattle.agreement.proofs.Places.{seat_is}
 use Rattle.agreement.proofs.Proposals.{carried}
 use Rattle.model.specs.Transfers.{equal}
-use Rattle.laws.proofs.Sums.{impossible, both, is_not}
+use Rattle.laws.proofs.Sums.{impossible}
 use Rattle.laws.proofs.Equality.{equal_sound}
 
 is_acknowledge_lem : (r : Reply) → is_acknowledge r ≡ true → r ≡ Acknowledge
@@ -31,16 +33,11 @@ is_accept_lem Note e = impossible (cc)
 is_accept_lem (Balance b) e = impossible (cc)
 is_accept_lem (Refuse q) e = impossible (cc)
 
--- a slip that is there only if a test holds
-only_if : (b : Bool) (t u : Transfer) → cond b (Some t) None ≡ Some u → (b ≡ true) × (t ≡ u)
-only_if true t u e = (refl, cc)
-only_if false t u e = impossible (cc)
-
 -- it acked t
 pub acked_is : (c : Call) (t : Transfer) → acked c ≡ Some t → c ≡ message (Circulated t) Acknowledge
 acked_is (message (Request u) r) t e = impossible (cc)
 acked_is (message (Circulated u) r) t e =
-    let found = only_if (is_acknowledge r) u t e in
+    let found = cond_some (is_acknowledge r) u t e in
     rw (is_acknowledge_lem r found.0, found.1) refl
 acked_is (message (Ack s u) r) t e = impossible (cc)
 acked_is (message (Decision u) r) t e = impossible (cc)
@@ -57,11 +54,11 @@ pub accepted_is : (c : Call) (t : Transfer) → accepted c ≡ Some t → Accept
 accepted_is (message (Request u) r) t e = impossible (cc)
 accepted_is (message (Circulated u) r) t e = impossible (cc)
 accepted_is (message (Ack s u) r) t e =
-    let found = only_if (is_accept r) u t e in
+    let found = cond_some (is_accept r) u t e in
     let reply = is_accept_lem r found.0 in
     by_ack s reply.0 (λ i. message (Ack s (found.1 i)) (reply.1 i))
 accepted_is (message (Decision u) r) t e =
-    let found = only_if (is_accept r) u t e in
+    let found = cond_some (is_accept r) u t e in
     let reply = is_accept_lem r found.0 in
     by_ruling reply.0 (λ i. message (Decision (found.1 i)) (reply.1 i))
 accepted_is (message (Inquiry a) r) t e = impossible (cc)
@@ -87,11 +84,11 @@ pub brings_is : (s : Seat) (t : Transfer) (c : Call) → brings s t c ≡ true �
 brings_is s t (message (Request u) r) e = impossible (cc)
 brings_is s t (message (Circulated u) r) e = impossible (cc)
 brings_is s t (message (Ack z u) r) e =
-    let parts = both (same_seat z s) (equal t u && not (too_early r)) e in
-    let rest = both (equal t u) (not (too_early r)) parts.1 in
+    let parts = and_parts (same_seat z s) (equal t u && not (too_early r)) e in
+    let rest = and_parts (equal t u) (not (too_early r)) parts.1 in
     let seat = seat_is z s parts.0 in
     let slip = sym (equal_sound t u rest.0) in
-    (r, λ i. message (Ack (seat i) (slip i)) r, is_not (too_early r) rest.1)
+    (r, λ i. message (Ack (seat i) (slip i)) r, not-true (too_early r) rest.1)
 brings_is s t (message (Decision u) r) e = impossible (cc)
 brings_is s t (message (Inquiry a) r) e = impossible (cc)
 brings_is s t (waiting_list before r after) e = impossible (cc)
@@ -109,5 +106,5 @@ pub deed_found : (did : Call → Option Transfer) (s : Seat) (t : Transfer) (r :
 deed_found did s t r h =
     let found = happened_found (λ e. same_seat e.at s && passes (equal t) (did e.call)) r h in
     let e = found.1 in
-    let parts = both (same_seat e.at s) (passes (equal t) (did e.call)) found.3 in
+    let parts = and_parts (same_seat e.at s) (passes (equal t) (did e.call)) found.3 in
     (found.0, e, found.2, seat_is e.at s parts.0, that_slip t (did e.call) parts.1)

@@ -6,12 +6,13 @@ use mathlib.Core.Bool.{Bool, true, false, cond, or-true}
 use borrow.Author.Tests.{eq-eqb, eqb-true}
 use Prim.Native.Nat.{ℕ}
 use mathlib.Core.List.{List}
+use Rattle.std.proofs.lemmas.Bool.{and_parts}
 use Rattle.laws.specs.Types.{Seat, Ledger, Opening, Message, Reply, ListReply}
 use Rattle.runs.specs.Runs.{Call, message, waiting_list, switch, Event, Run, start, ◌▹◌, Within, at_end, sooner, happened, throughout, same_seat, rules_after, rules_at, next_ledger, ledger_at, MayReply, Conforms, Obeys}
 use Rattle.runs.proofs.Found.{happened_found}
 use Rattle.model.specs.Records.{seat_of, fresh_ledger}
 use Rattle.model.specs.Switches.{Rules, next_rules, switched, step_under}
-use Rattle.laws.proofs.Sums.{impossible, both}
+use Rattle.laws.proofs.Sums.{impossible}
 
 -- the rules under which each seat started; and the start is a place
 abbrev pub started_under : Run → Seat → Rules
@@ -75,8 +76,8 @@ happened_later test {p} w h = let found = happened_found test p h in happened_ho
 
 -- a test that each event passes
 pub throughout_at : (test : Run → Event → Bool) {p r : Run} {e : Event} → throughout test r ≡ true → Within (p ▹ e) r → test p e ≡ true
-throughout_at test {p} {e = e} h at_end = (both (throughout test p) (test p e) h).1
-throughout_at test h (sooner {r = r} {e = d} w) = throughout_at test (both (throughout test r) (test r d) h).0 w
+throughout_at test {p} {e = e} h at_end = (and_parts (throughout test p) (test p e) h).1
+throughout_at test h (sooner {r = r} {e = d} w) = throughout_at test (and_parts (throughout test r) (test r d) h).0 w
 
 -- a run that obeys, obeys at each place
 pub obeys_before : (o : Opening) {p r : Run} → Obeys o r → Within p r → Obeys o p

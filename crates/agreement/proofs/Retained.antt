@@ -1,5 +1,6 @@
 -- What a seat retains, and what it puts forward: under the rules since request 5 the latest accepted slip, before them
 -- nothing; and at most one slip, one time, for an account and number.
+use Rattle.std.proofs.lemmas.Bool.{and_parts}
 use Rattle.std.specs.Prelude.{Some, None}
 use Prim.Native.Nat.{ℕ, ◌+◌, ◌≤◌, ◌<◌}
 use native.Mathlib.Omega.{arith}
@@ -22,7 +23,7 @@ use Rattle.model.specs.Records.{with_balance, with_proposed, with_retained_propo
 use Rattle.model.specs.Settling.{is_waiting}
 use Rattle.model.specs.Switches.{Rules, first_rules, since_request3, since_request5, rank, next_rules, retains_from, switched}
 use Rattle.model.specs.Transfers.{same_number}
-use Rattle.laws.proofs.Sums.{impossible, both, same_test}
+use Rattle.laws.proofs.Sums.{impossible, same_test}
 use Rattle.laws.proofs.Equality.{same_number_lem, number_same, conflict_sound}
 use Rattle.laws.proofs.Access.{with_entry_same}
 use Rattle.laws.proofs.Booking.{SameButBalance, Cleared}
@@ -524,7 +525,7 @@ module _ (o : Opening) (opens : Opens o) (s : Seat) where
   was_for : (r : Run) → Obeys o r → (t : Transfer) → proposed_for s t r ≡ true → UsedUp t.number (rules_at s r) (entry_of (ledger_at o s r) t.account)
   was_for r obeys t h =
       let found = happened_found (puts_for s t) r h in
-      let parts = both (same_seat found.1.at s) (passes (same_number t) (proposed found.1.call)) found.3 in
+      let parts = and_parts (same_seat found.1.at s) (passes (same_number t) (proposed found.1.call)) found.3 in
       let slip = passes_is (same_number t) (proposed found.1.call) parts.1 in
       let alike = number_same t slip.0 slip.2 in
       moved slip.0 alike.0 alike.1

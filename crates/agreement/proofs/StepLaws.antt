@@ -1,6 +1,7 @@
 -- The laws of a step that the proofs about runs use, and all of them: what a call puts into an account's entry
 -- (`each_entry`), what it does to balances, current numbers and waiting slips (`turn`), and what its reply means
 -- (`answer_acknowledge` and so on). Later definitions of a step prove these again, and the rest stays.
+use Rattle.std.proofs.lemmas.Bool.{and_parts, not-true}
 use Rattle.std.specs.Prelude.{Some, None}
 use Prim.Native.Nat.{◌-◌, ◌*◌, ◌<◌, ◌≤◌, ℕ, ◌+◌}
 use native.Mathlib.Omega.{arith}
@@ -23,7 +24,7 @@ use Rattle.model.specs.Refusals.{first_refusal, out_of_range, waits_already, ack
 use Rattle.model.specs.Settling.{settle}
 use Rattle.model.specs.Calls.{late_in, rules_in}
 use Rattle.model.specs.Switches.{Rules, first_rules, since_request3, since_request5, switched, rules_met, late_met, step_under}
-use Rattle.laws.proofs.Sums.{impossible, some_counted, both, is_not}
+use Rattle.laws.proofs.Sums.{impossible, some_counted}
 use Rattle.laws.proofs.Equality.{same_number_lem, equal_sound, equal_refl, Conflict, conflict_sound}
 use Rattle.laws.proofs.Access.{entry_set_same, set_each, with_entry_same}
 use Rattle.laws.proofs.Tallies.{most_sound}
@@ -87,15 +88,15 @@ pub record Proposes (l : Ledger) (m : Message) (u : Transfer) (next : Ledger) : 
 
 -- "nothing was put forward for this number"
 none_yet : (n f recorded : ℕ) (x : Entry) → must_propose n f recorded x ≡ true → x.proposed ≡ false
-none_yet n f recorded x must = is_not x.proposed (both (leb (n - f) recorded && two_conflict x.acks) (not x.proposed) must).1
+none_yet n f recorded x must = not-true x.proposed (and_parts (leb (n - f) recorded && two_conflict x.acks) (not x.proposed) must).1
 
 -- "at least n - f seats' acks are recorded"
 n_f_recorded : (l : Ledger) (x : Entry) → must_propose l.seats l.faults (acks_recorded x.acks) x ≡ true
     → l.seats ≤ acks_recorded x.acks + l.faults
 n_f_recorded l x must =
     let enough_acks = leb (l.seats - l.faults) (acks_recorded x.acks) in
-    let parts = both (enough_acks && two_conflict x.acks) (not x.proposed) must in
-    let least = leb-true (l.seats - l.faults) (acks_recorded x.acks) (both enough_acks (two_conflict x.acks) parts.0).0 in
+    let parts = and_parts (enough_acks && two_conflict x.acks) (not x.proposed) must in
+    let least = leb-true (l.seats - l.faults) (acks_recorded x.acks) (and_parts enough_acks (two_conflict x.acks) parts.0).0 in
     omega arith
 
 -- from what happened

@@ -1,6 +1,7 @@
 -- The paper's Theorem 1: the statement is `Theorem1` in Undisputed.antt of the crate runs. What every honest seat
 -- acked is accepted wherever all their acks arrived, and no other slip with its account and number is put forward or
 -- accepted.
+use Rattle.std.proofs.lemmas.Bool.{and_parts}
 use Rattle.std.specs.Prelude.{Some, None}
 use Prim.Native.Nat.{ℕ, zero, suc, ◌+◌, ◌*◌, ◌≤◌, ◌<◌}
 use native.Mathlib.Decide.{dec_le}
@@ -33,7 +34,7 @@ use Rattle.model.specs.Transfers.{equal}
 use Rattle.model.specs.Acks.{holds, conflicts, acks_for, enough}
 use Rattle.model.specs.Refusals.{out_of_range, waits_already, ack_from}
 use Rattle.model.specs.Switches.{Rules, switched, step_under}
-use Rattle.laws.proofs.Sums.{impossible, both}
+use Rattle.laws.proofs.Sums.{impossible}
 use Rattle.laws.proofs.Equality.{number_same, equal_sound, equal_refl, Conflict, conflict_sound}
 use Rattle.laws.proofs.Switching.{switched_keeps}
 use Rattle.laws.proofs.Refusing.{refusal_keeps}
@@ -178,7 +179,7 @@ module _ (o : Opening) (bad : Seat → Bool) (run : Run) (opens : Opens o) (few 
 
         go : AckRefused l s t x → Arrived s t e
         go (unknown_seat_lem above) =
-            absurd (omega (arith, ok.seats_same, ltb-true s.0 o.seats (both (ltb s.0 o.seats) (not (bad s)) fair).0))
+            absurd (omega (arith, ok.seats_same, ltb-true s.0 o.seats (and_parts (ltb s.0 o.seats) (not (bad s)) fair).0))
         go (out_of_range_lem is) = impossible (cc ((acked_eligible s fair).1 l ok, is))
         go (past_number_lem is) = inl (inl is)
         go (future_number_lem is) = impossible (cc (late, is))
@@ -269,7 +270,7 @@ module _ (o : Opening) (bad : Seat → Bool) (run : Run) (opens : Opens o) (few 
         arrived s fairly =
             let found = happened_found (λ d. same_seat d.at z && brings s t d.call) p (all s fairly) in
             let d = found.1 in
-            let parts = both (same_seat d.at z) (brings s t d.call) found.3 in
+            let parts = and_parts (same_seat d.at z) (brings s t d.call) found.3 in
             let ack = brings_is s t d.call parts.1 in
             stays_arrived z s here found.2
             (arrives found.0 d z s ack.0 (within_trans found.2 w) fairly (seat_is d.at z parts.0) ack.1 ack.2)

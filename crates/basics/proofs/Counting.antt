@@ -7,9 +7,8 @@ use mathlib.Core.Path.{◌≡◌, refl, ap, sym, ◌∙◌}
 use mathlib.Core.Bool.{Bool, true, false}
 use mathlib.Core.List.{List, [], ◌∷◌}
 use lib.ListN.{length, get_or, drop}
-use Rattle.std.proofs.lemmas.List.{drop_all}
+use Rattle.std.proofs.lemmas.List.{drop_all, at_drop_more}
 use Rattle.model.specs.Basics.{bit, count, every, first_where}
-use Rattle.basics.proofs.Loops.{sum_left}
 
 module _ {A : Type 0} (p : A → Bool) (xs : List A) where
   -- n is the count of the elements before i that pass the test
@@ -26,7 +25,7 @@ module _ {A : Type 0} {p : A → Bool} {xs : List A} {i : ℕ} where
     counts_more {n} c =
         record {
           few = go (p (get_or xs i d));
-          rest = omega (arith, sum_left xs i d h (λ x. bit (p x)));
+          rest = omega (arith, at_drop_more (count p) xs i d h);
         }
       where
         go : (b : Bool) → n + bit b ≤ i + 1

@@ -1,5 +1,4 @@
 -- Laws that the proofs of the crates above share.
-pub mod Loops
 pub mod Counting
 pub mod ReadBack
 pub mod Writing

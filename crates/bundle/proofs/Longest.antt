@@ -1,6 +1,7 @@
 -- A sound bundle has at most 18,123 bytes, 2 + 8 × 1,000 + 131 + 999 × 10: m is at most 1,000, entry 0 alone has a body
 -- of 131 bytes, every other at most 10, and the bundle ends with its last body. So the first 18,124 bytes of an input,
 -- however long it is, have the check of the whole.
+use Rattle.std.proofs.lemmas.Bool.{and_parts, not-false, or_parts}
 use Rattle.std.proofs.Common.{◌≡◌, ℕ, zero, suc, ◌+◌, ◌*◌, ◌<◌, ◌≤◌, Bool, true, false, not, ◌&&◌, ◌||◌, eqb, ltb, leb, List, [], ◌∷◌, length, get_or, take, drop, sym, refl, ap, ◌∙◌, inl, inr, arith, length-take-le, take_all, get_or-take, ltb-false, le-ltb, ne_eqb, eqb-true, leb-true, Option, Some, None, Ok}
 use native.Mathlib.Decide.{dec_le}
 use lib.Dec.{eqb-suc-zero}
@@ -10,13 +11,13 @@ use Rattle.model.specs.Types.{BundleReply, refused_at}
 use Rattle.model.specs.Basics.{every}
 use Rattle.model.specs.Bundles.{number_at, entry_count, contents_at, body_lengths, body_length, start_at, bad_count, bad_header, misplaced, wrong_entry, first_bad_entry, bad_end, wrong_sum_at, first_bad_sum, of_whole, first_fault, check_bundle}
 use Rattle.bundle.specs.Promises.{longest, RefusedEarly, LongRefused}
-use Rattle.laws.proofs.Sums.{impossible, both, neither, is_so, NotFound, first_none, same_found}
+use Rattle.laws.proofs.Sums.{impossible, NotFound, first_none, same_found}
 
 -- in a list of numbers of at most b, each is at most b
 pub at_most : (b : ℕ) (xs : List ℕ) (i : ℕ) → every (λ x. leb x b) xs ≡ true → get_or xs i 0 ≤ b
 at_most b [] i e = omega arith
-at_most b (x ∷ xs) zero e = leb-true x b (both (leb x b) (every (λ y. leb y b) xs) e).0
-at_most b (x ∷ xs) (suc i) e = at_most b xs i (both (leb x b) (every (λ y. leb y b) xs) e).1
+at_most b (x ∷ xs) zero e = leb-true x b (and_parts (leb x b) (every (λ y. leb y b) xs) e).0
+at_most b (x ∷ xs) (suc i) e = at_most b xs i (and_parts (leb x b) (every (λ y. leb y b) xs) e).1
 
 -- a body has at most 131 bytes
 pub body_any : (kind : ℕ) → body_length kind ≤ 131
@@ -24,7 +25,7 @@ body_any kind = at_most 131 body_lengths kind refl
 
 -- two numbers that do not differ
 pub no_difference : (a b : ℕ) → not (eqb a b) ≡ false → a ≡ b
-no_difference a b e = eqb-true a b (is_so (eqb a b) e)
+no_difference a b e = eqb-true a b (not-false (eqb a b) e)
 
 -- what an entry that is not wrong has: a kind, in its place, a seat only where there is one, and its start
 pub right_entry : (i start : ℕ) (c : ContentsEntry) → wrong_entry i start c ≡ false
@@ -34,9 +35,9 @@ pub right_entry : (i start : ℕ) (c : ContentsEntry) → wrong_entry i start c 
     × (c.start ≡ start)
 right_entry i start c e =
     let seat = not (eqb c.kind 3) && not (eqb c.seat 0) in
-    let three = neither (ltb 5 c.kind || misplaced i c.kind || seat) (not (eqb c.start start)) e in
-    let two = neither (ltb 5 c.kind || misplaced i c.kind) seat three.0 in
-    let one = neither (ltb 5 c.kind) (misplaced i c.kind) two.0 in
+    let three = or_parts (ltb 5 c.kind || misplaced i c.kind || seat) (not (eqb c.start start)) e in
+    let two = or_parts (ltb 5 c.kind || misplaced i c.kind) seat three.0 in
+    let one = or_parts (ltb 5 c.kind) (misplaced i c.kind) two.0 in
     (ltb-false 5 c.kind one.0, one.1, two.1, no_difference c.start start three.1)
 
 -- an entry after entry 0 that is not wrong has a kind from 1 to 5,
@@ -69,7 +70,7 @@ ends_by bytes (suc (suc i)) right =
 -- a count that is not refused
 count_right : (m : ℕ) → bad_count m ≡ false → (1 ≤ m) × (m ≤ 1_000)
 count_right m e =
-    let parts = neither (ltb m 1) (ltb 1_000 m) e in
+    let parts = or_parts (ltb m 1) (ltb 1_000 m) e in
     (ltb-false m 1 parts.0, ltb-false 1_000 m parts.1)
 
 -- The check of a longer bundle goes by its count and its first wrong entry alone: with neither at fault, it
@@ -145,8 +146,8 @@ module _ (bytes : List ℕ) (m : ℕ) (sound : check_bundle bytes ≡ Ok m) wher
   few_entries =
       let n = entry_count bytes in
       let same = sound_parts.0 in
-      let parts = neither (ltb (length bytes) 2 || bad_count n) (ltb (length bytes) (2 + 8 * n)) sound_parts.1 in
-      let few = count_right n (neither (ltb (length bytes) 2) (bad_count n) parts.0).1 in
+      let parts = or_parts (ltb (length bytes) 2 || bad_count n) (ltb (length bytes) (2 + 8 * n)) sound_parts.1 in
+      let few = count_right n (or_parts (ltb (length bytes) 2) (bad_count n) parts.0).1 in
       (same, omega arith, omega arith)
 
   -- none of these is wrong,

@@ -1,4 +1,5 @@
 -- What a slip has that its rules did not refuse: a place in the words, and what its place will tell of it.
+use Rattle.std.proofs.lemmas.Bool.{or_parts}
 use Rattle.std.specs.Prelude.{None}
 use Prim.Native.Nat.{ℕ, ◌+◌, ◌<◌}
 use native.Mathlib.Omega.{arith}
@@ -11,7 +12,6 @@ use Rattle.model.specs.declared.Seat.{Seat}
 use Rattle.model.specs.declared.Account.{Account}
 use Rattle.model.specs.declared.Transfer.{Transfer}
 use Rattle.model.specs.Refusals.{first_refusal, unknown_seat, unknown_account, out_of_range, past_number, future_number, transfer_rules, circulated_rules, ack_rules}
-use Rattle.laws.proofs.Sums.{neither}
 use Rattle.laws.proofs.Refusing.{none_holds, next_number_lem}
 use Rattle.layout.specs.Layout.{ledger_in, entry_in}
 use Rattle.layout.proofs.Ranges.{seats_fit, accounts_fit}
@@ -33,10 +33,10 @@ module _ (ws : List ℕ) (t : Transfer) where
   in_range inside =
       let l = ledger_in ws in
       let below = unknown_account l t.account || unknown_account l t.recipient in
-      let above = neither (below || eqb t.number 0 || eqb t.value 0) (ltb l.total t.value) inside in
-      let value = neither (below || eqb t.number 0) (eqb t.value 0) above.0 in
-      let number = neither below (eqb t.number 0) value.0 in
-      let accounts = neither (unknown_account l t.account) (unknown_account l t.recipient) number.0 in
+      let above = or_parts (below || eqb t.number 0 || eqb t.value 0) (ltb l.total t.value) inside in
+      let value = or_parts (below || eqb t.number 0) (eqb t.value 0) above.0 in
+      let number = or_parts below (eqb t.number 0) value.0 in
+      let accounts = or_parts (unknown_account l t.account) (unknown_account l t.recipient) number.0 in
       record { account = account_place ws t.account accounts.0; value = omega (arith, eqb-false t.value 0 value.1) }
 
   -- A slip that 5 to 8 do not refuse: its account has a place, it has a value, and its number is the next.

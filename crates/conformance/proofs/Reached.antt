@@ -1,5 +1,6 @@
 -- Every ledger that a run reaches can be told by its places: what stands in it passed the rules, so it has
 -- a value and a known recipient.
+use Rattle.std.proofs.lemmas.Bool.{or_parts}
 use Rattle.std.specs.Prelude.{Some}
 use Prim.Native.Nat.{◌<◌}
 use native.Mathlib.Omega.{arith}
@@ -18,7 +19,7 @@ use Rattle.model.specs.Records.{with_balance, entry_of}
 use Rattle.model.specs.Acks.{ack_at}
 use Rattle.model.specs.Switches.{Rules}
 use Rattle.model.specs.Refusals.{ack_from, unknown_account}
-use Rattle.laws.proofs.Sums.{impossible, neither}
+use Rattle.laws.proofs.Sums.{impossible}
 use Rattle.laws.proofs.Opened.{Group}
 use Rattle.laws.proofs.Booking.{SameButBalance, Cleared}
 use Rattle.laws.proofs.Switching.{takes_over, switched_entry, takes_over_keeps, takes_over_from}
@@ -49,8 +50,8 @@ module _ (o : Opening) (opens : Opens o) where
   eligible_moves : (l : Ledger) (t : Transfer) → Sound o l → Eligible l t → Moves t
   eligible_moves l t ok fit =
       let accounts = unknown_account l t.account || unknown_account l t.recipient in
-      let below = neither (accounts || eqb t.number 0 || eqb t.value 0) (ltb l.total t.value) fit.in_range in
-      let value = neither (accounts || eqb t.number 0) (eqb t.value 0) below.0 in
+      let below = or_parts (accounts || eqb t.number 0 || eqb t.value 0) (ltb l.total t.value) fit.in_range in
+      let value = or_parts (accounts || eqb t.number 0) (eqb t.value 0) below.0 in
       (omega (arith, eqb-false t.value 0 value.1), omega (arith, fit.recipient_known, ok.accounts_same, (group o opens).accounts_fit))
 
   module _ (l : Ledger) (ok : Sound o l) (old : (a : Account) → AllMove (entry_of l a)) where

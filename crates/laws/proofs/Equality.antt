@@ -4,9 +4,10 @@ use mathlib.Core.Path.{◌≡◌, refl, ap}
 use mathlib.Core.Bool.{Bool, true, false, not, ◌&&◌}
 use lib.Dec.{eqb}
 use borrow.Author.Tests.{eqb-true, eq-eqb}
+use Rattle.std.proofs.lemmas.Bool.{and_parts}
 use Rattle.laws.specs.Types.{Account, Transfer}
 use Rattle.model.specs.Transfers.{same_number, equal, conflict}
-use Rattle.laws.proofs.Sums.{impossible, both}
+use Rattle.laws.proofs.Sums.{impossible}
 
 same_account_lem : (a b : Account) → eqb a.0 b.0 ≡ true → a ≡ b
 same_account_lem a b e = let n : a.0 ≡ b.0 = eqb-true _ _ e in ap (λ (m : ℕ). let c : Account = record { 0 = m } in c) n
@@ -18,15 +19,15 @@ same_number_lem t u account number =
 
 pub number_same : (t u : Transfer) → same_number t u ≡ true → (t.account ≡ u.account) × (t.number ≡ u.number)
 number_same t u h =
-    let parts = both (eqb t.account.0 u.account.0) (eqb t.number u.number) h in
+    let parts = and_parts (eqb t.account.0 u.account.0) (eqb t.number u.number) h in
     (same_account_lem t.account u.account parts.0, eqb-true t.number u.number parts.1)
 
 -- slips that pass the test are equal
 pub equal_sound : (t u : Transfer) → equal t u ≡ true → t ≡ u
 unfolding equal
 equal_sound t u e =
-    let four = both (same_number t u && eqb t.value u.value) (eqb t.recipient.0 u.recipient.0) e in
-    let three = both (same_number t u) (eqb t.value u.value) four.0 in
+    let four = and_parts (same_number t u && eqb t.value u.value) (eqb t.recipient.0 u.recipient.0) e in
+    let three = and_parts (same_number t u) (eqb t.value u.value) four.0 in
     let two = number_same t u three.0 in
     let value = eqb-true t.value u.value three.1 in
     let recipient = same_account_lem t.recipient u.recipient four.1 in
@@ -72,8 +73,8 @@ pub record Conflict (t u : Transfer) : Type 0 where
 pub conflict_sound : (t u : Transfer) → conflict t u ≡ true → Conflict t u
 unfolding conflict
 conflict_sound t u e =
-    let parts = both (same_number t u) (not (equal t u)) e in
-    let two = both (eqb t.account.0 u.account.0) (eqb t.number u.number) parts.0 in
+    let parts = and_parts (same_number t u) (not (equal t u)) e in
+    let two = and_parts (eqb t.account.0 u.account.0) (eqb t.number u.number) parts.0 in
     record {
       account = same_account_lem t.account u.account two.0;
       number = eqb-true t.number u.number two.1;

@@ -1,4 +1,5 @@
 -- What the join finds: the statements are in JoinClaims.antt of specs/.
+use Rattle.std.proofs.lemmas.Bool.{and_parts}
 use Rattle.std.proofs.lemmas.Option.{same_Some}
 use Rattle.model.specs.declared.FoundPair.{FoundPair}
 use Rattle.model.specs.Types.{join_refused, found_pair, no_pair}
@@ -18,7 +19,7 @@ use Rattle.model.specs.Bundles.{entry_count, Page, page_at, unless_fault, faults
 use Rattle.model.specs.Transfers.{equal, conflict}
 use Rattle.model.specs.Joins.{seats_of, is_ack, seat_on, slip_on, conflicting_acks, is_pair, Pair, partner_of, earliest, with_partner, earliest_pair, shown_by, answer_of, page_faults, evidence, shown_body}
 use Rattle.laws.specs.JoinClaims.{Before, Without, FindsOne, Finds, FoundRight, NotRefused, NoneExactly}
-use Rattle.laws.proofs.Sums.{impossible, both, Found, first_found, first_none, same_sound, same_refl}
+use Rattle.laws.proofs.Sums.{impossible, Found, first_found, first_none, same_sound, same_refl}
 use Rattle.laws.proofs.Faults.{faultless, passes, stands}
 use Rattle.laws.proofs.Equality.{equal_sound, equal_refl, Conflict, conflict_sound, conflict_complete}
 
@@ -97,10 +98,10 @@ pub record Acks (n : ℕ) (p q : Page) : Type 0 where
 
 pub acks_sound : (n : ℕ) (p q : Page) → conflicting_acks n p q ≡ true → Acks n p q
 acks_sound n p q e =
-    let five = both (is_ack p && is_ack q && eqb p.seat q.seat && ltb p.seat n) (conflict (slip_on p) (slip_on q)) e in
-    let four = both (is_ack p && is_ack q && eqb p.seat q.seat) (ltb p.seat n) five.0 in
-    let three = both (is_ack p && is_ack q) (eqb p.seat q.seat) four.0 in
-    let two = both (is_ack p) (is_ack q) three.0 in
+    let five = and_parts (is_ack p && is_ack q && eqb p.seat q.seat && ltb p.seat n) (conflict (slip_on p) (slip_on q)) e in
+    let four = and_parts (is_ack p && is_ack q && eqb p.seat q.seat) (ltb p.seat n) five.0 in
+    let three = and_parts (is_ack p && is_ack q) (eqb p.seat q.seat) four.0 in
+    let two = and_parts (is_ack p) (is_ack q) three.0 in
     record {
       p_ack = two.0;
       q_ack = two.1;

@@ -1,4 +1,5 @@
 -- What an opening page that is not refused has, and the ledger that it leaves.
+use Rattle.std.proofs.lemmas.Bool.{or_parts}
 use Rattle.std.specs.Prelude.{Option, Some, None, Ok}
 use Prim.Native.Nat.{ℕ, zero, suc, ◌+◌, ◌-◌, ◌*◌, ◌≤◌, ◌<◌}
 use native.Mathlib.Omega.{arith}
@@ -14,7 +15,7 @@ use Rattle.model.specs.Basics.{any, sum_of}
 use Rattle.model.specs.Records.{fresh_ledger}
 use Rattle.model.specs.Refusals.{first_refusal, check_of}
 use Rattle.model.specs.Openings.{open_rules, open_reply, open_ledger_by, open_ledger}
-use Rattle.laws.proofs.Sums.{impossible, any_none, neither}
+use Rattle.laws.proofs.Sums.{impossible, any_none}
 use Rattle.laws.proofs.Refusing.{none_holds}
 
 pub record Group (o : Opening) : Type 0 where
@@ -44,11 +45,11 @@ opened_group o opens = go (first_refusal (open_rules o)) refl opens
     go : (q : Option Refusal) → first_refusal (open_rules o) ≡ q → check_of q ≡ Ok tt → Group o
     go None e h =
         let fail = none_holds (open_rules o) e in
-        let seats = neither (ltb o.seats 1 || ltb 16 o.seats) (leb o.seats (5 * o.faults)) fail.0 in
-        let size = neither (ltb o.seats 1) (ltb 16 o.seats) seats.0 in
+        let seats = or_parts (ltb o.seats 1 || ltb 16 o.seats) (leb o.seats (5 * o.faults)) fail.0 in
+        let size = or_parts (ltb o.seats 1) (ltb 16 o.seats) seats.0 in
         let some_else = any (λ b. not (eqb b 0)) (drop o.accounts o.balances) in
-        let page = neither (ltb o.accounts 1 || ltb 32 o.accounts) some_else fail.1.0 in
-        let accounts = neither (ltb o.accounts 1) (ltb 32 o.accounts) page.0 in
+        let page = or_parts (ltb o.accounts 1 || ltb 32 o.accounts) some_else fail.1.0 in
+        let accounts = or_parts (ltb o.accounts 1) (ltb 32 o.accounts) page.0 in
         record {
           seats_fit = ltb-false 16 o.seats size.1;
           few_faults = omega (arith, leb-false o.seats (5 * o.faults) seats.1);

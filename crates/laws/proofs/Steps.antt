@@ -1,5 +1,6 @@
 -- What a call does, as one case per outcome with its evidence, for every set of rules, ledger and message. Proofs about
 -- runs use `happens` and the laws after it in place of the definitions' text.
+use Rattle.std.proofs.lemmas.Bool.{and_parts, not-true, or_parts}
 use Rattle.std.specs.Prelude.{Option, Some, None}
 use Prim.Native.Nat.{ℕ, ◌+◌, ◌<◌}
 use native.Mathlib.Omega.{arith}
@@ -18,7 +19,7 @@ use Rattle.model.specs.Acks.{holds, conflicts, slip_in, acks_for, acks_recorded,
 use Rattle.model.specs.Settling.{Settled, settle}
 use Rattle.model.specs.Calls.{payer_of, Due, replied, accepts, waits, effect, must_join, finished_by, entry_for, rules_in}
 use Rattle.model.specs.Switches.{Rules, first_rules, since_request3, since_request5, without_code, rules_met, late_met, effect_under, step_under}
-use Rattle.laws.proofs.Sums.{impossible, both, neither, is_not}
+use Rattle.laws.proofs.Sums.{impossible}
 use Rattle.laws.proofs.Proposals.{most_acked_most}
 use Rattle.laws.proofs.Access.{SameButRetained, SameGroup, with_entries_lem, with_entry_read}
 use Rattle.laws.proofs.Refusing.{AllFail, none_holds, next_number_lem, due_under, replies_under, effect_in, joins_in, by_tally, refuses, not_refused, late_since, joins_in_lem}
@@ -37,9 +38,9 @@ accounts_known l t range =
     let number = eqb t.number 0 in
     let value = eqb t.value 0 in
     let accounts = unknown_account l t.account || unknown_account l t.recipient in
-    let four = neither (accounts || number || value) (ltb l.total t.value) range in
-    let three = neither (accounts || number) value four.0 in
-    let known = neither (unknown_account l t.account) (unknown_account l t.recipient) (neither accounts number three.0).0 in
+    let four = or_parts (accounts || number || value) (ltb l.total t.value) range in
+    let three = or_parts (accounts || number) value four.0 in
+    let known = or_parts (unknown_account l t.account) (unknown_account l t.recipient) (or_parts accounts number three.0).0 in
     (omega (arith, leb-false l.accounts t.account.0 known.0), omega (arith, leb-false l.accounts t.recipient.0 known.1))
 
 eligible : (l : Ledger) (t : Transfer)
@@ -209,9 +210,9 @@ pub joining : (l : Ledger) (s : Seat) (t : Transfer) → must_join l (entry_of l
     → Joining l s t (slip_in (entry_of l t.account).retained)
 joining l s t late =
     let e = entry_of l t.account in
-    let parts = both (not (unknown_seat l s || out_of_range l t)) (conflicts t e.retained && not e.retained_proposed) late in
-    let passed = neither (unknown_seat l s) (out_of_range l t) (is_not (unknown_seat l s || out_of_range l t) parts.0) in
-    let join = both (conflicts t e.retained) (not e.retained_proposed) parts.1 in
+    let parts = and_parts (not (unknown_seat l s || out_of_range l t)) (conflicts t e.retained && not e.retained_proposed) late in
+    let passed = or_parts (unknown_seat l s) (out_of_range l t) (not-true (unknown_seat l s || out_of_range l t) parts.0) in
+    let join = and_parts (conflicts t e.retained) (not e.retained_proposed) parts.1 in
     let held = in_place e.retained refl join.0 in
     record {
       seat_known = omega (arith, leb-false l.seats s.0 passed.0);
@@ -219,7 +220,7 @@ joining l s t late =
       account_known = (accounts_known l t passed.1).0;
       is_retained = held.0;
       conflicting = held.1;
-      nothing_proposed = is_not e.retained_proposed join.1;
+      nothing_proposed = not-true e.retained_proposed join.1;
     }
   where
     in_place : (p : Slot) → (entry_of l t.account).retained ≡ p → conflicts t p ≡ true → (p ≡ Some (slip_in p)) × (conflict (slip_in p) t ≡ true)

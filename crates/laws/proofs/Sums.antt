@@ -1,11 +1,12 @@
 -- Laws of sums, counts and searches.
+use Rattle.std.proofs.lemmas.Bool.{and_parts, or_parts}
 use Rattle.std.specs.Prelude.{Some, None}
 use Prim.Native.Nat.{ℕ, zero, suc, ◌+◌, ◌≤◌, ◌<◌}
 use native.Mathlib.Nat.{le_of_suc-le-suc, not-suc-le-zero}
 use native.Mathlib.Decide.{ℕ_discrete}
 use native.Mathlib.Omega.{arith}
 use mathlib.Core.Path.{◌≡◌, refl, ap, sym, ◌∙◌}
-use mathlib.Core.Bool.{Bool, true, false, not, ◌&&◌, ◌||◌, or-true}
+use mathlib.Core.Bool.{Bool, true, false, or-true}
 use mathlib.Core.List.{List, [], ◌∷◌, map}
 use lib.Dec.{eqb}
 use lib.ListN.{length, get_or, take, set}
@@ -87,30 +88,11 @@ some_counted p (x ∷ xs) d h = go (p x) refl (some_counted p xs d)
     go true e rest = (0, e)
     go false e rest = let found = rest (omega (arith, ap bit e)) in (suc found.0, found.1)
 
--- both parts of a test that passes
-pub both : (a b : Bool) → (a && b) ≡ true → (a ≡ true) × (b ≡ true)
-both true b e = (refl, e)
-both false b e = impossible (cc)
-
--- both parts of a test of either that fails
-pub neither : (a b : Bool) → (a || b) ≡ false → (a ≡ false) × (b ≡ false)
-neither true b e = impossible (cc)
-neither false b e = (refl, e)
-
--- a test that is turned round
-pub is_not : (b : Bool) → not b ≡ true → b ≡ false
-is_not true h = impossible (cc)
-is_not false h = refl
-
-pub is_so : (b : Bool) → not b ≡ false → b ≡ true
-is_so true h = refl
-is_so false h = impossible (cc)
-
 -- a test that no element passes, nor what is read behind the last
 pub any_none : {A : Type 0} (p : A → Bool) (xs : List A) (d : A) → any p xs ≡ false → p d ≡ false → (i : ℕ) → p (get_or xs i d) ≡ false
 any_none p [] d e last i = last
-any_none p (x ∷ xs) d e last zero = (neither (p x) (any p xs) e).0
-any_none p (x ∷ xs) d e last (suc i) = any_none p xs d (neither (p x) (any p xs) e).1 last i
+any_none p (x ∷ xs) d e last zero = (or_parts (p x) (any p xs) e).0
+any_none p (x ∷ xs) d e last (suc i) = any_none p xs d (or_parts (p x) (any p xs) e).1 last i
 
 -- a test that all elements pass, and another that each passes which passes the first
 pub every_all : {A : Type 0} (p : A → Bool) (xs : List A) → ((x : A) → p x ≡ true) → every p xs ≡ true
@@ -120,7 +102,7 @@ every_all p (x ∷ xs) h = rw (h x) (every_all p xs h)
 pub every_weaken : {A : Type 0} (p q : A → Bool) (xs : List A) → ((x : A) → p x ≡ true → q x ≡ true) → every p xs ≡ true → every q xs ≡ true
 every_weaken p q [] h e = refl
 every_weaken p q (x ∷ xs) h e =
-    let parts = both (p x) (every p xs) e in
+    let parts = and_parts (p x) (every p xs) e in
     rw (h x parts.0) (every_weaken p q xs h parts.1)
 
 -- What a search that found j says: j passes the test, is one of the `left` numbers from i on,
@@ -185,7 +167,7 @@ same_sound [] [] h = refl
 same_sound [] (y ∷ ys) h = impossible (cc)
 same_sound (x ∷ xs) [] h = impossible (cc)
 same_sound (x ∷ xs) (y ∷ ys) h =
-    let parts = both (eqb x y) (same xs ys) h in
+    let parts = and_parts (eqb x y) (same xs ys) h in
     ap (λ (z : ℕ). z ∷ xs) (eqb-true x y parts.0) ∙ ap (λ (zs : List ℕ). y ∷ zs) (same_sound xs ys parts.1)
 
 pub same_refl : (a : List ℕ) → same a a ≡ true

@@ -1,4 +1,5 @@
 -- Laws of the tally: what the tests for "a slip that has the most acks" and for "two of them conflict" say.
+use Rattle.std.proofs.lemmas.Bool.{and_parts}
 use Rattle.std.specs.Prelude.{Some, None}
 use Prim.Native.Nat.{ℕ, zero, suc, ◌≤◌, ◌<◌}
 use native.Mathlib.Omega.{arith}
@@ -12,7 +13,7 @@ use Rattle.laws.specs.Types.{Transfer, Slot, AckSlot}
 use Rattle.model.specs.Basics.{bit, every}
 use Rattle.model.specs.Transfers.{equal, conflict}
 use Rattle.model.specs.Acks.{ack_at, holds, conflicts, acks_for, conflicts_with_any, two_conflict, no_more_than, has_most}
-use Rattle.laws.proofs.Sums.{impossible, both, every_all, any_found, any_holds}
+use Rattle.laws.proofs.Sums.{impossible, every_all, any_found, any_holds}
 use Rattle.laws.proofs.Equality.{equal_sound}
 
 -- no slip has more of the acks
@@ -33,7 +34,7 @@ each_place : (c : ℕ) (acks places : List AckSlot) (v : Transfer)
     → every (λ a. no_more_than c acks a.slot) places ≡ true → (acks_for v places ≡ 0) ⊎ (acks_for v acks ≤ c)
 each_place c acks [] v e = inl refl
 each_place c acks (a ∷ rest) v e =
-    let parts = both (no_more_than c acks a.slot) (every (λ b. no_more_than c acks b.slot) rest) e in
+    let parts = and_parts (no_more_than c acks a.slot) (every (λ b. no_more_than c acks b.slot) rest) e in
     join (one_place c acks a.slot v parts.0) (each_place c acks rest v parts.1)
   where
     join : (bit (holds v a.slot) ≡ 0) ⊎ (acks_for v acks ≤ c) → (acks_for v rest ≡ 0) ⊎ (acks_for v acks ≤ c)

@@ -8,12 +8,13 @@ use mathlib.Core.List.{List}
 use lib.Dec.{ltb, eqb}
 use lib.ListN.{drop}
 use borrow.Author.Tests.{ltb-true, eqb-true, eqb-false, not-true, eq-eqb, ne_eqb}
+use Rattle.std.proofs.lemmas.Bool.{and_parts}
 use Rattle.model.specs.declared.Account.{Account}
 use Rattle.model.specs.declared.Transfer.{Transfer}
 use Rattle.model.specs.Bundles.{body_length, contents_at, Page, page_at}
 use Rattle.model.specs.Writing.{Bytes}
 use Rattle.model.specs.Joins.{is_ack, slip_on, conflicting_acks}
-use Rattle.laws.proofs.Sums.{same_test, both}
+use Rattle.laws.proofs.Sums.{same_test}
 use Rattle.laws.proofs.Access.{same_account_lem}
 use Rattle.laws.proofs.Joins.{acks_sound, acks_complete}
 use Rattle.laws.proofs.Numbers.{number_small, taken_bytes, dropped_bytes}
@@ -67,7 +68,7 @@ module _ (n : ℕ) (p q : Page) (small : Small p) (too : Small q) (ack : is_ack 
   -- .. of the same seat, and the slips conflict
   told_pair : told ≡ true → conflicting_acks n p q ≡ true
   told_pair e =
-      let parts = both (eqb (page_head q) (head_of p.seat (slip_on p))) (not (eqb (page_tail q) (tail_of (slip_on p)))) e in
+      let parts = and_parts (eqb (page_head q) (head_of p.seat (slip_on p))) (not (eqb (page_tail q) (tail_of (slip_on p)))) e in
       let heads = eqb-true (page_head q) (head_of p.seat (slip_on p)) parts.0 in
       let is : is_ack q ≡ true = told_ack heads (is_ack q) refl in
       let three = heads_same p.seat q.seat (slip_on p) (slip_on q) small.seat too.seat small.account too.account (rw is at heads) in

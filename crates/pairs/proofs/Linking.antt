@@ -1,4 +1,5 @@
 -- How the links are made, from the last entry to the first, and what a walk along them passes over.
+use Rattle.std.proofs.lemmas.Bool.{and_parts}
 use Rattle.std.proofs.Common.{◌≡◌, ℕ, zero, suc, ◌+◌, ◌-◌, ◌≤◌, ◌<◌, Bool, true, false, not, ◌&&◌, List, length, get_or, set, length-set, replicate, Option, Some, None, IfSome, cond, eqb, refl, ap, sym, ◌∙◌, arith, eq-eqb, ne_eqb, get_or-set_same, get_or-set_other}
 use Rattle.std.proofs.lemmas.List.{get_or-replicate}
 use native.Mathlib.Nat.{add-zero, sub-zero, mod-lt}
@@ -7,7 +8,7 @@ use mathlib.Core.Bool.{and-false}
 use lib.Dec.{lit<}
 use borrow.Author.Tests.{eqb-true, eqb-false}
 use Rattle.model.specs.Basics.{first_where}
-use Rattle.laws.proofs.Sums.{impossible, both, Found, first_found, first_none}
+use Rattle.laws.proofs.Sums.{impossible, Found, first_found, first_none}
 use Rattle.pairs.specs.declared.keys.Key.{Key}
 use Rattle.pairs.specs.Keys.{key_at, meets}
 use Rattle.pairs.specs.Links.{bucket_of, in_bucket, same_key, follows, follower_of, lowest_from, Linked}
@@ -55,7 +56,7 @@ lowest_small p m i few (Some x) e = let found = first_found p (m - i) i x (sym e
 -- two keys that are the same
 same_key_lem : (a b : Key) → same_key a b ≡ true → a ≡ b
 same_key_lem a b e =
-    let parts = both (eqb a.head b.head) (eqb a.tail b.tail) e in
+    let parts = and_parts (eqb a.head b.head) (eqb a.tail b.tail) e in
     let heads : a.head ≡ b.head = eqb-true a.head b.head parts.0 in
     let tails : a.tail ≡ b.tail = eqb-true a.tail b.tail parts.1 in
     λ i. record { head = heads i; tail = tails i }
@@ -203,7 +204,7 @@ module _ (keys : List Key) (m : ℕ) (key : Key) where
         pub walk_goes : Walks keys m key (get_or followers j None)
         walk_goes =
             goes_to (follows keys j) (suc j) w.0 fails
-            (λ k h. rw same_bucket at (both (in_bucket keys (bucket_of (key_at keys j).head) k) (not (same_key (key_at keys j) (key_at keys k))) h).0)
+            (λ k h. rw same_bucket at (and_parts (in_bucket keys (bucket_of (key_at keys j).head) k) (not (same_key (key_at keys j) (key_at keys k))) h).0)
             (sym (one_on (meets keys key) m j w.0 ∙ rw no refl) ∙ w.2)
             (get_or followers j None) (s.nexts j (omega arith) w.0)
 

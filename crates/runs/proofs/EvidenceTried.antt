@@ -1,5 +1,6 @@
 -- The statement on evidence, tried: a run with a bad seat that is found, and one ack that no call of the run backs, by
 -- which an honest seat is. All is computed.
+use Rattle.std.proofs.lemmas.Bool.{not-false}
 use Rattle.model.specs.Types.{found_pair}
 use Rattle.std.specs.Prelude.{None}
 use Prim.Native.Nat.{ℕ}
@@ -22,7 +23,7 @@ use Rattle.model.specs.Joins.{is_ack, seat_on, slip_on, is_pair, partner_of, ear
 use Rattle.model.specs.Settling.{lowest_affordable, apply, settle_at_most, settle}
 use Rattle.model.specs.Switches.{step_under}
 use Rattle.model.proofs.Rows.{unruled, ack_by}
-use Rattle.laws.proofs.Sums.{impossible, first_none, is_so}
+use Rattle.laws.proofs.Sums.{impossible, first_none}
 
 -- t reaches seats 0 and 1, and u seat 2
 abbrev pub three_acked : Run
@@ -51,7 +52,7 @@ module _ (bytes : List ℕ) where
 
   none_forged : first_where (λ i. not (backed i)) (entry_count bytes) 0 ≡ None → Genuine page bad three_acked bytes
   none_forged e i below ack fair =
-      let holds = is_so (backed i) (first_none (λ k. not (backed k)) (entry_count bytes) 0 e i (omega arith) (omega (arith, below))) in
+      let holds = not-false (backed i) (first_none (λ k. not (backed k)) (entry_count bytes) 0 e i (omega arith) (omega (arith, below))) in
       rw (ack, fair) at holds
 
 pub one_genuine : Genuine page bad three_acked bundle_one

@@ -8,7 +8,7 @@ use Rattle.model.specs.declared.Message.{Message}
 use Rattle.model.specs.Writing.{message_page, entry_bytes, entry_for, contents_of}
 use Rattle.basics.specs.declared.output.Output.{Output}
 use Rattle.basics.specs.Outputs.{Appends}
-use Rattle.basics.proofs.Loops.{one_left}
+use Rattle.std.proofs.lemmas.List.{drop_more}
 use Rattle.basics.proofs.Writing.{bounded, Pieces, pieces_more}
 use Rattle.writer.specs.Promises.{entries_of, first_start, message_bodies}
 use Rattle.writer.proofs.Pages.{message_short}
@@ -32,7 +32,7 @@ module _ (messages : List Message) (i : ℕ) (d : Message) (inside : i < length 
       → Bodied messages before (i + 1) after
   bodied_more so_far written =
       let m = get_or messages i d in
-      let left = rw (one_left messages i d inside) at so_far in
+      let left = rw (drop_more messages i d inside) at so_far in
       let bytes : 10 * i + 10 ≡ 10 * (i + 1) = omega arith in
       rw bytes at (pieces_more (message_page m).body (message_bodies (drop (i + 1) messages)) left (bounded written (message_short m)))
 
@@ -43,7 +43,7 @@ module _ (messages : List Message) (i : ℕ) (d : Message) (inside : i < length 
       let m = get_or messages i d in
       let entry = entry_bytes (entry_for start (message_page m)) in
       let rest = entries_left messages (i + 1) (start + size) in
-      let turn : entries_left messages i start ≡ entry ++ rest = rw (one_left messages i d inside, own) in
+      let turn : entries_left messages i start ≡ entry ++ rest = rw (drop_more messages i d inside, own) in
       let bytes : 8 * i + 8 ≡ 8 * (i + 1) = omega arith in
       record {
         low = omega (arith, so_far.low, message_short m);

@@ -1,8 +1,7 @@
 -- What is left at a turn is one number, and the others.
 use Rattle.std.proofs.Common.{ap, arith}
-use Rattle.std.proofs.lemmas.List.{drop_all}
+use Rattle.std.proofs.lemmas.List.{drop_more, drop_all}
 use Rattle.model.specs.Writing.{word_bytes}
-use Rattle.basics.proofs.Loops.{one_left}
 use Rattle.writer.proofs.Numbers.{number_bytes_4}
 use Rattle.writer.proofs.sinks.put_words.Goals as goal
 
@@ -11,7 +10,7 @@ loop-word-preserved g c = λ final rest.
     let words = c.args.words.now in
     let i = c.loop-word.word-index in
     let word = rw (c.to_le_bytes.ensures, number_bytes_4) at c.put_all.ensures in
-    c.loop-word.invariant final (rw (one_left words i 0 (omega arith)) (g.met.S.Sink.then _ _ _ _ _ word rest))
+    c.loop-word.invariant final (rw (drop_more words i 0 (omega arith)) (g.met.S.Sink.then _ _ _ _ _ word rest))
 
 pub returns : goal.returns
 returns g c =

@@ -1,5 +1,6 @@
 -- A sound bundle's page 0 is read as an opening page, and opened, or refused.
 use mathlib.Core.Path.{sym, ap, ◌∙◌}
+use Rattle.std.specs.Prelude.{Err}
 use Rattle.model.specs.Bundles.{opening_of}
 use Rattle.replay.proofs.Sound.{page_opens, page_refused}
 use Rattle.replay.proofs.open_bundle.Goals as goal
@@ -17,3 +18,4 @@ returns-in-Err c =
     (c.opening_of.ensures ∙ ap opening_of c.opening_body.ensures)
     c.«open».ensures.opens
     c.in-Err.is
+    ∙ ap Err (sym c.new.ensures)

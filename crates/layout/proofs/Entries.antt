@@ -50,10 +50,6 @@ pub current_in : (ws : List ℕ) (a : Account) → a.0 < 32 → (entry_of (ledge
 unfolding entry_by
 current_in ws a h = ap (λ e. e.current) (entry_in_lem ws a h)
 
-pub current_read : (ws : List ℕ) (a : Account) → (entry_of (ledger_in ws) a).current ≡ as_read a.0 (block ws a.0) current_place
-unfolding entry_by
-current_read ws a = ap (λ e. e.current) (entry_read ws a)
-
 -- the words of a slip are a place with that slip
 pub slip_by : (t : Transfer) → 0 < t.value → t.recipient.0 < 256 → slot_by t.account.0 t.value t.number t.recipient.0 ≡ Some t
 slip_by t v r = rw (ne_eqb t.value 0 (λ e. absurd (omega arith)), mod-eq_of_lt r)

@@ -1,5 +1,4 @@
-// What the crates above share: transfers compared, places tested, quorums, the documents' codes and letters,
-// bytes written into a lent buffer.
+// What the crates above share: transfers compared, places tested, quorums, bytes written into a lent buffer.
 
 #![tactic(auto)]
 

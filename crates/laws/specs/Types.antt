@@ -1,4 +1,5 @@
--- The model's types, with their constructors, by one name each.
+-- The model's types, with their constructors, by one name each: those that model's src/ declares can be named through
+-- no file of model itself.
 pub use Rattle.model.specs.declared.Seat.{Seat}
 pub use Rattle.model.specs.declared.Account.{Account}
 pub use Rattle.model.specs.declared.Transfer.{Transfer}

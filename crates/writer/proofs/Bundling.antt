@@ -1,7 +1,8 @@
 -- The parts of a bundle put together, and what the writer promises for each outcome.
-use Rattle.std.specs.Prelude.{Ok, sum_by}
+use Rattle.std.specs.Prelude.{Ok, sum_by, min, take}
 use Prim.Native.Nat.{ℕ, suc, ◌+◌, ◌*◌, ◌≤◌}
 use native.Mathlib.Omega.{arith}
+use Rattle.std.proofs.lemmas.List.{length-take, take_min}
 use Rattle.std.proofs.lemmas.List.Sums.{sum_by-cons}
 use borrow.Author.Tests.{le-ltb}
 use mathlib.Core.Path.{◌≡◌, refl, ap, sym, ◌∙◌}
@@ -20,7 +21,7 @@ use Rattle.bundle.specs.Promises.{longest}
 use Rattle.basics.specs.declared.output.Output.{Output}
 use Rattle.basics.specs.Outputs.{Appends}
 use Rattle.basics.proofs.Writing.{bounded, instead, then, within, whole}
-use Rattle.writer.specs.Promises.{WroteBundle, first_start}
+use Rattle.writer.specs.Promises.{WroteAll, WroteBundle, WroteList, first_start}
 use Rattle.writer.proofs.Pages.{opening_right}
 use Rattle.writer.proofs.WriteThenRead.{bundle_length, messages_short}
 
@@ -101,6 +102,14 @@ module _ {faults : List Fault} {bundle before : List ℕ} where
   -- a refusal leaves the buffer
   pub refused : {q : Refusal} {i : ℕ} → refused_at q i ≡ write_reply faults bundle → WroteBundle faults bundle before (refused_at q i) before
   refused meets = wrote meets refl (λ size e. impossible (cc))
+
+-- of the first so many messages, where there may be fewer
+pub first_written : (page : Opening) (messages : List Message) (count : ℕ) → count ≤ 999 → {before after : List ℕ} {r : BundleReply}
+    → WroteAll page (take (min count (length messages)) messages) before r after → WroteList page messages count before r after
+first_written page messages count few {before} {after} {r} list =
+    let w : WroteAll page (take count messages) before r after = rw (take_min count messages) at list in
+    let fewer : length (take count messages) ≤ 999 = omega (arith, length-take count messages, few) in
+    wrote (w.meets ∙ rw (le-ltb 999 count few, le-ltb 999 (length (take count messages)) fewer)) w.buffer w.short
 
 -- a bundle that fits, written by an output of the buffer
 pub all_written : (count : ℕ) {bundle before after : List ℕ} {start end : Output} → count ≤ 999 → length bundle ≤ length before

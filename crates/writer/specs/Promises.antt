@@ -1,5 +1,5 @@
 -- What the writer promises.
-use Rattle.std.specs.Prelude.{ℕ, suc, ◌+◌, ◌*◌, ◌≤◌, ◌≡◌, List, length, map, Ok}
+use Rattle.std.specs.Prelude.{ℕ, suc, ◌+◌, ◌*◌, ◌≤◌, ◌≡◌, List, length, map, take, Ok}
 use Rattle.model.specs.declared.Opening.{Opening}
 use Rattle.model.specs.declared.Message.{Message}
 use Rattle.model.specs.Types.{BundleReply}
@@ -18,10 +18,16 @@ pub record WroteBundle (faults : List Fault) (bundle before : List ℕ) (r : Bun
   pub short : (size : ℕ) → r ≡ Ok size → size ≤ longest
 
 -- A list of messages.
-abbrev pub WroteList : Opening → List Message → List ℕ → BundleReply → List ℕ → Type 0
-WroteList page messages before r after =
+abbrev pub WroteAll : Opening → List Message → List ℕ → BundleReply → List ℕ → Type 0
+WroteAll page messages before r after =
     let bundle = written page messages in
     WroteBundle (write_faults (length messages) bundle (length before)) bundle before r after
+
+-- The first `count` messages of a list.
+abbrev pub WroteList : Opening → List Message → ℕ → List ℕ → BundleReply → List ℕ → Type 0
+WroteList page messages count before r after =
+    let bundle = written page (take count messages) in
+    WroteBundle (write_faults count bundle (length before)) bundle before r after
 
 -- The messages of records.
 abbrev pub WroteRecords : Opening → List ℕ → List ℕ → BundleReply → List ℕ → Type 0

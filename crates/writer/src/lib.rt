@@ -6,7 +6,7 @@ ghost use Rattle.std.specs.Prelude.{suc, ◌+◌, ◌*◌, ◌≤◌, ◌≡◌,
 ghost use Rattle.model.specs.Writing.{written};
 ghost use Rattle.basics.specs.Outputs.{Appends};
 ghost use Rattle.bundle.specs.Promises.{longest};
-ghost use Rattle.writer.specs.Promises.{WroteList, entries_of, first_start, message_bodies};
+ghost use Rattle.writer.specs.Promises.{WroteAll, WroteList, entries_of, first_start, message_bodies};
 
 use crate::bodies::{put_message, put_opening};
 use crate::contents::{message_entry, message_length, opening_entry, put_entry};
@@ -90,8 +90,8 @@ impl<'a> Bundle<'a> {
 // Writes the bundle of a page and of the messages into the front of the buffer that is lent, and replies its length;
 // what stands behind it stays. 18 for more than 999 messages; then 19 for a buffer that is shorter than the bundle. A
 // refusal leaves the buffer as it was.
-pub fn write(page: Opening, messages: &[Message], out: &mut [u8]) -> Result<u32, BundleError>
-    ensures { WroteList page messages.now out.old result out.new }
+pub fn write_list(page: Opening, messages: &[Message], out: &mut [u8]) -> Result<u32, BundleError>
+    ensures { WroteAll page messages.now out.old result out.new }
 {
     if MOST_MESSAGES < messages.len() {
         return Err(BundleError::new(Refusal::TooManyMessages, 0));
@@ -103,4 +103,22 @@ pub fn write(page: Opening, messages: &[Message], out: &mut [u8]) -> Result<u32,
     }
     bundle.put(&mut Output::new(out));
     Ok(size as u32)
+}
+
+// The same of the first `count` of the messages, or of all where there are fewer: 18 goes by the count, whatever the
+// list holds.
+pub fn write(
+    page: Opening,
+    messages: &[Message],
+    count: usize,
+    out: &mut [u8],
+) -> Result<u32, BundleError>
+    ensures { WroteList page messages.now count out.old result out.new }
+{
+    if MOST_MESSAGES < count {
+        Err(BundleError::new(Refusal::TooManyMessages, 0))
+    } else {
+        let first = count.min(messages.len());
+        write_list(page, &messages[..first], out)
+    }
 }

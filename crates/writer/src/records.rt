@@ -79,5 +79,5 @@ pub fn write_records(page: Opening, records: &[u8], out: &mut [u8]) -> Result<u3
     if !piece.is_empty() {
         return Err(BundleError::new(Refusal::BadEnd, 0));
     }
-    write(page, &messages_in(records)[..count], out)
+    write(page, &messages_in(records), count, out)
 }

@@ -1,5 +1,5 @@
 // What takes bytes, one behind another: a lent buffer that they are written into, and the sum of a body.
-ghost use Rattle.std.specs.Prelude.{ℕ, List, [], ◌++◌};
+ghost use Rattle.std.specs.Prelude.{ℕ, ◌*◌, ◌≤◌, List, [], ◌++◌, length};
 ghost use Rattle.model.specs.Writing.{word_bytes};
 
 use basics::output::Output;
@@ -54,7 +54,7 @@ impl Sink for Sum {
 
 // Numbers of 4 bytes, one behind another.
 pub fn put_words<S: Sink>(to: &mut S, words: &[u32])
-    ensures { S.takes to.old (word_bytes words.now) to.new }
+    ensures { S.takes to.old (word_bytes words.now) to.new × (length (word_bytes words.now) ≤ 4 * length words.now) }
 {
     for word in words {
         to.put_all(&word.to_le_bytes());

@@ -9,4 +9,4 @@ returns c =
     let mark = rw c.to_le_bytes.ensures at c.put_all.ensures in
     let format = rw c.to_le_bytes-2.ensures at c.put_all-2.ensures in
     let size = summed_length c.args.words.now (omega arith) in
-    bounded (then mark (then format c.put_words.ensures)) (omega (arith, size))
+    bounded (then mark (then format c.put_words.ensures.0)) (omega (arith, size))

@@ -1,11 +1,9 @@
--- The bundle fits, and is written.
-use Rattle.std.proofs.Common.{length, rules}
-use Rattle.writer.proofs.Bundling.{all_written}
+-- The first so many messages, or all of them, are a list.
+use Rattle.writer.proofs.Bundling.{first_written}
 use Rattle.writer.proofs.write.Goals as goal
 
-pub returns : goal.returns
-returns c =
-    let size = c.size-size.ensures in
-    let few = c.if-messages-gt-MOST_MESSAGES.false in
-    let room = rw size at c.if-out-size.false in
-    rw size (all_written (length c.args.messages.now) few room c.new-2.ensures.content c.put.ensures (search rules))
+pub returns-else-count-gt-MOST_MESSAGES : goal.returns-else-count-gt-MOST_MESSAGES
+returns-else-count-gt-MOST_MESSAGES c =
+    let few = c.if-count-gt-MOST_MESSAGES.false in
+    let list = rw c.min-first.ensures at c.write_list.ensures in
+    first_written c.args.page c.args.messages.now c.args.count few list

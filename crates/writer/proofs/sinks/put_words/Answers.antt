@@ -2,6 +2,7 @@
 use Rattle.std.proofs.Common.{ap, arith}
 use Rattle.std.proofs.lemmas.List.{drop_more, drop_all}
 use Rattle.model.specs.Writing.{word_bytes}
+use Rattle.laws.proofs.Numbers.{words_length}
 use Rattle.writer.proofs.Numbers.{number_bytes_4}
 use Rattle.writer.proofs.sinks.put_words.Goals as goal
 
@@ -15,4 +16,4 @@ loop-word-preserved g c = λ final rest.
 pub returns : goal.returns
 returns g c =
     let none = ap word_bytes (drop_all c.loop-word.word-index c.args.words.now c.loop-word-test.false) in
-    c.loop-word.invariant _ (rw none (g.met.S.Sink.nothing _))
+    (c.loop-word.invariant _ (rw none (g.met.S.Sink.nothing _)), omega (arith, words_length c.args.words.now))

@@ -13,7 +13,6 @@ use basics::output::Output;
 use bundle::sums::body_sum;
 use layout::{BOOK_WORDS, Book};
 use pages::numbers::number4_at;
-use std::array;
 use writer::sinks::put_words;
 
 // The mark: the letters S, A, P, L. As a number, since no call may make a constant.
@@ -85,11 +84,13 @@ fn check(bytes: &[u8]) -> Result<(), LoadError>
     Ok(())
 }
 
-// The words of a saved book.
-fn words_in(bytes: &[u8]) -> Book
-    ensures { result ≡ words_saved bytes.now }
+// The words of a saved book. Into lent memory: by value the static library needs memmove from outside.
+fn take_words(bytes: &[u8], words: &mut Book)
+    ensures { words.new ≡ words_saved bytes.now }
 {
-    array::from_fn(|i| number4_at(bytes, WORDS_AT + 4 * i as u32))
+    for i in 0..BOOK_WORDS {
+        words[i] = number4_at(bytes, WORDS_AT + 4 * i as u32);
+    }
 }
 
 // Loads a saved book: the words are those that were saved, whatever they were; or it is
@@ -98,6 +99,6 @@ pub fn load(words: &mut Book, bytes: &[u8]) -> Result<(), LoadError>
     ensures { LoadedAs words.old bytes.now result words.new }
 {
     check(bytes)?;
-    *words = words_in(bytes);
+    take_words(bytes, words);
     Ok(())
 }

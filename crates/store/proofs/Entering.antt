@@ -8,7 +8,7 @@ use Rattle.model.specs.Types.{Entry}
 use Rattle.model.specs.Records.{account_of, fresh_entry, with_entries, with_entry}
 use Rattle.layout.specs.Layout.{ledger_in}
 use Rattle.layout.proofs.Blocks.{entries_length}
-use Rattle.store.proofs.Filling.{Filled, filled_none, filled_more, filled_all}
+use Rattle.basics.proofs.Filling.{Filled, filled_none, filled_more, filled_all}
 
 -- The entries of the accounts before `i` are the wanted ones, and all but the entries is as it was.
 pub record Entered (before : List ℕ) (wanted : List Entry) (now : List ℕ) (i : ℕ) : Type 0 where

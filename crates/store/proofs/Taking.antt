@@ -1,48 +1,47 @@
--- A block copied from a book held from before, and what that makes of the entry; and the group's words.
-use Prim.Native.Nat.{ℕ, ◌+◌, ◌*◌, ◌-◌, ◌<◌}
-use native.Mathlib.Decide.{dec_lt}
+-- A block copied word by word from a book held from before: nothing yet, one word more, and what the whole copy makes
+-- of the entry; and the group's words.
+use Prim.Native.Nat.{ℕ, ◌+◌, ◌*◌, ◌<◌}
+use native.Mathlib.Decide.{ℕ_discrete, dec_lt}
 use native.Mathlib.Omega.{arith}
-use mathlib.Core.Path.{◌≡◌, refl, ap, sym, ◌∙◌}
+use mathlib.Core.Path.{◌≡◌, refl, ap, sym, ◌∙◌, fun_ext}
 use mathlib.Core.Bool.{Bool, true, false, cond}
 use mathlib.Core.List.{List}
 use lib.Dec.{leb}
-use lib.ListN.{length, get_or, drop}
-use borrow.Author.Tests.{lt-ltb, le-ltb, le-leb}
-use borrow.Rule.Slice.PartMut.{mid_of, put_mid}
-use Rattle.std.proofs.lemmas.List.{get_or-take, get_or-drop, set_past}
+use lib.ListN.{length, get_or}
+use borrow.Author.Tests.{lt-ltb, le-ltb, eq-eqb, ne_eqb, le-leb}
+use Rattle.std.proofs.lemmas.List.{set_past}
 use Rattle.model.specs.declared.Account.{Account}
 use Rattle.model.specs.Records.{fresh_entry, with_retained_of, entry_of, with_entries, with_entry}
-use Rattle.layout.specs.Layout.{block_words, book_words, held_block_words, held_book_words, held_group_place, Block, block, held_block, up_to, entry_by, ledger_in, entry_in, held_entries_in, held_in}
-use Rattle.layout.specs.Blocks.{Changes, Stores}
-use Rattle.layout.proofs.Blocks.{table_at, table_length, entry_in_lem, entries_length, changed_ledger}
+use Rattle.layout.specs.Layout.{held_block_words, held_group_place, Block, block, held_block, up_to, entry_by, ledger_in, entry_in, held_entries_in, held_in}
+use Rattle.layout.specs.Blocks.{put, Changes, Stores}
+use Rattle.layout.proofs.Blocks.{table_at, table_length, entry_in_lem, entries_length, changed_more, changed_ledger}
 use Rattle.store.specs.Stores.{GroupStored, copied}
-use Rattle.store.proofs.Parts.{part_stored}
 
-copied_else : (u w : Block) (n j : ℕ) → (j < n → ⊥) → copied u w n j ≡ w j
-copied_else u w n j out = rw (le-ltb j n (omega arith))
+-- nothing is copied yet
+copied_none : (u w : Block) → w ≡ copied u w 0
+copied_none u w = fun_ext (λ j. rw (le-ltb j 0 (omega arith)))
 
--- the words of a held book's block are stored in the account's
-module _ (held ws ys : List ℕ) (a : ℕ) where
-  abbrev from : ℕ
-  from = a * held_block_words
+-- one word more
+copied_more : (u w : Block) (n : ℕ) → put (copied u w n) n (u n) ≡ copied u w (n + 1)
+copied_more u w n = fun_ext (λ j. go j (ℕ_discrete j n) (dec_lt j n))
+  where
+    go : (j : ℕ) → Dec (j ≡ n) → Dec (j < n) → put (copied u w n) n (u n) j ≡ copied u w (n + 1) j
+    go j (yes e) q = rw (eq-eqb j n e, lt-ltb j (n + 1) (omega arith), e)
+    go j (no e) (yes q) = rw (ne_eqb j n e, lt-ltb j n q, lt-ltb j (n + 1) (omega arith))
+    go j (no e) (no q) = rw (ne_eqb j n e, le-ltb j n (omega arith), le-ltb j (n + 1) (omega arith))
 
-  abbrev to : ℕ
-  to = a * block_words
+-- .. as words that are stored
+pub nothing_copied : (ws : List ℕ) (a : ℕ) (u : Block) → Changes ws a (copied u (block ws a) 0) ws
+nothing_copied ws a u = record { size = refl; here = copied_none u (block ws a); others = λ b h. refl; group = λ j h. refl }
 
-  abbrev taken : ℕ
-  taken = from + held_block_words - from
+pub one_copied : (ws mid after : List ℕ) (a n word : ℕ) (u : Block) → word ≡ u n → Changes ws a (copied u (block ws a) n) mid
+    → Changes mid a (put (block mid a) n word) after → Changes ws a (copied u (block ws a) (n + 1)) after
+one_copied ws mid after a n word u is c d =
+    rw (← copied_more u (block ws a) n, ← is) (changed_more (copied u (block ws a) n) n word c d)
 
-  abbrev put_in : ℕ
-  put_in = to + held_block_words - to
-
-  pub part_copied : length held ≡ held_book_words → length ws ≡ book_words → a < 32
-      → length ys ≡ length (mid_of to put_in ws) → ys ≡ mid_of from taken held
-      → Changes ws a (copied (held_block held a) (block ws a) held_block_words) (put_mid to put_in ws ys)
-  part_copied held_size size account as_many words =
-      part_stored ws ys a 0 to put_in _ size account (omega arith) (omega arith) as_many
-      (λ j l h. rw (lt-ltb j held_block_words (omega arith)) (sym (ap (λ zs. get_or zs (j - 0) 0) words
-      ∙ get_or-take taken (drop from held) (j - 0) 0 (omega arith) ∙ get_or-drop from held (j - 0) 0 ∙ ap (λ i. get_or held i 0) (omega arith))))
-      (λ j out. copied_else (held_block held a) (block ws a) held_block_words j (λ h. out (omega arith) (omega arith)))
+-- a word of a held book's block
+pub held_word : (ws : List ℕ) (a i word : ℕ) → i < held_block_words → word ≡ get_or ws (a * held_block_words + i) 0 → word ≡ held_block ws a i
+held_word ws a i word inside is = is ∙ rw (lt-ltb i held_block_words inside)
 
 -- the whole block is copied: the entry is the held one, with what is retained now
 copied_entry : (a : ℕ) (u w : Block) → entry_by a (copied u w held_block_words) ≡ with_retained_of (entry_by a u) (entry_by a w)

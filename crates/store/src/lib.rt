@@ -269,15 +269,16 @@ pub fn put_booked(words: &mut Book, a: Account, number: u32)
 }
 
 // The words of an account's block in a book held from before, which ends before what is
-// retained, are those of its block now.
+// retained, are those of its block now. Word by word: by copy_from_slice the static library needs memmove from outside.
 fn copy_block(held: &HeldBook, words: &mut Book, a: Account)
     ensures { Stores words.old a.0 (copied (held_block held.now a.0) (block words.old a.0) held_block_words) words.new }
 {
     let account = a.0 as usize;
     if account < BLOCKS {
-        let from = account * HELD_BLOCK;
-        let to = account * BLOCK;
-        words[to..to + HELD_BLOCK].copy_from_slice(&held[from..from + HELD_BLOCK]);
+        let start = account * HELD_BLOCK;
+        for at in 0..HELD_BLOCK {
+            put_word(words, a, at, held[start + at]);
+        }
     }
 }
 

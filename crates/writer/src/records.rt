@@ -50,16 +50,14 @@ fn message_in(bytes: &Record) -> Message
     message_or(message_from(bytes[0], bytes[1], &bytes[2..]))
 }
 
-// The messages of records, and questions behind them.
-fn messages_in(records: &[Record]) -> [Message; MOST_MESSAGES]
+// The messages of records, at the front of an array. Into lent memory: by value it takes three times the stack.
+fn messages_in(records: &[Record], messages: &mut [Message; MOST_MESSAGES])
     requires { length records.now ≤ 999 }
-    ensures { take (length records.now) result ≡ map record_message records.now }
+    ensures { take (length records.now) messages.new ≡ map record_message records.now }
 {
-    let mut messages = [Message::Inquiry(Account(0)); MOST_MESSAGES];
     for (i, record) in records.iter().enumerate() {
         messages[i] = message_in(record);
     }
-    messages
 }
 
 // Writes the bundle of a page and of the messages in the records, as `write` does. 18 for more than 999 whole records;
@@ -79,5 +77,7 @@ pub fn write_records(page: Opening, records: &[u8], out: &mut [u8]) -> Result<u3
     if !piece.is_empty() {
         return Err(BundleError::new(Refusal::BadEnd, 0));
     }
-    write(page, &messages_in(records), count, out)
+    let mut messages = [Message::Inquiry(Account(0)); MOST_MESSAGES];
+    messages_in(records, &mut messages);
+    write(page, &messages, count, out)
 }

@@ -1,5 +1,5 @@
 -- What a loop over an array's elements knows at each turn, when it counts them, searches them or tests each.
-use Rattle.std.specs.Prelude.{Some}
+use Rattle.std.specs.Prelude.{Some, None}
 use Prim.Native.Nat.{ℕ, suc, ◌+◌, ◌-◌, ◌≤◌, ◌<◌}
 use native.Mathlib.Numerals.{add-one}
 use native.Mathlib.Omega.{arith}
@@ -15,6 +15,9 @@ module _ {A : Type 0} (p : A → Bool) (xs : List A) where
   pub record Counts (i n : ℕ) : Type 0 where
     pub few : n ≤ i
     pub rest : n + count p (drop i xs) ≡ count p xs
+
+pub counts_none : {A : Type 0} {p : A → Bool} {xs : List A} → Counts p xs 0 0
+counts_none = record { few = omega arith; rest = omega arith }
 
 module _ {A : Type 0} {p : A → Bool} {xs : List A} {i : ℕ} where
   pub counts_all : {n : ℕ} → length xs ≤ i → Counts p xs i n → n ≡ count p xs
@@ -41,6 +44,11 @@ every_at p (x ∷ xs) d h = rw (h 0 (omega arith)) (every_at p xs d (λ i l. h (
 -- no number before i passes the test: the search among the n goes on from i
 pub record Searched (p : ℕ → Bool) (n i : ℕ) : Type 0 where
   pub rest : first_where p (n - i) i ≡ first_where p n 0
+
+pub searched_all : {p : ℕ → Bool} {n i : ℕ} → Searched p n i → n ≤ i → first_where p n 0 ≡ None
+searched_all {p} {n} {i} s h =
+    let over : n - i ≡ 0 = omega arith in
+    sym s.rest ∙ ap (λ (left : ℕ). first_where p left i) over
 
 module _ {p : ℕ → Bool} {n i : ℕ} (s : Searched p n i) {r : Bool} (test : r ≡ p i) (h : i < n) where
   next_turn : first_where p (n - i) i ≡ first_where p (suc (n - (i + 1))) i

@@ -6,19 +6,26 @@ use native.Mathlib.Numerals.{add-one}
 use native.Mathlib.Omega.{arith}
 use mathlib.Core.Path.{◌≡◌, refl, ap, sym, ◌∙◌}
 use mathlib.Core.Bool.{Bool, true, false, cond}
-use mathlib.Core.List.{List, [], ◌∷◌, ◌++◌, append_assoc}
+use mathlib.Core.List.{List, [], ◌∷◌, ◌++◌, append-nil, append_assoc}
 use lib.Dec.{ltb}
 use lib.ListN.{length, set, drop, take, length-append, length-set}
 use lib.Seq.{sets, sets-eq}
-use borrow.Author.Tests.{lt-ltb}
+use borrow.Author.Tests.{lt-ltb, le-ltb}
 use Rattle.basics.specs.declared.output.Output.{Output}
 use Rattle.basics.specs.Outputs.{Content, content, with_byte, with_bytes, Writes, Appends}
+
+-- a byte, where there is room and where there is none
+pub byte_stored : (before : List ℕ) (at b : ℕ) → at < length before → Writes before at (b ∷ []) 1 (set before at b) (at + 1)
+byte_stored before at b h = record { written = rw (lt-ltb at (length before) h); short = omega arith }
+
+pub byte_refused : (before : List ℕ) (at b : ℕ) → length before ≤ at → Writes before at (b ∷ []) 1 before at
+byte_refused before at b h = record { written = rw (le-ltb at (length before) h); short = omega arith }
 
 -- no bytes at all
 pub nothing : {o : Output} {n : ℕ} → Appends o [] n o
 nothing = record { same_buffer = refl; writes = record { written = refl; short = omega arith } }
 
-written_append : (o : Content) (xs ys : List ℕ) → with_bytes o (xs ++ ys) ≡ with_bytes (with_bytes o xs) ys
+pub written_append : (o : Content) (xs ys : List ℕ) → with_bytes o (xs ++ ys) ≡ with_bytes (with_bytes o xs) ys
 written_append o [] ys = refl
 written_append o (x ∷ xs) ys = written_append (with_byte o x) xs ys
 
@@ -62,14 +69,11 @@ written_length o (b ∷ bs) = written_length (with_byte o b) bs ∙ byte_length 
 pub same_length : {before after xs : List ℕ} {at r m : ℕ} → Writes before at xs m after r → length after ≡ length before
 same_length {before} {after} {xs} {at} w = ap (λ o. length o.buffer) w.written ∙ written_length (content before at) xs
 
--- where there is room, a byte is stored, and no byte is left out
-byte_stored : (before : List ℕ) (at b : ℕ) → at < length before → content (set before at b) (at + 1) ≡ with_byte (content before at) b
-byte_stored before at b h = rw (lt-ltb at (length before) h)
-
+-- where there is room, no byte is left out
 stored : (bs before : List ℕ) (at : ℕ) → at + length bs ≤ length before → with_bytes (content before at) bs ≡ content (sets before at bs) (at + length bs)
 stored [] before at h = ap (content before) (omega arith)
 stored (b ∷ bs) before at h =
-    ap (λ o. with_bytes o bs) (sym (byte_stored before at b (omega arith)) ∙ ap (content (set before at b)) (add-one at))
+    ap (λ o. with_bytes o bs) (sym (byte_stored before at b (omega arith)).written ∙ ap (content (set before at b)) (add-one at))
     ∙ stored bs (set before at b) (suc at) (rw length-set (omega arith))
     ∙ ap (content (sets (set before at b) (suc at) bs)) (omega arith)
 
@@ -100,3 +104,6 @@ pieces_more piece left so_far w =
       goes_on = append_assoc so_far.done piece left ∙ so_far.goes_on;
       writes = then so_far.writes w;
     }
+
+pub pieces_all : {before after : Output} {all : List ℕ} {most : ℕ} → Pieces before all [] most after → Appends before all most after
+pieces_all so_far = instead so_far.writes (sym (append-nil so_far.done) ∙ so_far.goes_on)

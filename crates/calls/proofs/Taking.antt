@@ -30,6 +30,7 @@ use Rattle.model.specs.Switches.{newest}
 use Rattle.laws.proofs.Refusing.{effect_in, refuses, not_refused, joins_in_lem, newest_step}
 use Rattle.layout.specs.Layout.{ledger_in, entry_in}
 use Rattle.layout.proofs.Blocks.{entries_length}
+use Rattle.layout.proofs.Ranges.{accounts_fit}
 use Rattle.basics.proofs.ReadBack.{passed, failed}
 use Rattle.settling.specs.Results.{Settles}
 use Rattle.tally.specs.declared.Tally.{Tally}
@@ -125,6 +126,11 @@ module _ (ws : List ℕ) (s : Seat) (t : Transfer) (p : Slot) (p_is : p ≡ late
       let is = due u found in
       let step_is = sym (newest_step (ledger_in ws) (Ack s t)) ∙ joins_in_lem newest (ledger_in ws) (Ack s t) is.0 in
       answered ws (Ack s t) (Propose u) after (rw (step_is, is.1)) (rw step_is marked) (λ code e. impossible (cc))
+
+  -- such an ack is of an account that there is
+  pub late_account : (u : Transfer) → p ≡ Some u → t.account.0 < 32
+  late_account u found =
+      omega (arith, (joining (ledger_in ws) s t (due u found).0).account_known, accounts_fit ws)
 
 -- A slip is retained, and then it waits.
 pub retained_waits : (before mid after : List ℕ) (t : Transfer)

@@ -11,7 +11,7 @@ use borrow.Author.Tests.{leb-false, eqb-false}
 use Rattle.model.specs.declared.Seat.{Seat}
 use Rattle.model.specs.declared.Account.{Account}
 use Rattle.model.specs.declared.Transfer.{Transfer}
-use Rattle.model.specs.Refusals.{first_refusal, unknown_seat, unknown_account, out_of_range, past_number, future_number, transfer_rules, circulated_rules, ack_rules}
+use Rattle.model.specs.Refusals.{first_refusal, unknown_seat, unknown_account, out_of_range, past_number, future_number, transfer_rules, offer_rules, circulated_rules, ack_rules}
 use Rattle.laws.proofs.Refusing.{none_holds, next_number_lem}
 use Rattle.layout.specs.Layout.{ledger_in, entry_in}
 use Rattle.layout.proofs.Ranges.{seats_fit, accounts_fit}
@@ -20,7 +20,7 @@ use Rattle.layout.proofs.Ranges.{seats_fit, accounts_fit}
 pub account_place : (ws : List ℕ) (a : Account) → unknown_account (ledger_in ws) a ≡ false → a.0 < 32
 account_place ws a known = omega (arith, leb-false (ledger_in ws).accounts a.0 known, accounts_fit ws)
 
-seat_place : (ws : List ℕ) (s : Seat) → unknown_seat (ledger_in ws) s ≡ false → s.0 < 16
+pub seat_place : (ws : List ℕ) (s : Seat) → unknown_seat (ledger_in ws) s ≡ false → s.0 < 16
 seat_place ws s known = omega (arith, leb-false (ledger_in ws).seats s.0 known, seats_fit ws)
 
 module _ (ws : List ℕ) (t : Transfer) where
@@ -29,7 +29,7 @@ module _ (ws : List ℕ) (t : Transfer) where
     pub account : t.account.0 < 32
     pub value : 0 < t.value
 
-  in_range : out_of_range (ledger_in ws) t ≡ false → InRange
+  pub in_range : out_of_range (ledger_in ws) t ≡ false → InRange
   in_range inside =
       let l = ledger_in ws in
       let below = unknown_account l t.account || unknown_account l t.recipient in
@@ -54,7 +54,12 @@ module _ (ws : List ℕ) (t : Transfer) where
       let fail = none_holds (transfer_rules (ledger_in ws) (entry_in ws t.account) t) passed in
       fits_by fail.0 fail.1.0 fail.1.1.0
 
-  -- the same of a slip, and of an ack, whose seat has its place too
+  -- the same of what a request or slip meets first, of a slip, and of an ack, whose seat has its place too
+  pub offer_fits : first_refusal (offer_rules (ledger_in ws) (entry_in ws t.account) t) ≡ None → Fits
+  offer_fits passed =
+      let fail = none_holds (offer_rules (ledger_in ws) (entry_in ws t.account) t) passed in
+      fits_by fail.0 fail.1.1.0 fail.1.1.1.0
+
   pub circulated_fits : first_refusal (circulated_rules (ledger_in ws) (entry_in ws t.account) t) ≡ None → Fits
   circulated_fits passed =
       let fail = none_holds (circulated_rules (ledger_in ws) (entry_in ws t.account) t) passed in

@@ -10,7 +10,7 @@ use Rattle.laws.proofs.Opened.{opened_group, opened_fresh}
 use Rattle.opening.specs.Promises.{FreshLedger, Opens}
 
 -- a page that no rule refuses opens
-unrefused : (o : Opening) → first_refusal (open_rules o) ≡ None → open_reply o ≡ Ok tt
+pub unrefused : (o : Opening) → first_refusal (open_rules o) ≡ None → open_reply o ≡ Ok tt
 unfolding open_reply
 unrefused o e = rw e
 

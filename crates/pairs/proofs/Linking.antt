@@ -86,7 +86,7 @@ module _ (keys : List Key) (followers : List (Option ℕ)) (m j : ℕ) (here : j
       one k from to (yes at) = rw (at, same) (and-false (beside next))
       one k from to (no other) = elsewhere k (l.lowest k from (omega arith))
 
-  followed : (next : Option ℕ) → next ≡ lowest_from beside (suc j) m → follower_of keys followers j next ≡ lowest_from (follows keys j) (suc j) m
+  pub followed : (next : Option ℕ) → next ≡ lowest_from beside (suc j) m → follower_of keys followers j next ≡ lowest_from (follows keys j) (suc j) m
   followed None e =
       sym (no_lowest (follows keys j) m (suc j) here (λ k from inside. elsewhere k (first_none beside (m - suc j) (suc j) (sym e) k from (omega arith))))
   followed (Some next) e = followed_by next (first_found beside (m - suc j) (suc j) next (sym e)) (same_key (key_at keys j) (key_at keys next)) refl

@@ -4,7 +4,8 @@ use Prim.Native.Nat.{ℕ, ◌-◌, ◌≤◌}
 use native.Mathlib.Omega.{arith}
 use mathlib.Core.Path.{◌≡◌, refl, ap, sym, subst, ◌∙◌}
 use mathlib.Core.List.{List}
-use lib.ListN.{length}
+use lib.ListN.{length, take, drop, length-append}
+use lib.Seq.{take-append_seam}
 use Rattle.model.specs.Types.{OpenReply, BundleReply}
 use Rattle.model.specs.declared.BundleError.{BundleError}
 use Rattle.model.specs.Records.{fresh_ledger}
@@ -68,3 +69,11 @@ replayed {text} {buffer} is front size w =
     let fits : length text ≤ length buffer = omega (arith, w.writes.short) in
     let all = whole (rw (is, front) at w.writes) fits in
     record { front = all.0; size = all.1; fits = fits }
+
+-- the text stands inside the buffer, and the part of it that is replied is the text
+module _ {text before after : List ℕ} {r : ℕ} (w : Replayed text before after r) where
+  pub inside : r ≤ length after
+  inside = rw (w.front, w.size, length-append) (omega arith)
+
+  pub is_text : take r after ≡ text
+  is_text = rw (w.front, w.size) (take-append_seam text (drop (length text) before))

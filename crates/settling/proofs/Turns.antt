@@ -1,5 +1,5 @@
 -- One turn of settling, said of the words before and after it.
-use Rattle.std.proofs.Common.{◌≡◌, ℕ, suc, ◌+◌, ◌≤◌, List, sym, ap, ◌∙◌, add-one, arith, Some, None}
+use Rattle.std.proofs.Common.{◌≡◌, ℕ, suc, ◌+◌, ◌<◌, ◌≤◌, List, sym, ap, ◌∙◌, add-one, arith, Some, None}
 use Rattle.model.specs.declared.Account.{Account}
 use Rattle.model.specs.Types.{Entry, Ledger}
 use Rattle.model.specs.Records.{with_entries}
@@ -29,6 +29,9 @@ ended ws nothing = record { ledger = rw (settle_none (entries ws) nothing); coun
 
 -- the lowest affordable account is found, and what waits there is applied
 module _ (ws : List ℕ) (a : Account) (found : lowest_affordable (entries ws) ≡ Some a) where
+  pub found_inside : a.0 < 32
+  found_inside = omega (arith, (lowest_affordable_lem (entries ws) a found).affords_it.inside, entries_length ws)
+
   module _ (mid : List ℕ) (applied : ledger_in mid ≡ with_entries (ledger_in ws) (apply (entries ws) a)) where
     -- one slip fewer waits
     pub one_fewer : waiting_in ws ≡ suc (waiting_in mid)

@@ -70,7 +70,7 @@ module _
 abbrev pub wanted : List ℕ → List Entry
 wanted held = (switched since_request3 (held_in held)).entries
 
-wanted_count : (held : List ℕ) → length (wanted held) ≡ 32
+pub wanted_count : (held : List ℕ) → length (wanted held) ≡ 32
 wanted_count held = switched_length since_request3 (held_in held) ∙ held_entries_length held
 
 -- no account yet, one more, and all

@@ -53,7 +53,7 @@ module _ (acks : List AckSlot) (number : ℕ) where
         → ((k : ℕ) (u : Transfer) → k < seat → ack_at acks k ≡ Some u → acks_for u acks < acks_for v acks)
         → Led i best
 
-  led_none : Led 0 no_leader
+  pub led_none : Led 0 no_leader
   led_none = nobody (λ k below. absurd (omega arith)) refl
 
   -- a slip that a seat acked has an ack
@@ -63,7 +63,7 @@ module _ (acks : List AckSlot) (number : ℕ) where
       omega (arith, here, sum_at_least (λ a. bit (holds u a.slot)) acks i (record { slot = None }) (inside acks i u at))
 
   module _ {i : ℕ} {best : Leader} where
-    led_more : Led i best → Led (i + 1) (leader_of acks number best (ack_at acks i))
+    pub led_more : Led i best → Led (i + 1) (leader_of acks number best (ack_at acks i))
     led_more led = go (ack_at acks i) refl led
       where
         go : (p : Slot) → ack_at acks i ≡ p → Led i best → Led (i + 1) (leader_of acks number best p)

@@ -19,7 +19,7 @@ use Rattle.laws.proofs.Faults.{fault_told}
 use Rattle.laws.proofs.Sums.{impossible}
 use Rattle.bundle.specs.Promises.{longest}
 use Rattle.basics.specs.declared.output.Output.{Output}
-use Rattle.basics.specs.Outputs.{Appends}
+use Rattle.basics.specs.Outputs.{Writes, Appends}
 use Rattle.basics.proofs.Writing.{bounded, instead, then, within, whole}
 use Rattle.writer.specs.Promises.{WroteAll, WroteBundle, WroteList, first_start}
 use Rattle.writer.proofs.Pages.{opening_right}
@@ -29,7 +29,7 @@ use Rattle.writer.proofs.WriteThenRead.{bundle_length, messages_short}
 abbrev pub body_size : Message → ℕ
 body_size m = length (message_page m).body
 
-bodies_sum : (ms : List Message) → length (bodies_of (map message_page ms)) ≡ sum_by body_size ms
+pub bodies_sum : (ms : List Message) → length (bodies_of (map message_page ms)) ≡ sum_by body_size ms
 bodies_sum [] = refl
 bodies_sum (m ∷ ms) =
     length-append (message_page m).body (bodies_of (map message_page ms)) ∙ ap (λ (n : ℕ). body_size m + n) (bodies_sum ms)
@@ -111,13 +111,20 @@ first_written page messages count few {before} {after} {r} list =
     let fewer : length (take count messages) ≤ 999 = omega (arith, length-take count messages, few) in
     wrote (w.meets ∙ rw (le-ltb 999 count few, le-ltb 999 (length (take count messages)) fewer)) w.buffer w.short
 
--- a bundle that fits, written by an output of the buffer
-pub all_written : (count : ℕ) {bundle before after : List ℕ} {start end : Output} → count ≤ 999 → length bundle ≤ length before
+-- a bundle that fits and is written
+pub all_written : (count : ℕ) (bundle before : List ℕ) → count ≤ 999 → {after : List ℕ} {end : ℕ} → length bundle ≤ length before
+    → Writes before 0 bundle longest after end → WroteBundle (write_faults count bundle (length before)) bundle before (Ok end) after
+all_written count bundle before few {end = end} room w =
+    let filled = whole w room in
+    wrote
+    (rw (le-ltb 999 count few, le-ltb (length before) (length bundle) room, filled.1))
+    (rw filled.1 filled.0)
+    (λ size e. let same : end ≡ size = cc in omega (arith, w.short, filled.1))
+
+-- the same of an output of the buffer
+pub all_appended : (count : ℕ) {bundle before after : List ℕ} {start end : Output} → count ≤ 999 → length bundle ≤ length before
     → (start.buffer.now ≡ before) × (start.filled ≡ 0) → Appends start bundle longest end → after ≡ end.buffer.now
     → WroteBundle (write_faults count bundle (length before)) bundle before (Ok (length bundle)) after
-all_written count {bundle} {before} {start = start} few room empty w final =
-    let filled = whole (rw (empty.0, empty.1) at w.writes) room in
-    wrote
-    (rw (le-ltb 999 count few, le-ltb (length before) (length bundle) room))
-    (final ∙ filled.0)
-    (λ size e. let same : length bundle ≡ size = cc in omega (arith, w.writes.short))
+all_appended count {bundle} {before} few room empty w final =
+    let all = rw (empty.0, empty.1) at w.writes in
+    rw final (rw (whole all room).1 at (all_written count bundle before few room all))

@@ -1,6 +1,6 @@
 -- The bundle fits, and is written.
 use Rattle.std.proofs.Common.{length, rules}
-use Rattle.writer.proofs.Bundling.{all_written}
+use Rattle.writer.proofs.Bundling.{all_appended}
 use Rattle.writer.proofs.write_list.Goals as goal
 
 pub returns : goal.returns
@@ -8,4 +8,4 @@ returns c =
     let size = c.size-size.ensures in
     let few = c.if-messages-gt-MOST_MESSAGES.false in
     let room = rw size at c.if-out-size.false in
-    rw size (all_written (length c.args.messages.now) few room c.new-2.ensures.content c.put.ensures (search rules))
+    rw size (all_appended (length c.args.messages.now) few room c.new-2.ensures.content c.put.ensures (search rules))

@@ -1,5 +1,5 @@
 -- The answer of a join, test by test, and the part that shows it.
-use Rattle.std.proofs.Common.{◌≡◌, ℕ, zero, suc, ◌≤◌, Bool, true, false, List, [], ◌∷◌, length, take, drop, Option, Some, None, MatchOption, IsSomeAnd, Ok, Err, refl, ap, sym, ◌∙◌, arith}
+use Rattle.std.proofs.Common.{◌≡◌, ℕ, zero, suc, ◌≤◌, Bool, true, false, List, [], ◌∷◌, length, take, drop, Option, Some, None, MatchOption, IsSomeAnd, Decides, Ok, Err, refl, ap, sym, ◌∙◌, arith}
 use Rattle.model.specs.declared.Transfer.{Transfer}
 use Rattle.model.specs.declared.ContentsEntry.{ContentsEntry}
 use Rattle.model.specs.declared.Refusal.TheVariants.{PagesDiffer}
@@ -13,10 +13,20 @@ use Rattle.model.specs.Replies.{code_of, values_of_evidence}
 use Rattle.model.specs.Bundles.{entry_count, contents_at, body_length, page_of, page_at, unless_fault, faults, check_bundle}
 use Rattle.model.specs.Joins.{earliest_pair, answer_of, page_faults, evidence, bundle_named, entry_named}
 use Rattle.laws.proofs.Faults.{fault_told, read_off, read_off_lem}
+use Rattle.laws.proofs.Sums.{same_sound, same_refl}
 use Rattle.bundle.proofs.Longest.{few_entries}
 use Rattle.reader.specs.Promises.{opening_body}
 use Rattle.reader.proofs.Pages.{opens_with}
 use Rattle.evidence.specs.Promises.{JoinedAs, ShownAs}
+
+-- what decides whether two lists are one is the documents' test of it
+pub decided_same : (r : Bool) (xs ys : List ℕ) → Decides r (xs ≡ ys) → r ≡ same xs ys
+decided_same true xs ys is = rw (is.0 refl) (sym (same_refl ys))
+decided_same false xs ys is = go (same xs ys) refl
+  where
+    go : (b : Bool) → same xs ys ≡ b → false ≡ b
+    go true e = is.1 (same_sound xs ys e)
+    go false e = refl
 
 -- a sound bundle has at most 1,000 entries, and shows its opening page
 pub few : (bytes : List ℕ) (m : ℕ) → check_bundle bytes ≡ Ok m → entry_count bytes ≤ 1_000

@@ -1,20 +1,19 @@
 -- The waiting list behind a bundle.
 use Rattle.std.specs.Prelude.{Some, Result, Ok, Err}
 use Prim.Native.Nat.{ℕ}
-use mathlib.Core.Path.{◌≡◌, refl, ap, subst}
+use mathlib.Core.Path.{◌≡◌, refl, ap, sym, subst, ◌∙◌}
 use mathlib.Core.List.{List}
 use Rattle.laws.proofs.Sums.{impossible}
 use Rattle.model.specs.Types.{Ledger, ListReply, OpenReply, BundleReply}
 use Rattle.model.specs.declared.BundleError.{BundleError}
 use Rattle.model.specs.declared.Refusal.{Refusal}
-use Rattle.model.specs.Records.{fresh_ledger}
 use Rattle.model.specs.Refusals.{list_refusal}
 use Rattle.model.specs.Replies.{values_of_list}
 use Rattle.model.specs.Bundles.{check_bundle}
 use Rattle.basics.specs.declared.output.Output.{Output}
 use Rattle.layout.specs.Layout.{ledger_in}
 use Rattle.ledger.specs.Promises.{ListedBy, ListedAs}
-use Rattle.replay.specs.Text.{opening_page, opened}
+use Rattle.replay.specs.Text.{opened}
 use Rattle.replay.specs.Promises.{opened_by, OpensBook, PlayedAll}
 use Rattle.replay.specs.Lists.{accounts_behind, bundle_refusal_or, sound_refusal, refusal_behind, ListOf}
 
@@ -46,12 +45,11 @@ both_sound (Err e) o h = impossible (cc)
 both_sound (Ok m) (Err r) h = impossible (cc)
 both_sound (Ok m) (Ok u) h = (m, refl, refl)
 
-module _ (bytes before : List ℕ) {opening : Result (List ℕ) BundleError} (opens : OpensBook bytes opening) where
+module _ (bytes before : List ℕ) {held words : List ℕ} {opening : Result (Unit {0}) BundleError} (opens : OpensBook bytes held opening words) where
   -- behind a bundle, or an opening, that is refused
   pub list_refused : {e : BundleError} → opening ≡ Err e → ListOf bytes before (Err e.refusal) before
   list_refused {e} is =
-      let refused : opened_by (check_bundle bytes) (opened bytes) ≡ Err e = rw is at opens in
-      rw (go (check_bundle bytes) (opened bytes) refl refl refused)
+      rw (go (check_bundle bytes) (opened bytes) refl refl (sym opens.meets ∙ is))
       (refused_list e.refusal (accounts_behind bytes) before (Err e.refusal) before refl refl)
     where
       go : (c : BundleReply) (o : OpenReply) → check_bundle bytes ≡ c → opened bytes ≡ o → opened_by c o ≡ Err e → refusal_behind bytes before ≡ Some e.refusal
@@ -61,10 +59,9 @@ module _ (bytes before : List ℕ) {opening : Result (List ℕ) BundleError} (op
       go (Ok m) (Ok u) checked answer h = impossible (cc)
 
   -- behind one that opens: of the ledger that its entries leave
-  pub list_opened : {words left after : List ℕ} {r : ListReply} {from to : Output} → opening ≡ Ok words → PlayedAll bytes words left from to
+  pub list_opened : {left after : List ℕ} {r : ListReply} {from to : Output} → opening ≡ Ok tt → PlayedAll bytes words left from to
       → ListedAs (ledger_in left) before r after → ListOf bytes before r after
   unfolding accounts_behind
-  list_opened {words} is played h =
-      let fact : (opened_by (check_bundle bytes) (opened bytes) ≡ Ok tt) × (ledger_in words ≡ fresh_ledger (opening_page bytes)) = rw is at opens in
-      let sound = both_sound (check_bundle bytes) (opened bytes) fact.0 in
-      rw (met_list bytes before sound.1 sound.2, ← fact.1) (list_played _ _ played.ledger h)
+  list_opened is played h =
+      let sound = both_sound (check_bundle bytes) (opened bytes) (sym opens.meets ∙ is) in
+      rw (met_list bytes before sound.1 sound.2, ← opens.fresh is) (list_played _ _ played.ledger h)

@@ -2,7 +2,7 @@
 use Rattle.std.specs.Prelude.{Result, Ok, Err}
 use Prim.Native.Nat.{ℕ, ◌-◌, ◌≤◌}
 use native.Mathlib.Omega.{arith}
-use mathlib.Core.Path.{◌≡◌, refl, ap, sym, subst, ◌∙◌}
+use mathlib.Core.Path.{◌≡◌, refl, sym, subst, ◌∙◌}
 use mathlib.Core.List.{List}
 use lib.ListN.{length, take, drop, length-append}
 use lib.Seq.{take-append_seam}
@@ -36,13 +36,10 @@ told bytes = go (check_bundle bytes) (opened bytes) refl refl
         let count = sound_count bytes m checked in
         (rw (checked, answer, count.0) refl, count.2)
 
-module _ (bytes : List ℕ) {r : Result (List ℕ) BundleError} (opens : OpensBook bytes r) where
-  module _ {words : List ℕ} (is : r ≡ Ok words) where
-    open_fact : (opened_by (check_bundle bytes) (opened bytes) ≡ Ok tt) × (ledger_in words ≡ fresh_ledger (opening_page bytes))
-    open_fact = rw is at opens
-
+module _ (bytes : List ℕ) {held words : List ℕ} {r : Result (Unit {0}) BundleError} (opens : OpensBook bytes held r words) where
+  module _ (is : r ≡ Ok tt) where
     text_is : (text_of bytes ≡ played_text bytes (entry_count bytes - 1) (fresh_ledger (opening_page bytes))) × (entry_count bytes ≤ 1_000)
-    text_is = subst (λ x. Told bytes x) open_fact.0 (told bytes)
+    text_is = subst (λ x. Told bytes x) (sym opens.meets ∙ is) (told bytes)
 
     -- a bundle that opens has few entries,
     pub few_opened : entry_count bytes ≤ 1_000
@@ -52,14 +49,13 @@ module _ (bytes : List ℕ) {r : Result (List ℕ) BundleError} (opens : OpensBo
     pub told_opened : {left : List ℕ} {before mid after : Output} → PlayedAll bytes words left before mid
         → Appends mid (closing (ledger_in left)) closing_most after → Appends before (text_of bytes) text_most after
     told_opened played closes =
-        rw (text_is.0, ← open_fact.1) (rw (← played.ledger) (within (omega arith) (then played.writes closes)))
+        rw (text_is.0, ← opens.fresh is) (rw (← played.ledger) (within (omega arith) (then played.writes closes)))
 
   -- the text of a bundle, or an opening, that is refused
   pub told_refused : {e : BundleError} → r ≡ Err e → {code : ℕ} → code ≡ code_of e.refusal → {before after : Output}
       → Appends before (refusal_line code e.entry) 24 after → Appends before (text_of bytes) text_most after
   told_refused {e} is code_is w =
-      let refused : opened_by (check_bundle bytes) (opened bytes) ≡ Err e = rw is at opens in
-      let text : text_of bytes ≡ refusal_line (code_of e.refusal) e.entry = subst (λ x. Told bytes x) refused (told bytes) in
+      let text : text_of bytes ≡ refusal_line (code_of e.refusal) e.entry = subst (λ x. Told bytes x) (sym opens.meets ∙ is) (told bytes) in
       rw text (within (omega arith) (rw code_is at w))
 
 -- every text fits

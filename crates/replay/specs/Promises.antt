@@ -1,5 +1,5 @@
 -- What replaying promises.
-use Rattle.std.specs.Prelude.{ℕ, ◌+◌, ◌-◌, ◌*◌, ◌≤◌, ◌<◌, ◌≡◌, List, ◌++◌, length, take, drop, MatchResult, Result, Ok, Err}
+use Rattle.std.specs.Prelude.{ℕ, ◌+◌, ◌-◌, ◌*◌, ◌≤◌, ◌<◌, ◌≡◌, List, ◌++◌, length, take, drop, Result, Ok, Err}
 use Rattle.model.specs.Bundles.{entry_count, check_bundle}
 use Rattle.model.specs.Types.{OpenReply, BundleReply}
 use Rattle.model.specs.declared.BundleError.{BundleError}
@@ -52,10 +52,9 @@ opened_by (Err e) o = Err e
 opened_by (Ok m) (Err r) = Err (record { refusal = r; entry = 0 })
 opened_by (Ok m) (Ok u) = Ok tt
 
--- The book that a bundle's page 0 opens, a fresh one; or that refusal.
-abbrev pub OpensBook : List ℕ → Result (List ℕ) BundleError → Type 0
-OpensBook bytes r =
-    MatchResult
-    r
-    (λ words. (opened_by (check_bundle bytes) (opened bytes) ≡ Ok tt) × (ledger_in words ≡ fresh_ledger (opening_page bytes)))
-    (λ e. opened_by (check_bundle bytes) (opened bytes) ≡ Err e)
+-- A bundle's page 0 opens a book in these words, a fresh one, whatever they were; or it meets that refusal, and not one
+-- of the words changes.
+pub record OpensBook (bytes before : List ℕ) (r : Result (Unit {0}) BundleError) (after : List ℕ) : Type 0 where
+  pub meets : r ≡ opened_by (check_bundle bytes) (opened bytes)
+  pub fresh : r ≡ Ok tt → ledger_in after ≡ fresh_ledger (opening_page bytes)
+  pub kept : (e : BundleError) → r ≡ Err e → after ≡ before

@@ -27,16 +27,13 @@ pub const TEXT_SIZE: usize = 36 * 999 + 27 * 32;
 // How much of its input `daybook` reads: one byte more than the longest bundle has, 18,124 bytes.
 pub const INPUT_SIZE: usize = 2 + 8 * 1_000 + 131 + 999 * 10 + 1;
 
-// The book that a bundle's page 0 opens; or the refusal: of the bundle, or of the opening, which names entry 0.
-fn open_bundle(bytes: &[u8]) -> Result<Book, BundleError>
-    ensures { OpensBook bytes.now result }
+// A bundle's page 0 opens the book, whatever its words were; or it is refused, and they are as they were. The refusal
+// is the bundle's, or the opening's, which names entry 0.
+fn open_bundle(bytes: &[u8], words: &mut Book) -> Result<(), BundleError>
+    ensures { OpensBook bytes.now words.old result words.new }
 {
     check(bytes)?;
-    let mut words = [0; BOOK_WORDS];
-    match open(&mut words, opening_of(opening_body(bytes))) {
-        Ok(()) => Ok(words),
-        Err(refusal) => Err(BundleError::new(refusal, 0)),
-    }
+    open(words, opening_of(opening_body(bytes))).map_err(|refusal| BundleError::new(refusal, 0))
 }
 
 // The entries behind the opening page, in their order, as messages to the book, each with its line.
@@ -77,8 +74,9 @@ fn put_closing(words: &Book, out: &mut Output)
 fn put_text(bytes: &[u8], out: &mut Output)
     ensures { Appends out.old (text_of bytes.now) text_most out.new }
 {
-    match open_bundle(bytes) {
-        Ok(mut words) => {
+    let mut words = [0; BOOK_WORDS];
+    match open_bundle(bytes, &mut words) {
+        Ok(()) => {
             play(bytes, &mut words, out);
             put_closing(&words, out);
         }
@@ -108,8 +106,9 @@ pub fn replay_input(input: &[u8; INPUT_SIZE], read: usize, out: &mut [u8; TEXT_S
 pub fn list_after(bytes: &[u8], buffer: &mut [u8]) -> Result<u32, Refusal>
     ensures { ListOf bytes.now buffer.old result buffer.new }
 {
-    match open_bundle(bytes) {
-        Ok(mut words) => {
+    let mut words = [0; BOOK_WORDS];
+    match open_bundle(bytes, &mut words) {
+        Ok(()) => {
             let mut nowhere = [0; 1];
             play(bytes, &mut words, &mut Output::new(&mut nowhere));
             list_waiting(&words, buffer)

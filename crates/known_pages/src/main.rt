@@ -6,30 +6,28 @@
 
 use layout::{BOOK_WORDS, Book};
 use model::{Account, Message, Opening, Reply, Seat, Transfer};
-use std::fmt::{self, Display, Formatter, Write};
 
-// A reply as a line: its letter, and what it carries, each value in two digits.
-#[derive(Clone, Copy)]
-struct Line(Reply);
+// A value behind a space, in two digits. Here and below, what cannot be written is not told: the lines are compared by
+// whoever runs this. Each part of a line is written by itself, so that an output that fails holds as much as it can.
+fn value(rt: &impl Print, n: u32) {
+    let _ = print!(rt; " {n:02}");
+}
 
-impl Display for Line {
-    fn fmt<W: Write>(&self, f: &mut Formatter<W>) -> fmt::Result {
-        let Line(reply) = *self;
-        write!(f, "{}", reply.letter() as char)?;
-        match reply {
-            Reply::Accept(value) | Reply::Balance(value) => write!(f, " {value:02}"),
-            Reply::Propose(t) => {
-                let (account, recipient) = (t.account.0, t.recipient.0);
-                write!(
-                    f,
-                    " {account:02} {:02} {:02} {recipient:02}",
-                    t.number, t.value
-                )
-            }
-            Reply::Refuse(refusal) => write!(f, " {:02}", u8::from(refusal)),
-            Reply::Circulate | Reply::Acknowledge | Reply::Note => Ok(()),
+// A reply as a line: its letter, and what it carries.
+fn show(rt: &impl Print, reply: Reply) {
+    let _ = print!(rt; "{}", reply.letter() as char);
+    match reply {
+        Reply::Accept(n) | Reply::Balance(n) => value(rt, n),
+        Reply::Propose(t) => {
+            value(rt, t.account.0.into());
+            value(rt, t.number);
+            value(rt, t.value);
+            value(rt, t.recipient.0.into());
         }
+        Reply::Refuse(refusal) => value(rt, u8::from(refusal).into()),
+        Reply::Circulate | Reply::Acknowledge | Reply::Note => {}
     }
+    let _ = println!(rt);
 }
 
 fn transfer(account: u8, number: u32, value: u32, recipient: u8) -> Transfer {
@@ -41,8 +39,7 @@ fn transfer(account: u8, number: u32, value: u32, recipient: u8) -> Transfer {
     }
 }
 
-// The opening of two accounts: its code, 0 where it opens. Here and below, what cannot be written is not told: the
-// lines are compared by whoever runs this.
+// The opening of two accounts: its code, 0 where it opens.
 fn opening(rt: &impl Print, words: &mut Book, seats: u8, faults: u8, first: u32, second: u32) {
     let mut balances = [0; 32];
     balances[0] = first;
@@ -54,12 +51,14 @@ fn opening(rt: &impl Print, words: &mut Book, seats: u8, faults: u8, first: u32,
         balances,
     };
     let code = ledger::open(words, page).map_or_else(u8::from, |()| 0);
-    let _ = println!(rt; "O {code:02}");
+    let _ = print!(rt; "O");
+    value(rt, code.into());
+    let _ = println!(rt);
 }
 
 // One message, its reply written.
 fn play(rt: &impl Print, words: &mut Book, m: Message) {
-    let _ = println!(rt; "{}", Line(ledger::call(words, m)));
+    show(rt, ledger::call(words, m));
 }
 
 fn ack(rt: &impl Print, words: &mut Book, seat: u8, t: Transfer) {
@@ -81,7 +80,10 @@ fn question(rt: &impl Print, words: &mut Book, account: u8) {
 fn waiting(rt: &impl Print, words: &Book) {
     let mut buffer = [99; 32];
     let told = ledger::list_waiting(words, &mut buffer).unwrap_or_else(|r| u8::from(r) as u32);
-    let _ = println!(rt; "W {told:02} {:02}", buffer[0]);
+    let _ = print!(rt; "W");
+    value(rt, told);
+    value(rt, buffer[0].into());
+    let _ = println!(rt);
 }
 
 // "n 5, f 1 and n 17, f 0 are refused with 1."

@@ -11,7 +11,7 @@ use mathlib.Core.Path.{◌≡◌, refl, ap, ◌∙◌}
 use mathlib.Core.Bool.{true, false}
 use lib.Dec.{eqb}
 use mathlib.Core.List.{List, ◌∷◌}
-use lib.ListN.{length, drop, take}
+use lib.ListN.{length, drop, take, length-map}
 use lib.Seq.{drop-drop}
 use Rattle.model.specs.declared.Opening.{Opening}
 use Rattle.model.specs.declared.Message.{Message}
@@ -20,7 +20,7 @@ use Rattle.model.specs.declared.Refusal.TheVariants.{BadContents, BadEnd}
 use Rattle.model.specs.Basics.{first_where}
 use Rattle.model.specs.Bundles.{wrong_page}
 use Rattle.model.specs.Writing.{written, write_faults}
-use Rattle.writer.specs.Promises.{WroteBundle, WroteList, WroteRecords}
+use Rattle.writer.specs.Promises.{WroteAll, WroteBundle, WroteList, WroteRecords}
 use Rattle.writer.specs.RecordLists.{page_in, record_message, record_count, wrong_record, first_wrong, message_in, messages_from, messages_of, record_faults}
 use Rattle.writer.proofs.Bundling.{wrote, refused}
 
@@ -74,11 +74,20 @@ module _ (records before : List ℕ) (few : record_count records ≤ 999) where
     last_wrong right piece = refused (rw (le-ltb 999 (record_count records) few, right, piece))
 
   -- where no record is at fault, the writer is asked for their messages: only 19 is left
-  pub records_written : (page : Opening) (messages : List Message) {r : BundleReply} {after : List ℕ} → first_wrong records ≡ None
-      → eqb (length records % 12) 0 ≡ true → take (record_count records) messages ≡ messages_of records
-      → WroteList page messages (record_count records) before r after → WroteRecords page records before r after
-  records_written page messages {r} {after} right whole same list =
-      let bundle = written page (messages_of records) in
-      let faults = write_faults (record_count records) bundle (length before) in
-      let w : WroteBundle faults bundle before r after = rw same at list in
-      wrote (w.meets ∙ rw (le-ltb 999 (record_count records) few, right, whole)) w.buffer w.short
+  pub records_written : (page : Opening) {messages : List Message} {r : BundleReply} {after : List ℕ} → first_wrong records ≡ None
+      → eqb (length records % 12) 0 ≡ true → messages ≡ messages_of records
+      → WroteAll page messages before r after → WroteRecords page records before r after
+  records_written page {messages} {r} {after} right whole same list =
+      let w : WroteAll page (messages_of records) before r after = rw same at list in
+      let count = messages_count records (record_count records) 0 in
+      let test = le-ltb 999 (record_count records) few in
+      wrote (w.meets ∙ rw (count, test, right, whole)) w.buffer w.short
+
+-- the first so many of an array, which are the messages of records, are written as their list
+pub list_written : (page : Opening) (records : List (List ℕ)) (messages : List Message) {before after : List ℕ} {r : BundleReply}
+    → take (length records) messages ≡ map record_message records
+    → WroteList page messages (length records) before r after → WroteAll page (map record_message records) before r after
+list_written page records messages {before} {after} {r} same list =
+    let bundle = written page (map record_message records) in
+    let w : WroteBundle (write_faults (length records) bundle (length before)) bundle before r after = rw same at list in
+    rw (length-map records record_message) w

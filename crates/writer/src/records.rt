@@ -2,7 +2,7 @@
 ghost use Rattle.std.specs.Prelude.{◌<◌, ◌≤◌, ◌≡◌, IfSome, length, take, map};
 ghost use Rattle.std.specs.List.{position};
 ghost use Rattle.model.specs.Bundles.{message_or, wrong_page};
-ghost use Rattle.writer.specs.Promises.{WroteRecords};
+ghost use Rattle.writer.specs.Promises.{WroteAll, WroteRecords};
 ghost use Rattle.writer.specs.RecordLists.{page_in, record_message};
 
 use crate::{MOST_MESSAGES, write};
@@ -60,6 +60,16 @@ fn messages_in(records: &[Record], messages: &mut [Message; MOST_MESSAGES])
     }
 }
 
+// The bundle of the messages of records, few enough. A function of its own, so that a refusal lays down no array.
+fn write_messages(page: Opening, records: &[Record], out: &mut [u8]) -> Result<u32, BundleError>
+    requires { length records.now ≤ 999 }
+    ensures { WroteAll page (map record_message records.now) out.old result out.new }
+{
+    let mut messages = [Message::Inquiry(Account(0)); MOST_MESSAGES];
+    messages_in(records, &mut messages);
+    write(page, &messages, records.len(), out)
+}
+
 // Writes the bundle of a page and of the messages in the records, as `write` does. 18 for more than 999 whole records;
 // then 14 with the entry of the lowest record whose kind is no message's or that has a seat where its kind has none; 15
 // where the last record is not whole; 19.
@@ -77,7 +87,5 @@ pub fn write_records(page: Opening, records: &[u8], out: &mut [u8]) -> Result<u3
     if !piece.is_empty() {
         return Err(BundleError::new(Refusal::BadEnd, 0));
     }
-    let mut messages = [Message::Inquiry(Account(0)); MOST_MESSAGES];
-    messages_in(records, &mut messages);
-    write(page, &messages, count, out)
+    write_messages(page, records, out)
 }

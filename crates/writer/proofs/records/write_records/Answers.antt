@@ -18,9 +18,8 @@ returns-then-not-is_empty c =
 
 pub returns : goal.returns
 returns c =
-    let count = c.as_chunks.ensures.front_len in
-    let few = rw count at c.if-count-gt-MOST_MESSAGES.false in
+    let few = rw c.as_chunks.ensures.front_len at c.if-count-gt-MOST_MESSAGES.false in
     let right = sym (c.in_default.ensures.first ∙ wrong_there c.args.records.now _ c.as_chunks.ensures.front) in
     let whole = rw c.as_chunks.ensures.back_len at (sym c.is_empty.ensures ∙ c.if-not-is_empty.false) in
-    let same = rw count at (c.messages_in.ensures ∙ messages_there c.args.records.now _ c.as_chunks.ensures.front) in
-    records_written c.args.records.now c.args.out.now few c.args.page _ right whole same (rw count at c.write.ensures)
+    let same = messages_there c.args.records.now _ c.as_chunks.ensures.front in
+    records_written c.args.records.now c.args.out.now few c.args.page right whole same c.write_messages.ensures

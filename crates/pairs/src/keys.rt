@@ -21,11 +21,8 @@ pub struct Key {
 // 2^48, the head of a page that is no ack: above the head of every ack. An Option<Key> would be half as large again.
 const NO_HEAD: u64 = 281_474_976_710_656;
 
-// The key of no page.
-pub const NO_KEY: Key = Key {
-    head: NO_HEAD,
-    tail: 0,
-};
+// What stands in a place in which no key is stored yet: zeros, with which an array is filled at once.
+pub const NO_KEY: Key = Key { head: 0, tail: 0 };
 
 // The seat, account and number of an ack.
 pub fn head_of(seat: u8, t: Transfer) -> u64

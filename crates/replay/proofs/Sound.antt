@@ -41,10 +41,10 @@ module _ (bytes : List ℕ) {m : ℕ} (sound : check_bundle bytes ≡ Ok m) {bef
   answers : r ≡ opened bytes
   answers = answer.reply ∙ ap open_reply is_page
 
-  page_opens : r ≡ Ok tt → (opened_by (check_bundle bytes) (opened bytes) ≡ Ok tt) × (ledger_in after ≡ fresh_ledger (opening_page bytes))
+  pub page_opens : r ≡ Ok tt → (opened_by (check_bundle bytes) (opened bytes) ≡ Ok tt) × (ledger_in after ≡ fresh_ledger (opening_page bytes))
   page_opens is = (rw (sound, ← answers, is) refl, fresh_words before after page r answer is ∙ ap fresh_ledger is_page)
 
-  page_refused : {q : Refusal} → r ≡ Err q → opened_by (check_bundle bytes) (opened bytes) ≡ Err (record { refusal = q; entry = 0 })
+  pub page_refused : {q : Refusal} → r ≡ Err q → opened_by (check_bundle bytes) (opened bytes) ≡ Err (record { refusal = q; entry = 0 })
   page_refused is = rw (sound, ← answers, is) refl
 
   -- so what is told of the answer, with the entry of a refusal, is what page 0 opens
